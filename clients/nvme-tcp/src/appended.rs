@@ -4,7 +4,7 @@
 
 use crate::system::reserve;
 use std::fs::File;
-use std::io::{self, Write};
+use std::io::{self, ErrorKind, IoSlice, Write};
 use std::path::Path;
 
 /// Room is reserved for as many bytes as a file has, but for these at most; and for none where it has fewer than those.
@@ -36,6 +36,25 @@ impl Appended {
         self.file.write_all(bytes)?;
         self.length += bytes.len() as u64;
         Ok(())
+    }
+
+    /// Writes bytes behind the others, and behind them others that lie elsewhere.
+    pub fn append_both(&mut self, first: &[u8], then: &[u8]) -> io::Result<()> {
+        let count = first.len() + then.len();
+        self.make_room(count as u64);
+        let done = match self.file.write_vectored(&[IoSlice::new(first), IoSlice::new(then)]) {
+            Err(error) if error.kind() == ErrorKind::Interrupted => 0,
+            result => result?,
+        };
+        self.file.write_all(&first[done.min(first.len())..])?;
+        self.file.write_all(&then[done.saturating_sub(first.len())..])?;
+        self.length += count as u64;
+        Ok(())
+    }
+
+    /// How many bytes it has.
+    pub fn length(&self) -> u64 {
+        self.length
     }
 
     /// Has room reserved, if it is time, for so many bytes and those behind them. Where the system refuses that, the file

@@ -62,7 +62,7 @@ impl Piece for Blocks {
 
     fn make(&self, (): &mut ()) {}
 
-    fn write(&mut self, (): &(), file: &mut File) -> io::Result<()> {
+    fn write(&mut self, (): &(), _: Option<&()>, file: &mut File) -> io::Result<()> {
         let mut begin = 0;
         for (place, end) in self.runs.drain(..) {
             file.write_all_at(&self.bytes[begin..end], place)?;
@@ -163,19 +163,19 @@ impl Image {
     }
 
     /// How many pieces are done.
-    pub fn done(&mut self) -> Outcome<u64> {
+    pub fn done(&self) -> Outcome<u64> {
         self.file.done().map_err(Fault::Image)
     }
 
-    /// Waits until another piece is done; whether one was under way.
-    pub fn wait(&mut self) -> Outcome<bool> {
-        self.file.wait().map_err(Fault::Image)
+    /// Waits until so many pieces are done.
+    pub fn wait_for(&self, count: u64) -> Outcome<()> {
+        self.file.wait_for(count).map_err(Fault::Image)
     }
 
     /// Has the disk hold all blocks.
     fn sync(&mut self) -> Outcome<()> {
-        self.begin(true)?;
-        while self.wait()? {}
+        let begun = self.begin(true)?;
+        self.wait_for(begun)?;
         self.file.with_files(|file| file.sync_data()).map_err(Fault::Image)
     }
 }

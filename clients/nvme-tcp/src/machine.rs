@@ -105,12 +105,12 @@ impl<'a> Machine<'a> {
     }
 
     /// How many pieces of the script are done.
-    pub fn script_done(&mut self) -> Outcome<u64> {
-        self.script.as_mut().map_or(Ok(0), Script::done)
+    pub fn script_done(&self) -> Outcome<u64> {
+        self.script.as_ref().map_or(Ok(0), Script::done)
     }
 
-    /// Waits until another piece of the script is done; whether one was under way.
-    pub fn wait_for_script(&mut self) -> Outcome<bool> {
-        self.script.as_mut().map_or(Ok(false), Script::wait)
+    /// Waits until so many pieces of the script are done.
+    pub fn wait_for_script(&self, count: u64) -> Outcome<()> {
+        self.script.as_ref().map_or(Ok(()), |it| it.wait_for(count))
     }
 }

@@ -24,6 +24,7 @@ mod identify;
 mod image;
 mod input;
 mod journal;
+mod kept;
 mod looking;
 mod machine;
 mod options;

@@ -1,11 +1,11 @@
 //! The run as a script: each event as a line of a script, and what it gave as a line of its transcript. The target's
 //! thread notes the events, and those that write the files make lines of them.
 
-use crate::appended::Appended;
 use crate::behind::{Behind, Piece};
 use crate::bytes::{digits_of, put_hex};
 use crate::configuration::Configuration;
 use crate::fault::{Fault, Outcome};
+use crate::kept::Kept;
 use crate::output::Output;
 use nvmesim::{Executed, Fetched};
 use std::io;
@@ -152,8 +152,8 @@ struct Events {
 }
 
 impl Piece for Events {
-    /// The script and its transcript.
-    type Files = [Appended; 2];
+    type Files = Kept;
+    /// The lines, and what they gave.
     type Made = [Output; 2];
 
     /// How many bytes their lines have, about.
@@ -167,13 +167,16 @@ impl Piece for Events {
         self.list.iter().for_each(|event| event.put(&mut stored, made));
     }
 
-    /// Where there are none, the files give back the room that is left over. The transcript never has more than the script.
-    fn write(&mut self, made: &[Output; 2], files: &mut [Appended; 2]) -> io::Result<()> {
+    fn write_first(&self, [lines, _]: &[Output; 2], kept: &mut Kept) -> io::Result<()> {
+        kept.write_first(lines.waiting())
+    }
+
+    /// Where there are none, the files give back the room that is left over.
+    fn write(&mut self, [lines, gave]: &[Output; 2], next: Option<&[Output; 2]>, kept: &mut Kept) -> io::Result<()> {
+        kept.write(lines.waiting(), gave.waiting(), next.map(|[lines, _]| lines.waiting()))?;
         if self.list.is_empty() {
-            files.iter_mut().for_each(Appended::give_back);
-            return Ok(());
+            kept.give_back();
         }
-        files.iter_mut().zip(made).try_for_each(|(file, out)| file.append(out.waiting()))?;
         self.list.clear();
         self.stored.clear();
         Ok(())
@@ -190,13 +193,10 @@ pub struct Script {
 }
 
 impl Script {
-    /// Begins a script, with the lines of its configuration. The transcript stands beside it, with `.out` at its end.
+    /// Begins a script, with the lines of its configuration.
     pub fn new(path: &Path, configuration: &Configuration) -> io::Result<Script> {
-        let mut beside = path.as_os_str().to_owned();
-        beside.push(".out");
-        let mut files = [Appended::create(path)?, Appended::create(Path::new(&beside))?];
-        files[0].append(format!("{}start\n", configuration.lines()).as_bytes())?;
-        Ok(Script { events: Events::default(), files: Behind::new("script", 2, files)?, quiet: None })
+        let kept = Kept::create(path, format!("{}start\n", configuration.lines()).as_bytes())?;
+        Ok(Script { events: Events::default(), files: Behind::new("script", 2, kept)?, quiet: None })
     }
 
     pub fn stored(&mut self, cntlid: u16, address: u64, bytes: &[u8]) -> Outcome<()> {
@@ -237,7 +237,7 @@ impl Script {
     /// Has the files give back room where nothing was written for a while: this is called again and again.
     pub fn rest(&mut self) -> Outcome<()> {
         self.quiet = self.quiet.map(|quiet| quiet + 1);
-        if self.quiet.map_or(false, |quiet| quiet >= QUIET) && self.done()? == self.files.begun() {
+        if self.quiet.map_or(false, |quiet| quiet >= QUIET) && self.files.under_way().map_err(Fault::Script)? == 0 {
             self.quiet = None;
             self.files.send(&mut Events::default()).map_err(Fault::Script)?;
         }
@@ -245,13 +245,13 @@ impl Script {
     }
 
     /// How many pieces are done.
-    pub fn done(&mut self) -> Outcome<u64> {
+    pub fn done(&self) -> Outcome<u64> {
         self.files.done().map_err(Fault::Script)
     }
 
-    /// Waits until another piece is done; whether one was under way.
-    pub fn wait(&mut self) -> Outcome<bool> {
-        self.files.wait().map_err(Fault::Script)
+    /// Waits until so many pieces are done.
+    pub fn wait_for(&self, count: u64) -> Outcome<()> {
+        self.files.wait_for(count).map_err(Fault::Script)
     }
 }
 

@@ -101,7 +101,8 @@ impl<'a> Server<'a> {
         }
     }
 
-    /// Serves all that can be served. Where that is nothing, and connections wait for script or image, it waits for these.
+    /// Serves all that can be served. Where that is nothing, and connections wait for script or image, it waits for the
+    /// first of these.
     fn turn(&mut self, ready: &mut Vec<Ready>, look: &mut Instant) -> Outcome<()> {
         let patience = if self.waiting.is_empty() { LOOK } else { Duration::ZERO };
         self.poll.wait(patience.as_millis() as i32, ready).map_err(Fault::System)?;
@@ -115,8 +116,8 @@ impl<'a> Server<'a> {
                 name => is_idle &= !self.serve(name, *it)?,
             }
         }
-        if is_idle && !self.waiting.is_empty() {
-            self.target.wait()?;
+        if is_idle {
+            self.awaited().map_or(Ok(()), |handed| self.target.wait_for(handed))?;
         }
         self.resume()?;
         let now = Instant::now();
@@ -126,6 +127,11 @@ impl<'a> Server<'a> {
             self.target.machine.rest_script()?;
         }
         Ok(())
+    }
+
+    /// What the system has to have before the first connection goes on of those that wait.
+    fn awaited(&self) -> Option<Handed> {
+        self.waiting.front().and_then(|name| self.connections.get(name)).and_then(|served| served.waits_for)
     }
 
     /// Whether one connection alone can be served, as before, so that it is likely that nothing comes of others. Where many

@@ -193,18 +193,15 @@ impl<'a> Target<'a> {
     }
 
     /// Whether the system has what was handed over so far.
-    pub fn has(&mut self, handed: Handed) -> Outcome<bool> {
-        let image = self.image.as_mut().map_or(Ok(0), Image::done)?;
+    pub fn has(&self, handed: Handed) -> Outcome<bool> {
+        let image = self.image.as_ref().map_or(Ok(0), Image::done)?;
         Ok(handed.image <= image && handed.script <= self.machine.script_done()?)
     }
 
-    /// Waits until the system has more of what was handed over, unless it has all of it.
-    pub fn wait(&mut self) -> Outcome<()> {
-        let was_under_way = self.image.as_mut().map_or(Ok(false), Image::wait)?;
-        if !was_under_way {
-            self.machine.wait_for_script()?;
-        }
-        Ok(())
+    /// Waits until the system has it.
+    pub fn wait_for(&self, handed: Handed) -> Outcome<()> {
+        self.image.as_ref().map_or(Ok(()), |it| it.wait_for(handed.image))?;
+        self.machine.wait_for_script(handed.script)
     }
 
     /// Has the list of attachments follow a command that has attached a namespace to controllers, or detached it: the
