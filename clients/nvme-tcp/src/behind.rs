@@ -11,7 +11,7 @@ use std::thread::{self, JoinHandle};
 use std::time::Duration;
 
 /// How many pieces are under way at most.
-const MOST: u64 = 4;
+const MOST: u64 = 8;
 /// A piece of fewer bytes is written at once, where no other is under way: that is quicker than to wake a thread.
 const SMALL: usize = 16 << 10;
 /// At the end it is looked so often, and with such a pause, whether the system has all pieces.

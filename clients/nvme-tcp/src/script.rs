@@ -14,6 +14,9 @@ use std::path::Path;
 
 /// Lines of so many bytes are a piece, which goes to the file before the next are there.
 const PIECE: usize = 256 << 10;
+/// Lines of so many bytes are a piece too where fewer than these are under way, so that those that write have work.
+const EARLY: usize = 64 << 10;
+const FEW: u64 = 3;
 /// How many bytes the line of an event has, about, without bytes that were stored.
 const LINE: usize = 20;
 /// Behind so many calls of `rest` without an event the files give back the room that is left over.
@@ -202,7 +205,8 @@ impl Script {
     pub fn stored(&mut self, cntlid: u16, address: u64, bytes: &[u8]) -> Outcome<()> {
         self.events.list.push(Event::Stored { cntlid, address, count: bytes.len() });
         self.events.stored.extend_from_slice(bytes);
-        if self.events.size() >= PIECE {
+        let size = self.events.size();
+        if size >= PIECE || size >= EARLY && self.files.under_way().map_err(Fault::Script)? < FEW {
             self.begin(false)?;
         }
         Ok(())
