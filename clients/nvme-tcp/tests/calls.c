@@ -4,6 +4,8 @@
 // it, `syncs` before an fdatasync and `synced` behind it, `reserves MODE PLACE COUNT` before an fallocate.
 // CALLS_GATE may name a pipe. A pwrite waits there until it gets a byte.
 // CALLS_REFUSAL may be an errno, by which each fallocate is refused.
+// Where there is CALLS_PART, a writev takes a part of the bytes, or is interrupted; `puts COUNT FIRST SECOND` is how many
+// of which. A long write takes a while then, so that there are next bytes behind it.
 #define _GNU_SOURCE
 #include <dlfcn.h>
 #include <errno.h>
@@ -11,6 +13,7 @@
 #include <stdio.h>
 #include <stdlib.h>
 #include <sys/types.h>
+#include <sys/uio.h>
 #include <unistd.h>
 
 static int told = -1, gate = -1;
@@ -63,4 +66,27 @@ int fallocate(int file, int mode, off_t place, off_t count) {
         return -1;
     }
     return next(file, mode, place, count);
+}
+
+ssize_t write(int file, const void *bytes, size_t count) {
+    ssize_t (*next)(int, const void *, size_t) = dlsym(RTLD_NEXT, "write");
+    if (getenv("CALLS_PART") && count >= 65536)
+        usleep(20000);
+    return next(file, bytes, count);
+}
+
+ssize_t writev(int file, const struct iovec *parts, int count) {
+    ssize_t (*next)(int, const struct iovec *, int) = dlsym(RTLD_NEXT, "writev");
+    static unsigned calls;
+    if (!getenv("CALLS_PART") || count != 2)
+        return next(file, parts, count);
+    size_t first = parts[0].iov_len, second = parts[1].iov_len;
+    if (++calls % 3 == 0) {
+        errno = EINTR;
+        return -1;
+    }
+    struct iovec cut[] = {{parts[0].iov_base, calls % 3 == 1 ? first : first / 2},
+                          {parts[1].iov_base, calls % 3 == 1 ? second / 2 : 0}};
+    tell("puts", cut[0].iov_len + cut[1].iov_len, first, second);
+    return next(file, cut, 2);
 }

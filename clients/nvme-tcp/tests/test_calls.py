@@ -147,21 +147,30 @@ class Rooms(CallsTest):
         self.assertNotIn(0, content)
         self.target.start()
 
-    def test_a_refusal(self) -> None:
-        """The script of a target whose system refuses to reserve is the same, and it is not asked again."""
-        host = self.host()
-        self.write(host, 10)
+    def other(self, **environment: str) -> list:
+        """Writes the same to a target over whose calls these words say more: the files are the same. What is told of
+        them."""
+        self.write(self.host(), 10)
         with tempfile.TemporaryDirectory() as room:
             kept, told = Path(room, "kept.nvme"), Path(room, "told")
-            refused = {"LD_PRELOAD": str(self.library), "CALLS_TOLD": str(told),
-                       "CALLS_REFUSAL": str(errno.EOPNOTSUPP)}
-            with mock.patch.dict(os.environ, refused):
+            words = {"LD_PRELOAD": str(self.library), "CALLS_TOLD": str(told), **environment}
+            with mock.patch.dict(os.environ, words):
                 other = Target(Path(room), self.config, options=["--script", str(kept)])
             with closing(other), closing(Host(other.port, 0xa1)) as host:
                 self.write(host, 10)
-            for end in ("", ".out"):
-                self.assertEqual(Path(f"{self.script}{end}").read_bytes(), Path(f"{kept}{end}").read_bytes())
-            self.assertEqual(len(told.read_text().splitlines()), 1)
+                for end in ("", ".out"):
+                    self.assertEqual(Path(f"{self.script}{end}").read_bytes(), Path(f"{kept}{end}").read_bytes())
+                return [line.split() for line in told.read_text().splitlines()]
+
+    def test_a_refusal(self) -> None:
+        """The script of a target whose system refuses to reserve is the same, and it is not asked again."""
+        self.assertEqual(len(self.other(CALLS_REFUSAL=str(errno.EOPNOTSUPP))), 1)
+
+    def test_calls_that_take_a_part(self) -> None:
+        """The script is the same where calls take a part of the bytes, or are interrupted."""
+        told = [[int(it) for it in words[1:]] for words in self.other(CALLS_PART="1") if words[0] == "puts"]
+        self.assertTrue(any(count < first for count, first, _ in told), told)
+        self.assertTrue(any(first <= count < first + second for count, first, second in told), told)
 
 
 del CallsTest
