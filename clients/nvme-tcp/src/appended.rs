@@ -40,6 +40,9 @@ impl Appended {
 
     /// Writes bytes behind the others, and behind them others that lie elsewhere.
     pub fn append_both(&mut self, first: &[u8], then: &[u8]) -> io::Result<()> {
+        if then.is_empty() {
+            return self.append(first);
+        }
         let count = first.len() + then.len();
         self.make_room(count as u64);
         let done = match self.file.write_vectored(&[IoSlice::new(first), IoSlice::new(then)]) {

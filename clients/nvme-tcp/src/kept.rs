@@ -55,8 +55,16 @@ impl Kept {
             self.script.append_both(rest, first)?;
             self.ahead = first.len();
         }
+        self.write_gave(gave, next.is_some())
+    }
+
+    /// Writes what lines gave behind what others gave, unless it may wait.
+    fn write_gave(&mut self, gave: &[u8], may_wait: bool) -> io::Result<()> {
+        if self.gave.is_empty() && !may_wait {
+            return self.transcript.append(gave);
+        }
         self.gave.extend_from_slice(gave);
-        if next.is_none() || self.gave.len() >= GAVE {
+        if !may_wait || self.gave.len() >= GAVE {
             self.transcript.append(&self.gave)?;
             self.gave.clear();
         }
