@@ -171,7 +171,8 @@ fn main() -> Result<()> {
     let words: Vec<String> = std::env::args().collect();
     let number = |at: usize| words[at].parse::<u64>().expect("a number");
     let (address, connections, depth) = (&words[1], number(2), number(3) as u16);
-    let (bytes, writes, seconds) = (number(4) as usize, words[5] == "write", number(6));
+    let (bytes, writes) = (number(4) as usize, words[5] == "write");
+    let seconds = Duration::from_secs_f64(words[6].parse().expect("seconds"));
     let (mut admin, cntlid) = Queue::connect(address, 0, 0xffff)?;
     admin.enable()?;
     let mut queues = Vec::new();
@@ -179,7 +180,7 @@ fn main() -> Result<()> {
         queues.push(Queue::connect(address, qid, cntlid)?.0);
     }
     let (begun, done) = (Instant::now(), AtomicU64::new(0));
-    let last = begun + Duration::from_secs(seconds);
+    let last = begun + seconds;
     thread::scope(|scope| {
         for queue in &mut queues {
             scope.spawn(|| {
