@@ -4,6 +4,7 @@
 use crate::behind::{Behind, Piece};
 use crate::bytes::{digits_of, put_hex};
 use crate::configuration::Configuration;
+use crate::controller::ENTRY;
 use crate::fault::{Fault, Outcome};
 use crate::kept::Kept;
 use crate::output::Output;
@@ -203,10 +204,13 @@ impl Script {
     }
 
     pub fn stored(&mut self, cntlid: u16, address: u64, bytes: &[u8]) -> Outcome<()> {
+        // These are the data of another command, so no piece has the last lines of a command alone.
+        if bytes.len() > ENTRY && self.events.size() >= EARLY && self.under_way()? < FEW {
+            self.begin(false)?;
+        }
         self.events.list.push(Event::Stored { cntlid, address, count: bytes.len() });
         self.events.stored.extend_from_slice(bytes);
-        let size = self.events.size();
-        if size >= PIECE || size >= EARLY && self.files.under_way().map_err(Fault::Script)? < FEW {
+        if self.events.size() >= PIECE {
             self.begin(false)?;
         }
         Ok(())
@@ -241,11 +245,16 @@ impl Script {
     /// Has the files give back room where nothing was written for a while: this is called again and again.
     pub fn rest(&mut self) -> Outcome<()> {
         self.quiet = self.quiet.map(|quiet| quiet + 1);
-        if self.quiet.map_or(false, |quiet| quiet >= QUIET) && self.files.under_way().map_err(Fault::Script)? == 0 {
+        if self.quiet.map_or(false, |quiet| quiet >= QUIET) && self.under_way()? == 0 {
             self.quiet = None;
             self.files.send(&mut Events::default()).map_err(Fault::Script)?;
         }
         Ok(())
+    }
+
+    /// How many pieces are not done.
+    fn under_way(&self) -> Outcome<u64> {
+        self.files.under_way().map_err(Fault::Script)
     }
 
     /// How many pieces are done.
