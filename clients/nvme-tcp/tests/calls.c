@@ -2,7 +2,7 @@
 //
 // CALLS_TOLD names a file that gets a line for each: `writes PLACE COUNT` before a pwrite and `wrote PLACE COUNT` behind
 // it, `syncs` before an fdatasync and `synced` behind it, `reserves MODE PLACE COUNT` before an fallocate.
-// CALLS_GATE may name a pipe. A pwrite waits there until it gets a byte.
+// CALLS_GATE may name a pipe. A pwrite, or a write of 16 KiB, waits there until it gets a byte.
 // CALLS_REFUSAL may be an errno, by which each fallocate is refused.
 // Where there is CALLS_PART, a writev takes a part of the bytes, or is interrupted; `puts COUNT FIRST SECOND` is how many
 // of which. A long write takes a while then, so that there are next bytes behind it.
@@ -25,6 +25,12 @@ __attribute__((constructor)) static void begin(void) {
         gate = open(getenv("CALLS_GATE"), O_RDWR | O_CLOEXEC);
 }
 
+static void wait_at_gate(void) {
+    char byte;
+    if (gate >= 0 && read(gate, &byte, 1) != 1)
+        abort();
+}
+
 static void tell(const char *what, long long first, long long second, long long third) {
     char line[100];
     int length = third >= 0    ? snprintf(line, sizeof line, "%s %lld %lld %lld\n", what, first, second, third)
@@ -36,10 +42,8 @@ static void tell(const char *what, long long first, long long second, long long 
 
 ssize_t pwrite64(int file, const void *bytes, size_t count, off64_t place) {
     ssize_t (*next)(int, const void *, size_t, off64_t) = dlsym(RTLD_NEXT, "pwrite64");
-    char byte;
     tell("writes", place, count, -1);
-    if (gate >= 0 && read(gate, &byte, 1) != 1)
-        abort();
+    wait_at_gate();
     ssize_t done = next(file, bytes, count, place);
     tell("wrote", place, done, -1);
     return done;
@@ -72,6 +76,8 @@ ssize_t write(int file, const void *bytes, size_t count) {
     ssize_t (*next)(int, const void *, size_t) = dlsym(RTLD_NEXT, "write");
     if (getenv("CALLS_PART") && count >= 65536)
         usleep(20000);
+    if (count >= 16384)
+        wait_at_gate();
     return next(file, bytes, count);
 }
 

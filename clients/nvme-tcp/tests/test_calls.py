@@ -2,6 +2,7 @@
 script has room ahead of it, which is given back."""
 import errno
 import os
+import select
 import shutil
 import struct
 import subprocess
@@ -43,10 +44,8 @@ class CallsTest(TargetTest):
         return [line.split() for line in self.told_in.read_text().splitlines()] if self.told_in.exists() else []
 
 
-class Syncs(CallsTest):
-    """Blocks that go to the image slowly: each call that writes them waits for a byte of a pipe."""
-
-    image = BLOCKS
+class Gate(CallsTest):
+    """Calls that write wait for a byte of a pipe."""
 
     def environment(self) -> dict:
         os.mkfifo(self.kept / "gate")
@@ -54,10 +53,37 @@ class Syncs(CallsTest):
         self.addCleanup(os.close, self.gate)
         return {"CALLS_GATE": str(self.kept / "gate")}
 
+    def test_an_answer(self) -> None:
+        """No host hears of commands that are written by a thread before they are."""
+        host = self.host()
+        queue = host.queues[0]
+        # The connection is not the only one that was served last, so the target does not write by itself.
+        self.assertEqual(host.identify(1).status, 0)
+        queue.socket.sendall(b"".join(self.pdu(queue, 0x01, cid, 16 * cid, 16) for cid in range(3)))
+        self.assertEqual(select.select([queue.socket], [], [], 0.5)[0], [], "an answer came too early")
+        os.write(self.gate, b"1" * 100)
+        self.assertEqual([queue.completion().status for _ in range(3)], [0] * 3)
+
     def pdu(self, queue: Queue, opcode: int, cid: int, slba: int = 0, count: int = 0, flags: int = 0) -> bytes:
         """A command with so many blocks in its capsule."""
         data, words = bytes(BLOCK * count), struct.pack("<QI", slba, (count - 1) & 0xffff | flags)
         return queue.pdu(CAPSULE, entry_of(opcode, cid, 1, words, len(data), IN_CAPSULE), data)
+
+
+class Lines(Gate):
+    """Lines that go to a script slowly."""
+
+    def setUp(self) -> None:
+        room = tempfile.TemporaryDirectory()
+        self.addCleanup(room.cleanup)
+        self.options = ["--script", str(Path(room.name, "kept.nvme"))]
+        super().setUp()
+
+
+class Syncs(Gate):
+    """Blocks that go to the image slowly."""
+
+    image = BLOCKS
 
     def writes_and(self, units) -> None:
         """Blocks go to the image by a thread, and wait there, when `units` of another queue come, the first of them a
@@ -173,4 +199,4 @@ class Rooms(CallsTest):
         self.assertTrue(any(first <= count < first + second for count, first, second in told), told)
 
 
-del CallsTest
+del CallsTest, Gate
