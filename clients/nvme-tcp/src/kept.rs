@@ -78,6 +78,13 @@ impl Kept {
     }
 }
 
+impl Drop for Kept {
+    /// Where next lines could not be written, the transcript still gets what those before gave.
+    fn drop(&mut self) {
+        let _ = self.transcript.append(&self.gave);
+    }
+}
+
 #[cfg(test)]
 mod tests {
     use super::*;
@@ -151,6 +158,9 @@ mod tests {
             let [lines, gave] = lengths();
             assert!(gave <= lines && gave + GAVE as u64 > 2500 * it as u64);
         }
+        assert_ne!(lengths()[1], 100_000);
+        drop(kept);
+        assert_eq!(lengths()[1], 100_000);
         remove(&path);
     }
 }
