@@ -93,6 +93,13 @@ impl<'a> Machine<'a> {
         self.subsystem.is_attached(cntlid, nsid)
     }
 
+    /// Says whether one connection alone is served.
+    pub fn serve_alone(&mut self, is_alone: bool) {
+        if let Some(script) = &mut self.script {
+            script.is_alone = is_alone;
+        }
+    }
+
     /// Hands the lines that are kept to the system, or has that begun: it has them when so many pieces are done.
     /// `is_awaited` says that nothing is done before.
     pub fn begin_script(&mut self, is_awaited: bool) -> Outcome<u64> {

@@ -192,6 +192,8 @@ pub struct Script {
     /// What goes to the files next.
     events: Events,
     files: Behind<Events>,
+    /// Whether one connection alone is served. All lines of its commands are written together, by the target's thread.
+    pub is_alone: bool,
     /// How often `rest` was called since the last event, unless the files rest.
     quiet: Option<u32>,
 }
@@ -200,12 +202,12 @@ impl Script {
     /// Begins a script, with the lines of its configuration.
     pub fn new(path: &Path, configuration: &Configuration) -> io::Result<Script> {
         let kept = Kept::create(path, format!("{}start\n", configuration.lines()).as_bytes())?;
-        Ok(Script { events: Events::default(), files: Behind::new("script", 2, kept)?, quiet: None })
+        Ok(Script { events: Events::default(), files: Behind::new("script", 2, kept)?, is_alone: true, quiet: None })
     }
 
     pub fn stored(&mut self, cntlid: u16, address: u64, bytes: &[u8]) -> Outcome<()> {
         // These are the data of another command, so no piece has the last lines of a command alone.
-        if bytes.len() > ENTRY && self.events.size() >= EARLY && self.under_way()? < FEW {
+        if bytes.len() > ENTRY && self.events.size() >= EARLY && !self.is_alone && self.under_way()? < FEW {
             self.begin(false)?;
         }
         self.events.list.push(Event::Stored { cntlid, address, count: bytes.len() });

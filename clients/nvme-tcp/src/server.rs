@@ -107,6 +107,7 @@ impl<'a> Server<'a> {
         let patience = if self.waiting.is_empty() { LOOK } else { Duration::ZERO };
         self.poll.wait(patience.as_millis() as i32, ready).map_err(Fault::System)?;
         self.is_alone = self.is_only(ready);
+        self.target.machine.serve_alone(self.is_alone);
         let mut is_idle = true;
         for it in ready.iter() {
             match it.name {
