@@ -4,3 +4,4 @@ pub mod Numbered
 pub mod Attaching
 pub mod Opened
 pub mod Telling
+pub mod Refusals

@@ -4,4 +4,6 @@ pub use Rattle.nvme_spec.specs.Reservation
 pub use Rattle.nvme_spec.specs.Attachments
 pub mod Configured
 pub mod Lending
+pub mod Refusals
+pub mod RefusalLaws
 pub mod Attached

@@ -3,11 +3,15 @@
 #![tactic(auto)]
 
 mod checks;
+mod examples;
+pub mod laws;
 mod namespace;
 mod opening;
 mod pairs;
+mod refusal;
 mod spaces;
 
 pub use namespace::Namespace;
 pub use nvme_spec::{Config, ConfigFault, ControllerConfig, NsConfig};
+pub use refusal::{BrokenRule, ConfigReason, SetupLine, refusal_of};
 pub use spaces::Spaces;

@@ -5,7 +5,7 @@ ghost use Rattle.nvme_spec.specs.Configuration.{total_blocks, has_foreign_nsid};
 ghost use Rattle.nvme_spec.specs.World.{laid_out, controller_host};
 
 use crate::Namespace;
-use crate::checks::{MAX_ATTACHMENTS, MAX_CONTROLLERS, MAX_NAMESPACES};
+use crate::refusal::{MAX_ATTACHMENTS, MAX_CONTROLLERS, MAX_NAMESPACES};
 use arrayvec::ArrayVec;
 use nvme_spec::{ControllerConfig, HostId, NsConfig};
 

@@ -4,7 +4,7 @@ ghost use Rattle.std.specs.Prelude.{◌≡◌, ◌<◌, ◌↔◌, IsTrue};
 ghost use Rattle.std.specs.List.{AllByRecursion};
 ghost use Rattle.nvme_ns.specs.Attached.{IsPair, number, TellsPairs};
 
-use crate::checks::MAX_ATTACHMENTS;
+use crate::refusal::MAX_ATTACHMENTS;
 
 /// For each pair of a controller and a namespace, by its number, whether it is attached.
 pub type PairTable = [bool; MAX_ATTACHMENTS];

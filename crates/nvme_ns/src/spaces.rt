@@ -10,9 +10,10 @@ ghost use Rattle.nvme_ns.specs.Configured.{configuration};
 ghost use Rattle.nvme_ns.specs.Lending.{LendsReservation};
 
 use crate::Namespace;
-use crate::checks::{MAX_ATTACHMENTS, MAX_CONTROLLERS, MAX_NAMESPACES, check};
+use crate::checks::check;
 use crate::opening::{attachment_table, controller_table, namespace_table};
 use crate::pairs::{PairTable, is_pair, pair_number, pair_table};
+use crate::refusal::{MAX_ATTACHMENTS, MAX_CONTROLLERS, MAX_NAMESPACES};
 use arrayvec::ArrayVec;
 use nvme_resv::Reservation;
 use nvme_spec::{Config, ConfigFault, HostId, Protection};

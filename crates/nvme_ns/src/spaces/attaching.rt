@@ -8,8 +8,8 @@ ghost use Rattle.nvme_spec.specs.World.{namespace_of};
 ghost use Rattle.nvme_ns.specs.Attached.{passes_unless};
 
 use crate::Spaces;
-use crate::checks::MAX_ATTACHMENTS;
 use crate::pairs::pair_table;
+use crate::refusal::MAX_ATTACHMENTS;
 use arrayvec::ArrayVec;
 use nvme_wire::Status;
 
