@@ -37,6 +37,7 @@ text why.NoNamespace = refl
 text why.OutsideWindow = refl
 text why.OutsideNamespace = refl
 text why.MediumFailed = refl
+text why.LongText = refl
 
 number : (w : Why) → word_of (why_by_value w) ≡ word_of w
 number why.TooLong = refl
@@ -51,6 +52,7 @@ number why.NoNamespace = refl
 number why.OutsideWindow = refl
 number why.OutsideNamespace = refl
 number why.MediumFailed = refl
+number why.LongText = refl
 
 pub refusal_by_value : (n : ℕ) (w : Why) → refusal n (why_by_value w) ≡ refusal n w
 refusal_by_value n w =

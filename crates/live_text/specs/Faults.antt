@@ -31,6 +31,7 @@ word_of why.NoNamespace = 2
 word_of why.OutsideWindow = 3
 word_of why.OutsideNamespace = 3
 word_of why.MediumFailed = 1
+word_of why.LongText = 2
 
 -- the first word of a looking line that this one is near to, else where all stand
 abbrev pub nearest_text : Option LookingWord → List ℕ
@@ -54,6 +55,7 @@ why_text why.NoNamespace = codes "there is no such namespace"
 why_text why.OutsideWindow = codes "at most 131072 bytes of the window are shown, and it has 4194304"
 why_text why.OutsideNamespace = codes "1 to 256 blocks of the namespace are shown, and these are not all in it"
 why_text why.MediumFailed = codes "the medium failed"
+why_text why.LongText = codes "?line reads a TEXT of at most 262208 bytes"
 
 -- the answer to line n, whose word i is at fault
 abbrev pub refusal_at : ℕ → ℕ → List ℕ → List ℕ

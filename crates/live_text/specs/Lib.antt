@@ -4,3 +4,4 @@ pub mod LookingWords
 pub mod Forms
 pub mod Looking
 pub mod Faults
+pub mod Asking

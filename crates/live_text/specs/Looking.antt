@@ -1,7 +1,8 @@
 -- The lines that look at a session.
-use Rattle.std.specs.Prelude.{ℕ, nat_le, ◌==◌, Bool, true, false, ◌&&◌, List, [], ◌∷◌, length, Option, Some, None, option_map, option_and_then, if◌then◌else◌}
+use Rattle.std.specs.Prelude.{ℕ, nat_le, ◌==◌, nat_eq, Bool, true, false, ◌&&◌, List, [], ◌∷◌, codes, drop, length, Option, Some, None, option_map, option_and_then, if◌then◌else◌}
+use Rattle.std.specs.List.{starts_with}
 use Rattle.script_text.specs.Numbers.{number_at}
-use Rattle.script_text.specs.Words.{line_words, is_line_text}
+use Rattle.script_text.specs.Words.{line_words, is_line_text, is_separator}
 use Rattle.live_text.specs.Forms.{form_at}
 use Rattle.live_text.specs.LookingWords.{looking_word_of}
 use Rattle.live_text.specs.declared.looking_word.LookingWord.{LookingWord}
@@ -13,6 +14,15 @@ use Rattle.live_text.specs.declared.looking.Looking.TheVariants as look
 abbrev pub is_looking : List ℕ → Bool
 is_looking [] = false
 is_looking (b ∷ bs) = b == 63
+
+-- what follows a word and one separator
+abbrev pub behind_word : List ℕ → Option (List ℕ)
+behind_word [] = Some []
+behind_word (b ∷ bs) = if is_separator b then Some bs else None
+
+-- the text that a line `?line TEXT` asks about
+unfoldable pub text_in : List ℕ → Option (List ℕ)
+text_in line = if starts_with nat_eq line (codes "?line") then behind_word (drop 5 line) else None
 
 -- what words say, where no more stand behind them
 abbrev pub alone : {A : Type 0} → List (List ℕ) → Option A → Option A
@@ -52,7 +62,7 @@ abbrev pub help : List (List ℕ) → Option Looking
 help [] = Some look.Help
 help (word ∷ words) = alone words (option_map look.HelpOn (form_at word))
 
--- what the words behind the first one ask for
+-- what the words behind the first one ask for; `?line` has a text behind it, whatever its words
 abbrev pub looking_in : LookingWord → List (List ℕ) → Option Looking
 looking_in word.Window words = window words
 looking_in word.Register words = register words
@@ -64,6 +74,7 @@ looking_in word.Namespaces words = alone words (Some look.Namespaces)
 looking_in word.Reservation words = option_map look.Reservation (number_alone 32 words)
 looking_in word.Attached words = alone words (Some look.Attached)
 looking_in word.Blocks words = blocks words
+looking_in word.Line words = None
 looking_in word.Help words = help words
 
 -- no looking line has more than four words
@@ -75,3 +86,12 @@ looking_by (first ∷ words) =
 -- what a line that begins with `?` asks for, or nothing where it is outside the grammar
 unfoldable pub looking_at : List ℕ → Option Looking
 looking_at line = if is_line_text line then looking_by (line_words line) else None
+
+-- the controller that a line looks at, if it names one
+abbrev pub controller_named : Looking → Option ℕ
+controller_named (look.Window k address len) = Some k
+controller_named (look.Register k offset) = Some k
+controller_named (look.Registers k) = Some k
+controller_named (look.Queues k) = Some k
+controller_named (look.Fetched k) = Some k
+controller_named looking = None

@@ -17,6 +17,7 @@ word_text word.Namespaces = codes "?namespaces"
 word_text word.Reservation = codes "?reservation"
 word_text word.Attached = codes "?attached"
 word_text word.Blocks = codes "?blocks"
+word_text word.Line = codes "?line"
 word_text word.Help = codes "?help"
 
 abbrev pub form_text : LookingWord → List ℕ
@@ -30,12 +31,13 @@ form_text word.Namespaces = codes "?namespaces"
 form_text word.Reservation = codes "?reservation N"
 form_text word.Attached = codes "?attached"
 form_text word.Blocks = codes "?blocks N SLBA COUNT"
+form_text word.Line = codes "?line TEXT"
 form_text word.Help = codes "?help [WORD]"
 
 -- all of them
 abbrev pub looking_words : List LookingWord
 looking_words = word.Window ∷ word.Register ∷ word.Registers ∷ word.Queues ∷ word.Fetched ∷ word.Driver
-    ∷ word.Namespaces ∷ word.Reservation ∷ word.Attached ∷ word.Blocks ∷ word.Help ∷ []
+    ∷ word.Namespaces ∷ word.Reservation ∷ word.Attached ∷ word.Blocks ∷ word.Line ∷ word.Help ∷ []
 
 -- their texts, each behind a space
 abbrev pub word_texts : List ℕ

@@ -39,6 +39,8 @@ pub enum Why<'a> {
     OutsideNamespace,
     /// A call of the medium failed.
     MediumFailed,
+    /// It asks how a text is read, and that has too many bytes.
+    LongText,
 }
 
 impl Why<'_> {
@@ -54,7 +56,7 @@ impl Why<'_> {
             | Why::BeforeStart
             | Why::BehindStart
             | Why::MediumFailed => 1,
-            Why::NoController | Why::NoDriver | Why::NoNamespace => 2,
+            Why::NoController | Why::NoDriver | Why::NoNamespace | Why::LongText => 2,
             Why::OutsideWindow | Why::OutsideNamespace => 3,
         }
     }
@@ -107,6 +109,7 @@ impl Spell for Why<'_> {
                 "1 to 256 blocks of the namespace are shown, and these are not all in it",
             ),
             Why::MediumFailed => page.put_str("the medium failed"),
+            Why::LongText => page.put_str("?line reads a TEXT of at most 262208 bytes"),
         }
     }
 }

@@ -1,6 +1,7 @@
 //! Lines that look at a session and change nothing. They begin with `?`, so that no script can hold one.
 
-ghost use Rattle.std.specs.Prelude.{◌≡◌, map, Some};
+ghost use Rattle.std.specs.Prelude.{◌≡◌, ◌≤◌, length, map, option_map, IfSome, Some};
+ghost use Rattle.script_text.specs.Words.{is_separator};
 ghost use Rattle.live_text.specs.Looking as spec;
 
 use crate::form::{Form, form_of};
@@ -36,11 +37,54 @@ pub enum Looking {
     HelpOn(Form),
 }
 
+impl Looking {
+    /// The identifier of the controller that it looks at, if it names one.
+    pub fn cntlid(self) -> Option<u16>
+        ensures { result ≡ spec.controller_named self }
+    {
+        match self {
+            Looking::Window { cntlid, .. }
+            | Looking::Register { cntlid, .. }
+            | Looking::Registers(cntlid)
+            | Looking::Queues(cntlid)
+            | Looking::Fetched(cntlid) => Some(cntlid),
+            Looking::Driver(_)
+            | Looking::Namespaces
+            | Looking::Reservation(_)
+            | Looking::Attached
+            | Looking::Blocks { .. }
+            | Looking::Help
+            | Looking::HelpOn(_) => None,
+        }
+    }
+}
+
 /// Whether a line begins with `?`.
 pub fn is_looking(line: &[u8]) -> bool
     ensures { result ≡ spec.is_looking line.now }
 {
     line.first() == Some(&b'?')
+}
+
+/// Whether a byte ends the word before it.
+fn ends_word(byte: u8) -> bool
+    ensures { result ≡ is_separator byte }
+{
+    byte == b' ' || byte == b'\t' || byte == b'\r'
+}
+
+/// The text that a line `?line TEXT` asks about: all that follows the word and one separator. `None` for other lines.
+#[tactic(auto, unfolding(crate::specs::Looking::text_in))]
+pub fn text_in(line: &[u8]) -> Option<&[u8]>
+    ensures text { option_map (λ text. text.now) result ≡ spec.text_in line.now }
+    ensures within { IfSome result (λ text. length text.now ≤ length line.now) }
+{
+    let behind = line.strip_prefix(b"?line".as_slice())?;
+    match behind.split_first() {
+        None => Some(behind),
+        Some((first, text)) if ends_word(*first) => Some(text),
+        Some(_) => None,
+    }
 }
 
 /// `C`, and nothing else.
@@ -161,6 +205,7 @@ fn looking_in(first: LookingWord, words: &[&[u8]]) -> Option<Looking>
         LookingWord::Reservation => namespace_in(words).map(Looking::Reservation),
         LookingWord::Attached => alone(Looking::Attached, words),
         LookingWord::Blocks => blocks_of(words),
+        LookingWord::Line => None,
         LookingWord::Help => help_of(words),
     }
 }

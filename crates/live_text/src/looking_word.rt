@@ -18,11 +18,12 @@ pub enum LookingWord {
     Reservation,
     Attached,
     Blocks,
+    Line,
     Help,
 }
 
 /// All of them.
-const LOOKING_WORDS: [LookingWord; 11] = [
+const LOOKING_WORDS: [LookingWord; 12] = [
     LookingWord::Window,
     LookingWord::Register,
     LookingWord::Registers,
@@ -33,12 +34,13 @@ const LOOKING_WORDS: [LookingWord; 11] = [
     LookingWord::Reservation,
     LookingWord::Attached,
     LookingWord::Blocks,
+    LookingWord::Line,
     LookingWord::Help,
 ];
 
 /// Their texts in this order, each behind a space.
 const LOOKING_TEXTS: &str =
-    " ?window ?register ?registers ?queues ?fetched ?driver ?namespaces ?reservation ?attached ?blocks ?help";
+    " ?window ?register ?registers ?queues ?fetched ?driver ?namespaces ?reservation ?attached ?blocks ?line ?help";
 
 impl LookingWord {
     /// All of them, each behind a space.
@@ -63,6 +65,7 @@ impl LookingWord {
             LookingWord::Reservation => "?reservation",
             LookingWord::Attached => "?attached",
             LookingWord::Blocks => "?blocks",
+            LookingWord::Line => "?line",
             LookingWord::Help => "?help",
         }
     }
@@ -82,6 +85,7 @@ impl LookingWord {
             LookingWord::Reservation => "?reservation N",
             LookingWord::Attached => "?attached",
             LookingWord::Blocks => "?blocks N SLBA COUNT",
+            LookingWord::Line => "?line TEXT",
             LookingWord::Help => "?help [WORD]",
         }
     }

@@ -12,3 +12,4 @@ mod TieLemmas
 mod TieKeywords
 mod NumericLemmas
 mod SentenceLemmas
+pub mod FirstFaults

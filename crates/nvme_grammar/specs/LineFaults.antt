@@ -1,5 +1,5 @@
 -- Why a line is refused: a function of its bytes, and of whether `start` was said before it.
-use Rattle.std.specs.Prelude.{◌≡◌, ℕ, zero, suc, ◌+◌, Bool, true, false, List, [], ◌∷◌, length, get_or, Option, None, Some, option_map, is_some, codes, if◌then◌else◌, ◌||◌}
+use Rattle.std.specs.Prelude.{◌≡◌, ℕ, zero, suc, ◌+◌, ◌-◌, Bool, true, false, List, [], ◌∷◌, length, get_or, Option, None, Some, option_map, is_some, codes, if◌then◌else◌, ◌||◌}
 use Rattle.std.specs.List.{prefix_len}
 use Rattle.std.specs.Str.{bytes_eq}
 use Rattle.script_text.specs.Numbers.{number_at}
@@ -9,7 +9,7 @@ use Rattle.nvme_grammar.specs.Arity.{◌>>=◌}
 use Rattle.nvme_grammar.specs.Lent.{lent}
 use Rattle.nvme_grammar.specs.Requests.{bit_at}
 use Rattle.nvme_grammar.specs.Line.{line_at, is_comment, sharing}
-use Rattle.nvme_grammar.specs.Script.{fits, is_start}
+use Rattle.nvme_grammar.specs.Script.{IsFirstOutside, fits, is_start}
 use Rattle.nvme_grammar.specs.Places.{spells}
 use Rattle.nvme_grammar.specs.Keywords.{keyword_of, nearest_to, sets_up, place_at, takes_words}
 use Rattle.nvme_grammar.specs.declared.keyword.Keyword.{Keyword}
@@ -19,6 +19,8 @@ use Rattle.nvme_grammar.specs.declared.place.Place.TheVariants.{Number, Iekey, H
 use Rattle.nvme_grammar.specs.declared.fault.LineFault.{LineFault}
 use Rattle.nvme_grammar.specs.declared.fault.Why.{Why}
 use Rattle.nvme_grammar.specs.declared.fault.Why.TheVariants.{Byte, Unknown, Count, Misfit, TooEarly, TooLate}
+use Rattle.nvme_grammar.specs.declared.script.ParseFault.{ParseFault}
+use Rattle.nvme_grammar.specs.declared.script.ParseFault.TheVariants.{Syntax, NoMemory}
 
 -- a fault whose words lie at no place in particular
 abbrev pub why_by_value : Why → Why
@@ -114,3 +116,14 @@ abbrev pub fault_in : Bool → ℕ → List (List ℕ) → Option LineFault
 fault_in started n [] = None
 fault_in started zero (line ∷ raw) = fault_of started line
 fault_in started (suc n) (line ∷ raw) = fault_in (is_start_line (line_at line) || started) n raw
+
+-- why a line is refused that has this number, and this fault
+abbrev pub IsRefusal : ParseFault → ℕ → Option LineFault → Type 0
+IsRefusal (Syntax n fault) number wanted = (n ≡ number) × (wanted ≡ Some (fault_by_value fault))
+IsRefusal NoMemory number wanted = Unit {0}
+
+-- what a fault says of the lines of a text: which is the first outside the grammar, and what is at fault in it
+abbrev pub IsParseFault : List (List ℕ) → ParseFault → Type 0
+IsParseFault raw (Syntax n fault) =
+    IsFirstOutside n raw × (fault_in false (n - 1) raw ≡ Some (fault_by_value fault))
+IsParseFault raw NoMemory = Unit {0}

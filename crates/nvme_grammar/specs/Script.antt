@@ -9,8 +9,6 @@ use Rattle.nvme_grammar.specs.Line.{line_at}
 use Rattle.nvme_grammar.specs.declared.line.Line.{Line}
 use Rattle.nvme_grammar.specs.declared.line.Line.TheVariants.{Blank, Controller, Namespace, Attached, Start, Event}
 use Rattle.nvme_grammar.specs.declared.script.Script.{Script}
-use Rattle.nvme_grammar.specs.declared.script.ParseFault.{ParseFault}
-use Rattle.nvme_grammar.specs.declared.script.ParseFault.TheVariants.{Syntax, NoMemory}
 
 abbrev pub is_start : Line → Bool
 is_start Start = true
@@ -93,8 +91,3 @@ start_of raw = start_in (said raw)
 -- the events in the lines of a text
 abbrev pub events_of : List (List ℕ) → List FleetEvent
 events_of raw = filter_map event_in (said raw)
-
--- what a fault says of the lines
-abbrev pub IsParseFault : List (List ℕ) → ParseFault → Type 0
-IsParseFault raw (Syntax n) = IsFirstOutside n raw
-IsParseFault raw NoMemory = Unit {0}

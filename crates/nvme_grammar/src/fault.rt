@@ -2,15 +2,14 @@
 
 ghost use Rattle.std.specs.Prelude.{◌≡◌, ◌↔◌, ◌<◌, ◌≤◌, ◌-◌, true, false, length, option_map, None, Some, IfSome, IsNone};
 ghost use Rattle.script_text.specs.Words.{line_words, is_line_text, starts_apart, from_word, most_words};
-ghost use Rattle.script_text.specs.Lines.{text_lines};
 ghost use Rattle.nvme_grammar.specs.Line.{line_at};
-ghost use Rattle.nvme_grammar.specs.Room.{HasBytesRoom, HasTextRoom, HasWordsRoom};
-ghost use Rattle.nvme_grammar.specs.LineFaults.{IsAllowed, fault_of, fault_by_value, foreign_fault, misfit, misplaced, keyword_fault, fault_in, is_start_line, word_number};
+ghost use Rattle.nvme_grammar.specs.Room.{HasBytesRoom};
+ghost use Rattle.nvme_grammar.specs.LineFaults.{IsAllowed, fault_of, fault_by_value, foreign_fault, misfit, misplaced, keyword_fault, word_number};
 
 use super::keyword::Keyword;
-use super::line::{Line, is_comment_line, parse_line};
+use super::line::is_comment_line;
 use super::place::Place;
-use script_text::{FirstWord, behind_separators, first_word, front_line, text_len};
+use script_text::{FirstWord, behind_separators, first_word, text_len};
 
 /// Why a line is refused, and where. Its text is the column, the word where it is one in particular, and the reason.
 #[derive(Clone, Copy)]
@@ -219,51 +218,4 @@ pub fn line_fault<'a>(line: &'a [u8], started: bool, bytes: &mut [u8]) -> Option
     ensures exact { IsNone result ↔ IsAllowed started line.now }
 {
     fault_of(line, started, bytes)
-}
-
-/// Whether a line is `start`.
-fn is_start(line: &[u8], bytes: &mut [u8], identifiers: &mut [u16]) -> bool
-    requires bytes_room { HasBytesRoom line.now bytes.old }
-    requires identifiers_room { most_words line.now ≤ length identifiers.old }
-    ensures { result ≡ is_start_line (line_at line.now) }
-{
-    match parse_line(line, bytes, identifiers) {
-        Some(Line::Start) => true,
-        Some(
-            Line::Blank
-            | Line::Controller(_)
-            | Line::Namespace(_)
-            | Line::Attached { .. }
-            | Line::Event(_),
-        ) => false,
-        None => false,
-    }
-}
-
-/// Why a line of a text is refused, if it is, by its number from 1, where the lines before it are those of a script. The
-/// buffers, which need room for what any line says, are overwritten.
-pub fn fault_at<'a>(
-    text: &'a [u8],
-    number: usize,
-    bytes: &mut [u8],
-    identifiers: &mut [u16],
-) -> Option<LineFault<'a>>
-    requires counted { 0 < number }
-    requires bytes_room { HasTextRoom text.now bytes.old }
-    requires identifiers_room { HasWordsRoom text.now identifiers.old }
-    ensures { option_map fault_by_value result ≡ fault_in false (number - 1) (text_lines text.now) }
-{
-    let mut before = number - 1;
-    let mut started = false;
-    let mut rest = Some(text);
-    while let Some(lines) = rest {
-        let (line, behind) = front_line(lines);
-        if before == 0 {
-            return line_fault(line, started, bytes);
-        }
-        started = is_start(line, bytes, identifiers) || started;
-        before -= 1;
-        rest = behind;
-    }
-    None
 }

@@ -22,11 +22,11 @@ mod script;
 
 pub use beginning::begins_script;
 pub use buffers::Buffers;
-pub use fault::{LineFault, Why, fault_at, foreign_byte, line_fault};
+pub use fault::{LineFault, Why, foreign_byte, line_fault};
 pub use fault_text::{ShownWord, put_word_between};
 pub use kept::KeptEvent;
 pub use keyword::Keyword;
 pub use line::{Line, parse_line};
 pub use near::is_meant;
 pub use place::{Behind, Operand, Place};
-pub use script::{ParseFault, Script, parse};
+pub use script::{ParseFault, Script, parse, read_lines};

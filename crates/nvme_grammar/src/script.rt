@@ -3,13 +3,15 @@
 ghost use Rattle.std.specs.Prelude.{◌≡◌, ◌+◌, ◌++◌, ◌∷◌, [], List, true, length, IfOk, IfErr, OnOk};
 ghost use Rattle.script_text.specs.Lines.{text_lines};
 ghost use Rattle.nvme_grammar.specs.Lent.{line_by_value};
-ghost use Rattle.nvme_grammar.specs.Room.{HasTextRoom, HasWordsRoom};
-ghost use Rattle.nvme_grammar.specs.Script.{said, events_of, fits_behind, Begins, Says, IsParseFault};
+ghost use Rattle.nvme_grammar.specs.Room.{HasBytesRoom, HasTextRoom, HasWordsRoom};
+ghost use Rattle.nvme_grammar.specs.Script.{said, events_of, fits_behind, Begins, Says};
+ghost use Rattle.nvme_grammar.specs.LineFaults.{IsParseFault, IsRefusal, fault_of};
 ghost use Rattle.nvme_grammar.specs.Kept.{kept_events};
 ghost use Rattle.nvme_grammar.specs.Reading.{Reads, kept_of_line};
 ghost use Rattle.nvme_grammar.specs.declared.line.Line.{Line};
 ghost use Rattle.nvme_grammar.specs.declared.script.ParseFault.TheVariants.{NoMemory as MemoryRefused};
 
+use super::fault::{LineFault, line_fault};
 use super::kept::KeptEvent;
 use super::line::{Line, judged_line};
 use nvme_spec::Config;
@@ -30,18 +32,18 @@ pub struct Script {
 }
 
 /// Why a text gives no script.
-#[derive(Clone, Copy, Debug, PartialEq, Eq)]
-pub enum ParseFault {
-    /// The first line that is outside the grammar, counted from 1.
-    Syntax(usize),
+#[derive(Clone, Copy)]
+pub enum ParseFault<'a> {
+    /// The first line that is outside the grammar, counted from 1, and what is at fault in it.
+    Syntax(usize, LineFault<'a>),
     /// Memory was refused, or a line begins behind more than 4,294,967,295 bytes.
     NoMemory,
 }
 
-impl From<AllocError> for ParseFault {
+impl From<AllocError> for ParseFault<'_> {
     ghost from_gives = { λ _ e. e ≡ MemoryRefused };
 
-    fn from(_: AllocError) -> ParseFault {
+    fn from(_: AllocError) -> Self {
         ParseFault::NoMemory
     }
 }
@@ -113,24 +115,36 @@ impl Script {
     }
 }
 
-/// The script that a text spells. A line feed ends a line; the last line may lack it. The buffers need room for what
-/// any of its lines says. Memory is taken for its events, eight bytes for every five of the text.
+/// Why the line with this number is refused, as the first that is, where `start` was said before it or was not.
+fn refused<'a>(number: usize, line: &'a [u8], started: bool, bytes: &mut [u8]) -> ParseFault<'a>
+    requires bytes_room { HasBytesRoom line.now bytes.old }
+    ensures { IsRefusal result number (fault_of started line.now) }
+{
+    match line_fault(line, started, bytes) {
+        Some(fault) => ParseFault::Syntax(number, fault),
+        None => ParseFault::NoMemory,
+    }
+}
+
+/// What the lines of a text say that begin a script: `start` may be missing. A line feed ends a line; the last line may
+/// lack it. The buffers need room for what any of its lines says. Memory is taken for its events, eight bytes for every
+/// five of the text.
 ///
-/// `Syntax` bears the number of the first line that is outside the grammar: one that says nothing the grammar
-/// has, a configuration line or a second `start` behind `start`, or an event before it. `NoMemory` where memory is
+/// `Syntax` bears the number of the first line that is outside the grammar, and what is at fault in it: it says nothing the
+/// grammar has, or is a configuration line or a second `start` behind `start`, or an event before it. `NoMemory` where memory is
 /// refused, or a line begins behind more than 4,294,967,295 bytes.
 ///
 /// The lines are read one after the other, in time linear in the text.
-pub fn parse(
+pub fn read_lines<'a>(
     alloc: Global,
-    text: &[u8],
+    text: &'a [u8],
     bytes: &mut [u8],
     identifiers: &mut [u16],
-) -> Result<Script, ParseFault>
+) -> Result<Script, ParseFault<'a>>
     requires bytes_room { HasTextRoom text.now bytes.old }
     requires identifiers_room { HasWordsRoom text.now identifiers.old }
     ensures grammar { IfOk result (λ _. Begins (text_lines text.now)) }
-    ensures says { IfOk result (λ script. Says (said (text_lines text.now)) script) }
+    ensures read { IfOk result (λ script. Reads script (said (text_lines text.now))) }
     // What is kept of the text are its events, all of them and no other.
     ensures events { IfOk result (λ script.
         kept_events text.now script.events.items ≡ events_of (text_lines text.now)) }
@@ -140,13 +154,13 @@ pub fn parse(
     let mut before = 0;
     let mut rest = Some(text);
     while let Some(lines) = rest {
-        let (line, behind) = front_line(lines);
-        let said = judged_line(line, bytes, identifiers);
+        let (raw, behind) = front_line(lines);
+        let said = judged_line(raw, bytes, identifiers);
         let Some(line) = &said else {
-            return Err(ParseFault::Syntax(before + 1));
+            return Err(refused(before + 1, raw, script.start.is_some(), bytes));
         };
         if !script.allows(line) {
-            return Err(ParseFault::Syntax(before + 1));
+            return Err(refused(before + 1, raw, script.start.is_some(), bytes));
         }
         let Ok(place) = u32::try_from(text.len() - lines.len()) else {
             return Err(ParseFault::NoMemory);
@@ -155,5 +169,27 @@ pub fn parse(
         script.take(before, place, line)?;
         rest = behind;
     }
-    Ok(script.finish())
+    Ok(script)
+}
+
+/// The script that a text spells, as `read_lines` reads it: without a `start` nothing is set up.
+pub fn parse<'a>(
+    alloc: Global,
+    text: &'a [u8],
+    bytes: &mut [u8],
+    identifiers: &mut [u16],
+) -> Result<Script, ParseFault<'a>>
+    requires bytes_room { HasTextRoom text.now bytes.old }
+    requires identifiers_room { HasWordsRoom text.now identifiers.old }
+    ensures grammar { IfOk result (λ _. Begins (text_lines text.now)) }
+    ensures says { IfOk result (λ script. Says (said (text_lines text.now)) script) }
+    // What is kept of the text are its events, all of them and no other.
+    ensures events { IfOk result (λ script.
+        kept_events text.now script.events.items ≡ events_of (text_lines text.now)) }
+    ensures fault { IfErr result (λ fault. IsParseFault (text_lines text.now) fault) }
+{
+    match read_lines(alloc, text, bytes, identifiers) {
+        Ok(script) => Ok(script.finish()),
+        Err(fault) => Err(fault),
+    }
 }

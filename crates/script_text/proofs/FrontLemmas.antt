@@ -65,9 +65,10 @@ no_prefix (a ∷ b ∷ word) h =
     by true = refl
     by false = refl
 
-spelled : (word : List ℕ) → 1 ≤ length word → list_all (is_digit 10) word ≡ true → digits_value 10 word < 2 ^ 64 → number_at 64 word ≡ Some (digits_value 10 word)
+-- digits are read as what they are worth
+pub decimal-read : (bits : ℕ) (word : List ℕ) → 1 ≤ length word → list_all (is_digit 10) word ≡ true → digits_value 10 word < 2 ^ bits → number_at bits word ≡ Some (digits_value 10 word)
 unfolding number_at
-spelled word some digits fits = rw (no_prefix word digits) (sym (below-fits (2 ^ 64) 10 word some digits fits))
+decimal-read bits word some digits fits = rw (no_prefix word digits) (sym (below-fits (2 ^ bits) 10 word some digits fits))
 
 -- the number and the line behind it
 module _ (line : List ℕ) (k n : ℕ) (within : k ≤ length line) (some : 0 < k) (digits : list_all (is_digit 10) (take k line) ≡ true) (stop : Stops line k) where
@@ -82,5 +83,5 @@ module _ (line : List ℕ) (k n : ℕ) (within : k ≤ length line) (some : 0 < 
       let len = length-take-le k line within in (
         take k line,
         subst (λ j. line_words line ≡ take j line ∷ line_words (drop j line)) prefix (front-words line text (rw (prefix, len) some)),
-        rw value (spelled (take k line) (omega (arith, len, some)) digits (rw value at fits)),
+        rw value (decimal-read 64 (take k line) (omega (arith, len, some)) digits (rw value at fits)),
       )

@@ -52,7 +52,7 @@ onto_enough (suc j) (suc k) n acc p q = ⊎_elim
 pub digits_of_few : (n : ℕ) → n < 16 → digits 16 false n ≡ digit_glyph false n ∷ []
 digits_of_few n few = hex_one_digit false n few
 
-pub digits_by_steps : (n : ℕ) → 16 ≤ n → n < 2 ^ 64 → digits 16 false n ≡ digits 16 false (n / 16) ++ (digit_glyph false (n % 16) ∷ [])
+pub digits_by_steps : (n : ℕ) → 16 ≤ n → n < 2 ^ 128 → digits 16 false n ≡ digits 16 false (n / 16) ++ (digit_glyph false (n % 16) ∷ [])
 digits_by_steps n many small =
     sym (spelled n) ∙ onto_next 63 n [] many
     ∙ onto_enough 62 63 (n / 16) (last_glyph n ∷ []) (omega arith) (omega arith)
@@ -90,7 +90,7 @@ in_hex_of_many w n wide many small =
     let front = digits 16 false (n / 16) in
     let last = digit_glyph false (n % 16) ∷ [] in
     let count : w - length (front ++ last) ≡ w - 1 - length front = omega (arith, length-append front last) in
-    in_hex_is w n ∙ ap (λ ds. replicate (w - length ds) 48 ++ ds) (digits_by_steps n many small)
+    in_hex_is w n ∙ ap (λ ds. replicate (w - length ds) 48 ++ ds) (digits_by_steps n many (omega (arith, small)))
     ∙ ap (λ k. replicate k 48 ++ (front ++ last)) count
     ∙ sym (append_assoc (replicate (w - 1 - length front) 48) front last)
     ∙ ap (λ x. x ++ last) (sym (in_hex_is (w - 1) (n / 16)))

@@ -1,12 +1,13 @@
 mod DecodeLemmas
+mod EncodingLemmas
 mod FillLemmas
-mod FrontLemmas
-mod HexNumberLemmas
+pub mod FrontLemmas
+pub mod HexNumberLemmas
 mod HexTextLemmas
 mod LineLemmas
 pub mod LineLengths
 pub mod OnLiterals
-mod NumberLemmas
+pub mod NumberLemmas
 pub mod PageLemmas
 mod ReadingLemmas
 mod StreamLaws

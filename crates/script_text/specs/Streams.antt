@@ -1,5 +1,5 @@
 -- The calls that are made of streams, each with its answer, in order.
-use Rattle.std.specs.Prelude.{◌≡◌, ◌<◌, ◌≤◌, ℕ, List, [], ◌∷◌, ◌++◌, length, take, Option, Some, None, Result, Ok, Err}
+use Rattle.std.specs.Prelude.{◌≡◌, ◌<◌, ◌≤◌, ℕ, List, [], ◌∷◌, ◌++◌, length, take, Bool, Option, Some, None, Result, Ok, Err}
 use Rattle.std.specs.Io.KnownBytes.{Consumes, Appends, Keeps, IsAtEnd}
 
 -- One call of a stream that is read: room for so many bytes, and the bytes that came, or none where it failed.
@@ -9,6 +9,11 @@ pub data ReadCall : Type 0 where
 -- One call of a stream that is written: the bytes that it is given, and how many it took, or none where it failed.
 pub data WriteCall : Type 0 where
   Writes : List ℕ → Option ℕ → WriteCall
+
+-- One call of a stream that is written and flushed: a write, or a flush, and whether that succeeded.
+pub data OutputCall : Type 0 where
+  Wrote : WriteCall → OutputCall
+  Flushed : Bool → OutputCall
 
 -- what a read answered: the front of the part, or a fault
 abbrev pub come : {E : Type 0} → Result ℕ E → List ℕ → Option (List ℕ)
@@ -24,6 +29,12 @@ taken (Err e) = None
 abbrev pub Calls : {S C : Type 0} → (S → C → S → Type 0) → S → List C → S → Type 0
 Calls step old [] new = new ≡ old
 Calls {S} step old (call ∷ calls) new = (mid : S) × step old call mid × Calls step mid calls new
+
+-- which states may follow a call of an output, by those that may follow a write, and a flush
+abbrev pub StepsOutput : {W : Type 0} → (W → WriteCall → W → Type 0) → (W → Bool → W → Type 0) → W → OutputCall → W
+    → Type 0
+StepsOutput write flush old (Wrote call) new = write old call new
+StepsOutput write flush old (Flushed done) new = flush old done new
 
 -- all bytes that came
 abbrev pub all_come : List ReadCall → List ℕ

@@ -1,7 +1,8 @@
 -- Bytes on their way to a writer.
-use Rattle.std.specs.Prelude.{◌≡◌, ◌<◌, ◌≤◌, ℕ, zero, suc, List, [], ◌∷◌, length, take, drop, Option, Some, None, Result, IsOk, IsErr}
+use Rattle.std.specs.Prelude.{◌≡◌, ◌⊎◌, ◌<◌, ◌≤◌, ℕ, zero, suc, Bool, true, false, List, [], ◌∷◌, length, take, drop, Option, Some, None, Result, Ok, Err, IsOk, IsErr}
 use Rattle.std.specs.Io.KnownBytes.{Appends}
-use Rattle.script_text.specs.Streams.{WriteCall, Writes, Calls}
+use Rattle.std.specs.declared.io.Error.{Error}
+use Rattle.script_text.specs.Streams.{WriteCall, Writes, OutputCall, Wrote, Flushed, Calls}
 
 -- the first bytes were written, and not all
 abbrev pub Cuts : Option (List ℕ) → Option (List ℕ) → List ℕ → Type 0
@@ -24,3 +25,32 @@ pub record IsWritten {S T E : Type 0} (step : S → WriteCall → S → Type 0) 
   pub calls : List WriteCall
   pub writes : WritesBytes bytes calls outcome
   pub made : Calls step old calls new
+
+-- What became of bytes that are written and then flushed: all were written, and the flush succeeded; or a write or the
+-- flush failed, and nothing was called behind that.
+pub data Sending : Type 0 where
+  Sent : List ℕ → Sending
+  Broken : List ℕ → Sending
+
+-- Bytes were written by their writes and no others, each of all that was left of them, and then flushed; or it stopped at
+-- the first of these calls that failed.
+abbrev pub IsSent : {W : Type 0} → (W → WriteCall → W → Type 0) → (W → Bool → W → Type 0) → W → Sending → W → Type 0
+IsSent {W} write flush old (Sent bytes) new =
+    (written : W) × IsWritten {T = Unit {0}} {E = Error} write bytes old (Ok tt) written × flush written true new
+IsSent {W} write flush old (Broken bytes) new =
+    ((fault : Error) × IsWritten {T = Unit {0}} write bytes old (Err fault) new)
+    ⊎ ((written : W) × IsWritten {T = Unit {0}} {E = Error} write bytes old (Ok tt) written × flush written false new)
+
+-- some bytes, the first of these
+abbrev pub AreNext : List ℕ → List ℕ → Type 0
+AreNext part bytes = (0 < length part) × (part ≡ take (length part) bytes)
+
+-- The calls by which bytes go to an output, and whether all of them did: each write is given bytes that are next, and
+-- behind the last of them one flush comes. The first call that fails, or takes none, is the last, and then they did not.
+abbrev pub SendsBytes : List ℕ → List OutputCall → Bool → Type 0
+SendsBytes bytes [] done = ⊥
+SendsBytes bytes (Wrote (Writes part None) ∷ calls) done = AreNext part bytes × (calls ≡ []) × (done ≡ false)
+SendsBytes bytes (Wrote (Writes part (Some zero)) ∷ calls) done = AreNext part bytes × (calls ≡ []) × (done ≡ false)
+SendsBytes bytes (Wrote (Writes part (Some (suc n))) ∷ calls) done =
+    AreNext part bytes × (suc n ≤ length part) × SendsBytes (drop (suc n) bytes) calls done
+SendsBytes bytes (Flushed success ∷ calls) done = (bytes ≡ []) × (calls ≡ []) × (done ≡ success)

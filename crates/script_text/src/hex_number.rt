@@ -43,6 +43,17 @@ pub fn put_hex<P: Page>(page: &mut P, number: u64) -> Result<(), NoRoom>
     page.put_str(digit_text(number % 16))
 }
 
+/// Puts a number of 128 bits in hexadecimal, without zeros in front.
+pub fn put_wide_hex<P: Page>(page: &mut P, number: u128) -> Result<(), NoRoom>
+    ensures { Adds P.room result (P.written page.old) (digits 16 false number) (P.written page.new) }
+{
+    if number < 18_446_744_073_709_551_616 {
+        return put_hex(page, number as u64);
+    }
+    put_wide_hex(page, number / 16)?;
+    page.put_str(digit_text((number % 16) as u64))
+}
+
 /// Puts a byte in two hexadecimal digits, between two texts.
 pub fn put_byte_between<P: Page>(
     page: &mut P,

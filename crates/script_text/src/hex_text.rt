@@ -1,6 +1,6 @@
 //! Data in a transcript: hexadecimal, without the zero bytes at the end.
 
-ghost use Rattle.std.specs.Prelude.{◌≡◌, ◌<◌, ◌≤◌, ◌==◌, false, length, map, take};
+ghost use Rattle.std.specs.Prelude.{◌≡◌, ◌*◌, ◌<◌, ◌≤◌, ◌==◌, false, length, map, take};
 ghost use Rattle.std.specs.Fmt.{digit_glyph};
 ghost use Rattle.std.specs.List.{flat_map, list_all};
 ghost use Rattle.script_text.specs.Pages.{Adds};
@@ -51,7 +51,7 @@ fn without_zero_chunks<const N: usize>(bytes: &[u8]) -> &[u8]
 }
 
 /// The bytes up to the last that is not zero.
-fn trimmed(bytes: &[u8]) -> &[u8]
+pub fn trimmed(bytes: &[u8]) -> &[u8]
     ensures { result.now ≡ without_trailing_zeros bytes.now }
 {
     let mut rest = without_zero_chunks::<FEW_ZEROS>(without_zero_chunks::<MANY_ZEROS>(bytes));
@@ -147,8 +147,8 @@ impl Spell for HexText<'_> {
     }
 }
 
-/// Puts bytes in hexadecimal.
-fn put_digits<P: Page>(page: &mut P, bytes: &[u8]) -> Result<(), NoRoom>
+/// Puts bytes in hexadecimal, two digits each.
+pub fn put_digits<P: Page>(page: &mut P, bytes: &[u8]) -> Result<(), NoRoom>
     ensures { Adds P.room result (P.written page.old) (flat_map hex_pair bytes.now) (P.written page.new) }
 {
     let mut rest = bytes;
@@ -158,4 +158,22 @@ fn put_digits<P: Page>(page: &mut P, bytes: &[u8]) -> Result<(), NoRoom>
         rest = behind;
     }
     page.put_str(text_of(rest, &mut digits))
+}
+
+/// Puts bytes in hexadecimal into a buffer of twice as many.
+pub fn encode_into(bytes: &[u8], buffer: &mut [u8])
+    requires { length buffer.old ≡ 2 * length bytes.now }
+    ensures { buffer.new ≡ flat_map hex_pair bytes.now }
+{
+    let mut rest = bytes;
+    let mut at = 0;
+    let mut digits = [0; 2 * CHUNK];
+    while let Some((chunk, behind)) = rest.split_first_chunk::<CHUNK>() {
+        encode(chunk, &mut digits);
+        buffer[at..at + 2 * CHUNK].copy_from_slice(&digits);
+        at += 2 * CHUNK;
+        rest = behind;
+    }
+    encode(&padded(rest), &mut digits);
+    buffer[at..].copy_from_slice(&digits[..2 * rest.len()]);
 }

@@ -20,16 +20,16 @@ mod writing;
 
 pub use data::{bytes_in, data_in, is_data};
 pub use front::{FrontNumber, front_number};
-pub use hex_number::{put_byte_between, put_hex, put_hex_in};
-pub use hex_text::HexText;
+pub use hex_number::{put_byte_between, put_hex, put_hex_in, put_wide_hex};
+pub use hex_text::{HexText, encode_into, put_digits, trimmed};
 pub use lines::{front_line, line_bound};
 pub use number::{number_u8, number_u16, number_u32, number_u64, number_u128};
 pub use page::{
     MOST_TEXT, NoRoom, Page, Spell, Text, put_both, put_labelled, put_number, put_three,
 };
 pub use reading::{ReadFault, read_text};
-pub use stream::{Sink, Source};
+pub use stream::{FlushedSink, Sink, Source};
 pub use words::{
     FirstWord, FrontWords, MOST_WORDS, behind_separators, first_word, text_len, words_of,
 };
-pub use writing::write_whole;
+pub use writing::{write_front, write_whole};

@@ -1,12 +1,12 @@
 //! Streams that tell their calls: what a text is read from, and what lines are written to.
 
-ghost use Rattle.std.specs.Prelude.{ℕ, List, Option, length};
+ghost use Rattle.std.specs.Prelude.{ℕ, Bool, List, Option, is_ok, length};
 ghost use Rattle.std.specs.Io.{ReadsAtMost, WritesAtMost};
-ghost use Rattle.std.specs.Io.KnownBytes.{ReadConsumes, WriteAppends};
+ghost use Rattle.std.specs.Io.KnownBytes.{Keeps, ReadConsumes, WriteAppends};
 ghost use Rattle.script_text.specs.Streams.{ReadCall, WriteCall, Reads, Writes, come, taken};
 
 use std::io;
-use std::io::{Read, Write};
+use std::io::{ErrorKind, Read, Write};
 
 /// A stream that is read from its front: each `Read` is one. For contracts it tells by `step` which states may follow
 /// a call, with its answer, and by `remaining` which bytes it has left, where these are known.
@@ -34,8 +34,9 @@ impl<R: Read> Source for R {
     }
 }
 
-/// A stream that is written: each `Write` is one. For contracts it tells by `step` which states may follow a call, with
-/// its answer, and by `contents` which bytes it holds, where these are known.
+/// A stream that is written: each `Write` is one, whose write is made again where a signal interrupts it. For contracts
+/// it tells by `step` which states may follow a call, with its answer, and by `contents` which bytes it holds, where
+/// these are known.
 pub trait Sink {
     ghost contents: { Self → Option (List ℕ) };
 
@@ -56,6 +57,43 @@ impl<W: Write> Sink for W {
     ghost step = { WritesSome W.contents };
 
     fn give_some(&mut self, part: &[u8]) -> io::Result<usize> {
-        self.write(part)
+        write_some(self, part)
+    }
+}
+
+/// One write, made again where a signal interrupts it.
+fn write_some<W: Write>(stream: &mut W, part: &[u8]) -> io::Result<usize>
+    ensures bound { WritesAtMost result part.now }
+    ensures bytes { WriteAppends (W.contents stream.old) (W.contents stream.new) result part.now }
+{
+    for _ in 0..u64::MAX {
+        match stream.write(part) {
+            Ok(count) => return Ok(count),
+            Err(error) => {
+                if error.kind() != ErrorKind::Interrupted {
+                    return Err(error);
+                }
+            }
+        }
+    }
+    Err(io::Error::from(ErrorKind::Interrupted))
+}
+
+/// A stream that is written and flushed: each `Write` is one. For contracts it tells by `flushes` which states may follow
+/// a flush that succeeded, and one that failed.
+pub trait FlushedSink: Sink {
+    ghost flushes: { Self → Bool → Self → Type 0 };
+
+    /// Passes on all that was written.
+    fn flush_all(&mut self) -> io::Result<()>
+        ensures step { flushes self.old (is_ok result) self.new }
+        ensures bytes { Keeps (Self.contents self.old) (Self.contents self.new) };
+}
+
+impl<W: Write> FlushedSink for W {
+    ghost flushes = { λ old done new. Keeps (W.Write.contents old) (W.Write.contents new) };
+
+    fn flush_all(&mut self) -> io::Result<()> {
+        self.flush()
     }
 }

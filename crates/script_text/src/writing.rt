@@ -1,12 +1,31 @@
 //! Bytes on their way to a writer.
 
-ghost use Rattle.std.specs.Prelude.{OnOk, OnErr};
+ghost use Rattle.std.specs.Prelude.{◌≡◌, ◌<◌, OnOk, OnErr, length, take};
 ghost use Rattle.std.specs.Io.KnownBytes.{Appends};
 ghost use Rattle.script_text.specs.Writing.{Cuts, IsWritten};
 
 use crate::stream::Sink;
 use std::io;
 use std::io::ErrorKind;
+
+/// Writes bytes, each write all that are left of them, up to the last of them or to a write that fails, and says how many
+/// were written. Nothing is written behind a write that fails.
+pub fn write_front<W: Sink>(writer: &mut W, bytes: &[u8]) -> (usize, io::Result<()>)
+    ensures writes { IsWritten W.step bytes.now writer.old result.1 writer.new }
+    ensures bytes { Appends (W.contents writer.old) (W.contents writer.new) (take result.0 bytes.now) }
+    ensures all { OnOk result.1 (result.0 ≡ length bytes.now) }
+    ensures part { OnErr result.1 (result.0 < length bytes.now) }
+{
+    let mut written = 0;
+    while written < bytes.len() {
+        match writer.give_some(&bytes[written..]) {
+            Ok(0) => return (written, Err(io::Error::from(ErrorKind::WriteZero))),
+            Ok(count) => written += count,
+            Err(error) => return (written, Err(error)),
+        }
+    }
+    (written, Ok(()))
+}
 
 /// Writes all of some bytes, each write all that are left of them. Nothing is written behind a write that fails.
 ///
@@ -19,13 +38,5 @@ pub fn write_whole<W: Sink>(writer: &mut W, bytes: &[u8]) -> io::Result<()>
     ensures ok { OnOk result (Appends (W.contents writer.old) (W.contents writer.new) bytes.now) }
     ensures err { OnErr result (Cuts (W.contents writer.old) (W.contents writer.new) bytes.now) }
 {
-    let mut written = 0;
-    while written < bytes.len() {
-        let count = writer.give_some(&bytes[written..])?;
-        if count == 0 {
-            return Err(io::Error::from(ErrorKind::WriteZero));
-        }
-        written += count;
-    }
-    Ok(())
+    write_front(writer, bytes).1
 }

@@ -3,7 +3,7 @@ use Rattle.std.specs.Prelude.{Result}
 use Rattle.std.specs.Io.KnownBytes.{Appends}
 use Rattle.std.specs.declared.io.Error.{Error}
 use Rattle.script_text.specs.Writing.{IsWritten}
-use Rattle.script_text.proofs.writing.write_whole.Given as goal
+use Rattle.script_text.proofs.writing.write_front.Given as goal
 
 abbrev pub invariant-loop-written : goal.invariant-loop-written
 invariant-loop-written g l = record {

@@ -6,7 +6,7 @@ use Rattle.nvme_grammar.specs.Kept.{kept_events}
 use Rattle.nvme_grammar.specs.Reading.{Reads}
 use Rattle.nvme_grammar.proofs.KeptLemmas.{IsEnd}
 use Rattle.nvme_grammar.proofs.ScriptLemmas.{AllBegin, lines_length}
-use Rattle.nvme_grammar.proofs.script.parse.Given as goal
+use Rattle.nvme_grammar.proofs.script.read_lines.Given as goal
 
 abbrev pub invariant-loop-rest : goal.invariant-loop-rest
 invariant-loop-rest l = record {

@@ -3,14 +3,16 @@ use Rattle.std.specs.Prelude.{option_map}
 use Rattle.std.specs.List.{filter_map}
 use Rattle.script_text.specs.Lines.{text_lines, lines_left}
 use Rattle.nvme_grammar.specs.Line.{line_at}
+use Rattle.nvme_grammar.specs.LineFaults.{IsRefusal, fault_of}
 use Rattle.nvme_grammar.specs.Kept.{kept_events}
 use Rattle.nvme_grammar.specs.Script.{said, event_in, events_of, Begins}
 use Rattle.nvme_grammar.specs.Reading.{Reads, line_aside}
 use Rattle.nvme_grammar.specs.declared.line.Line.{Line}
 use Rattle.nvme_grammar.proofs.ScriptLemmas.{AllBegin-none, first_unread, first_misplaced, AllBegin-next, said-next, length-said-taken, line_here, all_read, lines_shorter}
+use Rattle.nvme_grammar.proofs.FirstFaults.{first_refused}
 use Rattle.nvme_grammar.proofs.KeptLemmas.{end-next, kept-next, whole-end}
 use Rattle.nvme_grammar.proofs.JudgedLemmas.{aside-none, aside-some, fits-aside, Reads-aside}
-use Rattle.nvme_grammar.proofs.script.parse.Goals as goal
+use Rattle.nvme_grammar.proofs.script.read_lines.Goals as goal
 
 pub loop-rest-init : goal.loop-rest-init
 loop-rest-init c = record {
@@ -29,7 +31,9 @@ returns-in_default-said-clause-fault c =
     let i = c.loop-rest.before in
     let here = line_here raw i c.front_line.result.0.now (lines_left c.front_line.result.1) (sym (rw c.in-Some.is at c.loop-rest.invariant.left) ∙ c.front_line.ensures.lines) in
     let none : c.judged_line-said.result ≡ None = search rules in
-    first_unread raw i c.front_line.result.0.now here.0 here.1 c.loop-rest.invariant.begun (aside-none _ (sym (ap (option_map line_aside) none) ∙ c.judged_line-said.ensures.line))
+    first_refused raw i c.front_line.result.0.now c.loop-rest.script.start c.refused.result here.0 here.1 c.loop-rest.invariant.read.start
+    (first_unread raw i c.front_line.result.0.now here.0 here.1 c.loop-rest.invariant.begun (aside-none _ (sym (ap (option_map line_aside) none) ∙ c.judged_line-said.ensures.line)))
+    (subst (λ t. IsRefusal c.refused.result (i + 1) (fault_of t c.front_line.result.0.now)) (search rules) c.refused.ensures)
 
 pub returns-then-not-allows-clause-fault : goal.returns-then-not-allows-clause-fault
 returns-then-not-allows-clause-fault c =
@@ -38,8 +42,10 @@ returns-then-not-allows-clause-fault c =
     let here = line_here raw i c.front_line.result.0.now (lines_left c.front_line.result.1) (sym (rw c.in-Some.is at c.loop-rest.invariant.left) ∙ c.front_line.ensures.lines) in
     let refused : c.allows.result ≡ false = search rules in
     let real = aside-some (line_at c.front_line.result.0.now) c.in-Some-said.line (sym (ap (option_map line_aside) c.in-Some-said.is) ∙ c.judged_line-said.ensures.line) in
-    first_misplaced raw i c.front_line.result.0.now here.0 here.1 c.loop-rest.invariant.begun real.0 real.1
-    (sym (fits-aside (said (take i raw)) c.in-Some-said.line real.0 real.2) ∙ sym (c.allows.ensures _ c.loop-rest.invariant.read) ∙ refused)
+    first_refused raw i c.front_line.result.0.now c.loop-rest.script.start c.refused-then-not-allows.result here.0 here.1 c.loop-rest.invariant.read.start
+    (first_misplaced raw i c.front_line.result.0.now here.0 here.1 c.loop-rest.invariant.begun real.0 real.1
+    (sym (fits-aside (said (take i raw)) c.in-Some-said.line real.0 real.2) ∙ sym (c.allows.ensures _ c.loop-rest.invariant.read) ∙ refused))
+    (subst (λ t. IsRefusal c.refused-then-not-allows.result (i + 1) (fault_of t c.front_line.result.0.now)) (search rules) c.refused-then-not-allows.ensures)
 
 pub loop-rest-preserved : goal.loop-rest-preserved
 loop-rest-preserved c =
@@ -76,16 +82,16 @@ returns-clause-grammar c =
     let whole = all_read raw c.loop-rest.before (rw none at c.loop-rest.invariant.left) in
     subst (λ (t : List (List ℕ)). Begins t) whole (c.loop-rest.invariant.begun c.loop-rest.before (omega arith))
 
-pub returns-clause-says : goal.returns-clause-says
-returns-clause-says c =
+pub returns-clause-read : goal.returns-clause-read
+returns-clause-read c =
     let raw = text_lines c.args.text.now in
     let none : c.loop-rest.rest ≡ None = search rules in
     let whole = all_read raw c.loop-rest.before (rw none at c.loop-rest.invariant.left) in
-    c.finish.ensures.says _ (subst (λ (t : List (List ℕ)). Reads c.loop-rest.script (said t)) whole c.loop-rest.invariant.read)
+    subst (λ (t : List (List ℕ)). Reads c.loop-rest.script (said t)) whole c.loop-rest.invariant.read
 
 pub returns-clause-events : goal.returns-clause-events
 returns-clause-events c =
     let raw = text_lines c.args.text.now in
     let none : c.loop-rest.rest ≡ None = search rules in
     let whole = all_read raw c.loop-rest.before (rw none at c.loop-rest.invariant.left) in
-    ap (kept_events c.args.text.now) c.finish.ensures.events ∙ c.loop-rest.invariant.events ∙ ap events_of whole
+    c.loop-rest.invariant.events ∙ ap events_of whole

@@ -1,0 +1,7 @@
+-- What an answer unfolds to compute the texts of literal lines.
+use Rattle.std.specs.Prelude.{⊤}
+use Rattle.std.specs.Fmt.{digits}
+
+unfoldable pub texts_on_literals : ⊤
+unfolding digits
+texts_on_literals = tt
