@@ -1,7 +1,7 @@
 -- What looking lines show of the state of their moment.
-use Rattle.std.specs.Prelude.{ℕ, ◌+◌, ◌-◌, ◌^◌, ◌/◌, ◌%◌, nat_le, nat_lt, ◌==◌, Bool, true, false, if◌then◌else◌, List, [], ◌∷◌, ◌++◌, length, codes, slice_range, Option, None, Some}
+use Rattle.std.specs.Prelude.{ℕ, ◌+◌, nat_le, nat_lt, ◌==◌, Bool, true, false, if◌then◌else◌, List, [], ◌∷◌, ◌++◌, length, codes, slice_range, Option, None, Some}
 use Rattle.std.specs.List.{flat_map}
-use Rattle.std.specs.Fmt.{decimal, digits, padded_integral, format_spec}
+use Rattle.std.specs.Fmt.{decimal, digits}
 use Rattle.script_text.specs.HexText.{hex_or_dash, without_trailing_zeros}
 use Rattle.nvme_wire.specs.Submission.{opcode, cid, nsid}
 use Rattle.nvme_spec.specs.Limits.{most_bytes}
@@ -40,15 +40,9 @@ abbrev pub bit_text : Bool → List ℕ
 bit_text true = codes "1"
 bit_text false = codes "0"
 
--- the identifier of a host in hexadecimal: its lower 64 bits, and the upper ones in front where they are not 0
-abbrev pub halves_text : ℕ → ℕ → List ℕ
-halves_text upper lower =
-    if upper == 0 then codes "0x" ++ digits 16 false lower
-    else codes "0x" ++ digits 16 false upper
-    ++ padded_integral (format_spec 32 0 4 16 (2 ^ 64 - 1)) false [] (digits 16 false lower)
-
-unfoldable pub host_text : ℕ → List ℕ
-host_text h = halves_text (h / 2 ^ 64) (h % 2 ^ 64)
+-- the identifier of a host in hexadecimal
+abbrev pub host_text : ℕ → List ℕ
+host_text h = codes "0x" ++ digits 16 false h
 
 -- bytes of a window
 abbrev pub window_text : ℕ → ℕ → List ℕ → List ℕ

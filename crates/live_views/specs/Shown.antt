@@ -4,7 +4,7 @@ use Rattle.live_text.specs.Faults.{refusal}
 use Rattle.live_text.specs.Forms.{form_text}
 use Rattle.live_views.specs.declared.shown.Shown.{Shown}
 use Rattle.live_views.specs.declared.shown.Shown.TheVariants as shown
-use Rattle.live_views.specs.Showing.{attached_text, driver_text, fetched_text, help_text, namespaces_text, queues_text, register_text, registers_text, reservation_text, window_text}
+use Rattle.live_views.specs.Showing.{attached_text, blocks_text, driver_text, fetched_text, help_text, namespaces_text, queues_text, register_text, registers_text, reservation_text, window_text}
 
 abbrev pub shown_by : Shown → List ℕ
 shown_by (shown.Nothing r) = refusal r.number r.why
@@ -19,3 +19,4 @@ shown_by (shown.Driver t) = driver_text t.cntlid t.driver.now
 shown_by (shown.Namespaces t) = namespaces_text t.0.now
 shown_by (shown.Attached t) = attached_text t.0.now
 shown_by (shown.Reservation t) = reservation_text t.nsid t.reservation.now t.protected
+shown_by (shown.Blocks t) = blocks_text t.nsid t.slba t.count t.bytes.now

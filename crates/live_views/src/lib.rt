@@ -1,5 +1,5 @@
-//! What looking lines show, as texts: a window, registers, queues, fetched commands, drivers, namespaces, attachments and
-//! reservations, apart from having them so that it is proved without fleets.
+//! What looking lines show, as texts: a window, registers, queues, fetched commands, drivers, namespaces, attachments,
+//! reservations and blocks, apart from having them so that it is proved without fleets.
 #![tactic(auto)]
 
 mod commands;
@@ -14,5 +14,5 @@ pub use commands::FetchedText;
 pub use controllers::{BlocksText, RegisterText, RegistersText, WindowText};
 pub use drivers::DriverText;
 pub use queues::QueuesText;
-pub use shown::{Shown, controller_of, nothing, reservation_of, shown_early};
+pub use shown::{Shown, blocks_shown, nothing, shown_early, shown_in};
 pub use spaces::{AttachedText, NamespacesText, ReservationText};

@@ -1,13 +1,14 @@
 //! What a looking line shows, as a value whose text is the answer.
 
-ghost use Rattle.std.specs.Prelude.{◌≡◌};
+ghost use Rattle.std.specs.Prelude.{◌≡◌, option_map};
 ghost use Rattle.script_text.specs.Pages.{Adds};
 ghost use Rattle.live_text.specs.Faults.{refusal};
-ghost use Rattle.live_views.specs.Showing.{controller_shown, early_text, help_text, reservation_shown, window_shown};
+ghost use Rattle.live_views.specs.Looks.{looked_text, parts_text};
+ghost use Rattle.live_views.specs.Showing.{controller_shown, early_text, help_text, of_controller, reservation_shown, window_shown};
 ghost use Rattle.live_views.specs.Shown.{shown_by};
 
 use crate::commands::FetchedText;
-use crate::controllers::{RegisterText, RegistersText, WindowText};
+use crate::controllers::{BlocksText, RegisterText, RegistersText, WindowText};
 use crate::drivers::DriverText;
 use crate::queues::QueuesText;
 use crate::spaces::{AttachedText, NamespacesText, ReservationText};
@@ -15,7 +16,7 @@ use live_text::{Form, Looking, LookingWord, Refusal, Why};
 use nvme_ctrl::Controller;
 use nvme_grammar::Keyword;
 use nvme_ns::Spaces;
-use nvme_spec::MOST_BYTES;
+use nvme_spec::{MOST_BYTES, MediumFault};
 use script_text::{NoRoom, Page, Spell, put_both};
 
 /// What a looking line shows.
@@ -36,6 +37,7 @@ pub enum Shown<'a> {
     Namespaces(NamespacesText<'a>),
     Attached(AttachedText<'a>),
     Reservation(ReservationText<'a>),
+    Blocks(BlocksText<'a>),
 }
 
 impl Spell for Shown<'_> {
@@ -55,6 +57,7 @@ impl Spell for Shown<'_> {
             Shown::Namespaces(text) => text.spell(page),
             Shown::Attached(text) => text.spell(page),
             Shown::Reservation(text) => text.spell(page),
+            Shown::Blocks(text) => text.spell(page),
         }
     }
 }
@@ -142,5 +145,64 @@ pub fn reservation_of(number: u64, nsid: u32, spaces: &Spaces) -> Shown<'_>
             protected: namespace.protection_state(),
         }),
         None => nothing(number, Why::NoNamespace),
+    }
+}
+
+/// What is shown of the controller that a line names, if there is one.
+fn named(number: u64, looking: Looking, controller: Option<&Controller>) -> Shown<'_>
+    ensures { shown_by result ≡ of_controller number (option_map (λ c. c.now) controller.entry)
+        (controller_shown number looking) }
+{
+    match controller {
+        Some(controller) => controller_of(number, looking, controller),
+        None => nothing(number, Why::NoController),
+    }
+}
+
+/// What the line with this number shows of a subsystem, one that looks at anything but blocks: of the controller that it
+/// names, if there is one, or of the access state. No driver is there.
+pub fn shown_in<'a>(
+    number: u64,
+    looking: Looking,
+    controller: Option<&'a Controller>,
+    spaces: &'a Spaces,
+) -> Shown<'a>
+    ensures { shown_by result ≡ parts_text number looking (option_map (λ c. c.now) controller.entry) spaces.now }
+{
+    match looking {
+        Looking::Help => Shown::Help,
+        Looking::HelpOn(form) => Shown::HelpOn(form),
+        Looking::Namespaces => Shown::Namespaces(NamespacesText(spaces.namespaces())),
+        Looking::Attached => Shown::Attached(AttachedText(spaces.attachments())),
+        Looking::Reservation(nsid) => reservation_of(number, nsid, spaces),
+        Looking::Driver(_) => nothing(number, Why::NoDriver),
+        Looking::Window { .. }
+        | Looking::Register { .. }
+        | Looking::Registers(_)
+        | Looking::Queues(_)
+        | Looking::Fetched(_) => named(number, looking, controller),
+        Looking::Blocks { .. } => nothing(number, Why::OutsideNamespace),
+    }
+}
+
+/// What the line with this number shows of blocks, by what came of reading them.
+pub fn blocks_shown(
+    number: u64,
+    place: (u32, u64, u32),
+    looked: Option<Result<(), MediumFault>>,
+    bytes: &[u8],
+) -> Shown<'_>
+    ensures { shown_by result ≡ looked_text number place.0 place.1 place.2 bytes.now looked }
+{
+    let (nsid, slba, count) = place;
+    match looked {
+        Some(Ok(())) => Shown::Blocks(BlocksText {
+            nsid,
+            slba,
+            count,
+            bytes,
+        }),
+        Some(Err(_)) => nothing(number, Why::MediumFailed),
+        None => nothing(number, Why::OutsideNamespace),
     }
 }

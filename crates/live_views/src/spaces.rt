@@ -1,6 +1,6 @@
 //! What looking lines show of the access state.
 
-ghost use Rattle.std.specs.Prelude.{◌≡◌, ◌/◌, ◌%◌, ◌++◌, codes, decimal};
+ghost use Rattle.std.specs.Prelude.{◌≡◌, ◌++◌, codes, decimal};
 ghost use Rattle.std.specs.List.{flat_map};
 ghost use Rattle.script_text.specs.Pages.{Adds};
 ghost use Rattle.live_views.specs.Showing.{attached_text, attachment_text, hold_text, host_text, namespace_text, namespaces_text, registrant_text, reservation_text};
@@ -9,7 +9,7 @@ use crate::names::bit_name;
 use nvme_ns::Namespace;
 use nvme_resv::{Hold, Registrant, Reservation};
 use nvme_spec::HostId;
-use script_text::{NoRoom, Page, Spell, put_both, put_hex, put_hex_in, put_labelled};
+use script_text::{NoRoom, Page, Spell, put_both, put_hex, put_labelled, put_wide_hex};
 
 /// All namespaces.
 #[derive(Clone, Copy)]
@@ -112,28 +112,12 @@ impl Spell for ReservationText<'_> {
     }
 }
 
-/// The upper and the lower 64 bits of a number.
-fn halves(number: u128) -> (u64, u64)
-    ensures upper { result.0 ≡ number / 18446744073709551616 }
-    ensures lower { result.1 ≡ number % 18446744073709551616 }
-{
-    let upper = number / 18_446_744_073_709_551_616;
-    let lower = number % 18_446_744_073_709_551_616;
-    (upper as u64, lower as u64)
-}
-
 /// Puts the identifier of a host, in hexadecimal.
-#[tactic(auto, unfolding(crate::specs::Showing::host_text))]
 fn put_host<P: Page>(page: &mut P, host: HostId) -> Result<(), NoRoom>
     ensures { Adds P.room result (P.written page.old) (host_text host) (P.written page.new) }
 {
-    let (upper, lower) = halves(host);
     page.put_str("0x")?;
-    if upper == 0 {
-        return put_hex(page, lower);
-    }
-    put_hex(page, upper)?;
-    put_hex_in(page, 16, lower)
+    put_wide_hex(page, host)
 }
 
 /// Puts who holds a reservation, with its type.

@@ -7,15 +7,16 @@ use Rattle.nvme_fleet.specs.FleetStates.{Layers}
 use Rattle.nvme_fleet.proofs.LayerCalls.{layer_calls_are_of_a_step}
 use Rattle.live_text.specs.declared.looking.Looking.{Looking}
 use Rattle.live_text.specs.declared.looking.Looking.TheVariants as look
-use Rattle.nvme_live.specs.declared.asking.Asked.{Asked}
-use Rattle.nvme_live.specs.declared.asking.Asked.TheVariants.{Fails, Nothing, Looks, Sets, Does}
+use Rattle.live_text.specs.declared.asking.Asked.{Asked}
+use Rattle.live_text.specs.declared.asking.Asked.TheVariants.{Fails, Nothing, Looks, Parses, Sets, Does}
 use Rattle.nvme_live.specs.Answers.{AnswersLine, Shows, ShowsBlocks, place_of}
 use Rattle.nvme_live.specs.AnswerCalls.{AnswersLineBy, ShowsBlocksBy, ShowsBy, TurnBy, TurnOver}
-use Rattle.nvme_live.specs.Asking.{asked}
+use Rattle.live_text.specs.Asking.{asked}
 use Rattle.nvme_live.specs.Conversations.{Converses}
 use Rattle.nvme_live.specs.SessionLaws.{SessionsStandAlone, EndsStandAlone}
 use Rattle.nvme_live.specs.Standings.{Over, Running, Setting, Standing, Turn, TurnOf}
-use Rattle.nvme_live.specs.Streams.{LineCall, Sending}
+use Rattle.script_text.specs.Writing.{Sending}
+use Rattle.nvme_live.specs.Streams.{LineCall}
 
 module _ {M : Type 0} (step : M → MediumCall → M → Type 0) (tells : Bool) where
   same-state : (a b : OverMedium Layers M) → b ≡ a → b.state ≡ a.state
@@ -44,6 +45,7 @@ module _ {M : Type 0} (step : M → MediumCall → M → Type 0) (tells : Bool) 
   answers-alone n (Fails why) a b answer h = (h.0, same-state a b h.1)
   answers-alone n Nothing a b answer h = (h.0, same-state a b h.1)
   answers-alone n (Looks looking) a b answer h = shows-alone n looking a b answer h
+  answers-alone n (Parses line) a b answer h = (h.0, same-state a b h.1)
   answers-alone n (Sets line) a b answer h = (h.0, same-state a b h.1)
   answers-alone n (Does event) a b answer h =
       record { reply = h.reply; step = layer_calls_are_of_a_step tells a.state b.state event h.reply h.calls.calls h.calls.are; says = h.says }

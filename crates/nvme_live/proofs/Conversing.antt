@@ -14,18 +14,19 @@ use Rattle.nvme_grammar.specs.Lent.{line_by_value}
 use Rattle.nvme_program.specs.declared.fault.ScriptFault.{ScriptFault}
 use Rattle.nvme_program.specs.declared.fault.ScriptFault.TheVariants.{Syntax, Config, TooLong, NoMemory, Read, Write}
 use Rattle.live_text.specs.declared.fault.Why.TheVariants as why
-use Rattle.nvme_live.specs.declared.asking.Asked.{Asked}
-use Rattle.nvme_live.specs.declared.asking.Asked.TheVariants.{Fails, Sets}
+use Rattle.live_text.specs.declared.asking.Asked.{Asked}
+use Rattle.live_text.specs.declared.asking.Asked.TheVariants.{Fails, Sets}
 use Rattle.nvme_live.specs.declared.setting.Settled.{Settled}
 use Rattle.nvme_live.specs.declared.setting.Settled.TheVariants as settled
 use Rattle.nvme_live.specs.Answers.{Answered}
 use Rattle.nvme_live.specs.AnswerCalls.{AnswersLineBy, TurnOver}
-use Rattle.nvme_live.specs.Asking.{asked}
+use Rattle.live_text.specs.Asking.{asked}
 use Rattle.nvme_live.specs.Saying.{with_feed}
 use Rattle.nvme_live.specs.Settling.{Comes, SettlesAlike}
 use Rattle.nvme_live.specs.Standings.{MayLackRoom, Standing, Setting, Running, Turn, TurnOf}
 use Rattle.nvme_live.specs.Conversations.{CanRun, CanStarve, ComesToStart, Converses, Ends, EndsBy, Starves, Stops, Uncounted, Unread, alone, standing_over}
-use Rattle.nvme_live.specs.Streams.{Failed, GivesLine, LineCall, Says, Sending, Sent}
+use Rattle.script_text.specs.Writing.{Sending, Sent}
+use Rattle.nvme_live.specs.Streams.{Failed, GivesLine, LineCall, Says}
 use Rattle.nvme_live.specs.Taking.{kept}
 use Rattle.nvme_live.proofs.Takings.{kept-all, kept-short}
 use Rattle.nvme_live.proofs.Sessions.{conversed-one, conversed-more}

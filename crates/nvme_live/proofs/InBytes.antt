@@ -10,9 +10,10 @@ use Rattle.nvme_program.specs.declared.fault.ScriptFault.TheVariants.{Syntax, Co
 use Rattle.nvme_live.specs.Conversations.{Converses, ReadsLines, SendsAll, Stops}
 use Rattle.nvme_live.specs.SessionLaws.{AnsweredLinesAreASession, EndsInBytes, FailuresInBytes}
 use Rattle.nvme_live.specs.SessionScripts.{text_of}
-use Rattle.nvme_live.specs.Asking.{asked}
+use Rattle.live_text.specs.Asking.{asked}
 use Rattle.nvme_live.specs.Standings.{MayLackRoom, Standing, TurnOf}
-use Rattle.nvme_live.specs.Streams.{AddsKnown, Broken, LineCall, ReadsBy, SendsBy, TakesKnown}
+use Rattle.script_text.specs.Writing.{Broken}
+use Rattle.nvme_live.specs.Streams.{AddsKnown, LineCall, ReadsBy, SendsBy, TakesKnown}
 use Rattle.nvme_live.specs.Taking.{IsOfLine, TakesLines}
 
 pub known-lines : (lines : List (List ℕ)) (u v : Option (List ℕ)) → ReadsLines TakesKnown u lines v → TakesLines u lines v

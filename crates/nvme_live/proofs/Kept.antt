@@ -1,7 +1,7 @@
 -- A session that is kept as a script.
 use Rattle.std.proofs.Common.{◌≡◌, ◌+◌, ℕ, Bool, true, false, List, [], ◌∷◌, ◌++◌, length, Option, None, Some, inl, inr, refl, sym, ap, subst, ◌∙◌, IsTrue, arith, suc, ◌≤◌}
-use Rattle.std.specs.Prelude.{◌⊎◌, ◌&&◌, not, nat_lt, Ok, Err, Result, is_some}
-use Rattle.std.proofs.lemmas.Bool.{and_left, and_right}
+use Rattle.std.specs.Prelude.{◌⊎◌, ◌&&◌, not, nat_lt, Ok, Err, Result, is_some, if◌then◌else◌}
+use Rattle.std.proofs.lemmas.Bool.{and_left, and_right, false≢true}
 use Rattle.nvme_event.specs.declared.event.FleetEvent.{FleetEvent}
 use Rattle.nvme_event.specs.declared.seen.FleetSeen.{FleetSeen}
 use Rattle.nvme_event.specs.declared.seen.FleetSeen.TheVariants as seen
@@ -15,14 +15,15 @@ use Rattle.nvme_grammar.specs.Script.{events_of, said}
 use Rattle.nvme_grammar.specs.declared.line.Line.{Line}
 use Rattle.nvme_grammar.specs.declared.line.Line.TheVariants.{Blank, Controller, Namespace, Attached, Start, Event}
 use Rattle.nvme_script.proofs.Texts.{event_of_line, events-append, events-one}
-use Rattle.live_text.specs.Looking.{is_looking, looking_at}
+use Rattle.live_text.specs.Looking.{is_looking, looking_at, text_in}
 use Rattle.live_text.specs.declared.looking.Looking.{Looking}
 use Rattle.live_text.specs.declared.looking.Looking.TheVariants as look
-use Rattle.live_text.specs.declared.fault.Why.TheVariants.{TooLong, MediumFailed}
-use Rattle.nvme_live.specs.declared.asking.Asked.{Asked}
-use Rattle.nvme_live.specs.declared.asking.Asked.TheVariants.{Fails, Nothing, Looks, Sets, Does}
+use Rattle.live_text.specs.declared.fault.Why.TheVariants.{TooLong, LongText, MediumFailed}
+use Rattle.live_text.specs.declared.asking.Asked.{Asked}
+use Rattle.live_text.specs.declared.asking.Asked.TheVariants.{Fails, Nothing, Looks, Parses, Sets, Does}
 use Rattle.nvme_live.specs.Answers.{AnswersLine, Shows, ShowsBlocks, place_of}
-use Rattle.nvme_live.specs.Asking.{asked, line_asked, look_asked}
+use Rattle.live_text.specs.Asking.{asked, is_mark, line_asked}
+use Rattle.live_text.proofs.Marks.{asked-look}
 use Rattle.nvme_live.specs.Standings.{Standing, Running, Session}
 use Rattle.nvme_live.specs.Keeping.{Looked, LooksWell, RunsOn, KeptLinesRunAmidLooks, KeptLinesAreARun, KeptLinesTranscribe, bytes_if, event_answers, is_block_look, is_event, is_kept, is_refusal, kept_lines, line_if, LookWell, RunAmidLooks}
 use Rattle.nvme_spec.specs.Blocks.{CountsFaults, Device}
@@ -31,7 +32,7 @@ use Rattle.nvme_subsys.specs.Looking.{Reads}
 use Rattle.nvme_live.specs.Saying.{with_feed}
 use Rattle.live_text.specs.Faults.{refusal}
 use Rattle.nvme_spec.specs.declared.medium.MediumFault.{MediumFault}
-use Rattle.nvme_live.specs.Looks.{read_text}
+use Rattle.live_views.specs.Looks.{read_text}
 use Rattle.std.specs.List.{list_all}
 use Rattle.std.proofs.lemmas.List.{append-nil, append_assoc}
 use Rattle.nvme_script.proofs.Running.{IsRun, Transcribes-append}
@@ -44,14 +45,6 @@ asked-other line none_so = by (nat_lt 1048576 (length line)) refl
     by : (t : Bool) → nat_lt 1048576 (length line) ≡ t → (asked line ≡ Fails TooLong) ⊎ (asked line ≡ line_asked line (line_at line))
     by true e = inl (rw e refl)
     by false e = inr (rw (e, none_so) refl)
-
-pub asked-look : (line : List ℕ) → is_looking line ≡ true → (asked line ≡ Fails TooLong) ⊎ (asked line ≡ look_asked line (looking_at line))
-unfolding asked
-asked-look line is_so = by (nat_lt 1048576 (length line)) refl
-  where
-    by : (t : Bool) → nat_lt 1048576 (length line) ≡ t → (asked line ≡ Fails TooLong) ⊎ (asked line ≡ look_asked line (looking_at line))
-    by true e = inl (rw e refl)
-    by false e = inr (rw (e, is_so) refl)
 
 blank-line : (line : List ℕ) (o : Option Line) → line_asked line o ≡ Nothing → o ≡ Some Blank
 blank-line line None e = absurd (cc)
@@ -74,25 +67,34 @@ event-line line (Some (Attached k n)) event e = absurd (cc)
 event-line line (Some Start) event e = absurd (cc)
 event-line line (Some (Event other)) event e = ap (λ x. Some (Event x)) (same-event other event e)
 
-no-look : (line : List ℕ) (o : Option Line) (looking : Looking) → line_asked line o ≡ Looks looking → ⊥
-no-look line None looking e = absurd (cc)
-no-look line (Some Blank) looking e = absurd (cc)
-no-look line (Some (Controller k)) looking e = absurd (cc)
-no-look line (Some (Namespace n)) looking e = absurd (cc)
-no-look line (Some (Attached k n)) looking e = absurd (cc)
-no-look line (Some Start) looking e = absurd (cc)
-no-look line (Some (Event event)) looking e = absurd (cc)
+-- what is asked by lines that are shown something
+abbrev pub is_shown : Asked → Bool
+is_shown (Fails why) = false
+is_shown Nothing = false
+is_shown (Looks looking) = true
+is_shown (Parses says) = true
+is_shown (Sets says) = false
+is_shown (Does event) = false
 
-fails-look : (line : List ℕ) (looking : Looking) → asked line ≡ Looks looking → (asked line ≡ Fails TooLong) ⊎ (asked line ≡ line_asked line (line_at line)) → ⊥
-fails-look line looking e (inl f) = absurd (cc)
-fails-look line looking e (inr f) = no-look line (line_at line) looking (sym f ∙ e)
+line-shown : (line : List ℕ) (o : Option Line) → is_shown (line_asked line o) ≡ false
+line-shown line None = refl
+line-shown line (Some Blank) = refl
+line-shown line (Some (Controller k)) = refl
+line-shown line (Some (Namespace n)) = refl
+line-shown line (Some (Attached k n)) = refl
+line-shown line (Some Start) = refl
+line-shown line (Some (Event event)) = refl
 
-pub looks-look : (line : List ℕ) (looking : Looking) → asked line ≡ Looks looking → is_looking line ≡ true
-looks-look line looking e = by (is_looking line) refl
+other-shown : (line : List ℕ) → is_shown (asked line) ≡ true → (asked line ≡ Fails TooLong) ⊎ (asked line ≡ line_asked line (line_at line)) → ⊥
+other-shown line shown (inl f) = false≢true (sym (ap is_shown f) ∙ shown)
+other-shown line shown (inr f) = false≢true (sym (ap is_shown f ∙ line-shown line (line_at line)) ∙ shown)
+
+pub shows-look : (line : List ℕ) → is_shown (asked line) ≡ true → is_looking line ≡ true
+shows-look line shown = by (is_looking line) refl
   where
     by : (t : Bool) → is_looking line ≡ t → is_looking line ≡ true
     by true is = is
-    by false is = absurd (fails-look line looking e (asked-other line is))
+    by false is = absurd (other-shown line shown (asked-other line is))
 
 -- no line of an event begins with `!`
 no-bang : (event : FleetEvent) (what : FleetSeen) (bytes : List ℕ) → is_refusal (seen_line event what bytes) ≡ false
@@ -142,13 +144,8 @@ silent-line line answer e none = by (is_looking line) refl
     by true looks = inl (looking-line line answer looks)
     by false none_so = inr (kept-line line answer none_so none, blank-of line e (asked-other line none_so))
 
-look-does : (line : List ℕ) (o : Option Looking) (event : FleetEvent) → look_asked line o ≡ Does event → ⊥
-look-does line None event e = absurd (cc)
-look-does line (Some looking) event e = absurd (cc)
-
-does-look : (line : List ℕ) (event : FleetEvent) → asked line ≡ Does event → (asked line ≡ Fails TooLong) ⊎ (asked line ≡ look_asked line (looking_at line)) → ⊥
-does-look line event e (inl f) = absurd (cc)
-does-look line event e (inr f) = look-does line (looking_at line) event (sym f ∙ e)
+does-look : (line : List ℕ) (event : FleetEvent) → asked line ≡ Does event → is_mark (asked line) ≡ true → ⊥
+does-look line event e mark = false≢true (sym (ap is_mark e) ∙ mark)
 
 event-of : (line : List ℕ) (event : FleetEvent) → asked line ≡ Does event → (asked line ≡ Fails TooLong) ⊎ (asked line ≡ line_asked line (line_at line)) → line_at line ≡ Some (Event event)
 event-of line event e (inl f) = absurd (cc)
@@ -258,7 +255,8 @@ module _ (tells : Bool) (Ran : Layers → List FleetEvent → List Reply → Lay
   line-adds : (n : ℕ) (old : Layers) (line answer : List ℕ) (new : Layers) (q : Asked) → asked line ≡ q → Fine n line answer → AnswersLine tells n q old answer new → AddsNothing Ran old line answer new ⊎ AddsEvent Ran old line answer new
   line-adds n old line answer new (Fails why) e fine h = inl (record { ran = same-ran old new h.1; which = inl (refused-line line answer (ap is_refusal h.0)) })
   line-adds n old line answer new Nothing e fine h = inl (record { ran = same-ran old new h.1; which = silent-line line answer e (ap is_refusal h.0) })
-  line-adds n old line answer new (Looks looking) e fine h = inl (record { ran = look-ran n line answer looking old new e fine h; which = inl (looking-line line answer (looks-look line looking e)) })
+  line-adds n old line answer new (Looks looking) e fine h = inl (record { ran = look-ran n line answer looking old new e fine h; which = inl (looking-line line answer (shows-look line (ap is_shown e))) })
+  line-adds n old line answer new (Parses says) e fine h = inl (record { ran = same-ran old new h.1; which = inl (looking-line line answer (shows-look line (ap is_shown e))) })
   line-adds n old line answer new (Sets says) e fine h = inl (record { ran = same-ran old new h.1; which = inl (refused-line line answer (ap is_refusal h.0)) })
   line-adds n old line answer new (Does event) e fine h =
       inr (record { event = event; reply = h.reply; ran = is.one old new event h.reply h.step; says = h.says; which = event-line-of line answer event h.reply e h.says })

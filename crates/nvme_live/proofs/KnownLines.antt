@@ -14,7 +14,8 @@ use Rattle.nvme_live.specs.AnswerCalls.{TurnOver}
 use Rattle.nvme_live.specs.Conversations.{Converses, Ends, EndsBy, ReadsLines, Stops, standing_over}
 use Rattle.nvme_live.specs.Lives.{Fails, FailsBehindReading, Lives, LivesOn, surroundings}
 use Rattle.nvme_live.specs.Standings.{Standing}
-use Rattle.nvme_live.specs.Streams.{LineCall, Sending, SendsBy, TakesKnown}
+use Rattle.script_text.specs.Writing.{Sending}
+use Rattle.nvme_live.specs.Streams.{LineCall, SendsBy, TakesKnown}
 
 -- a buffer that holds nothing yet has left what the stream behind it has
 prepend-nothing : (x : Option (List ℕ)) → prepend_known [] x ≡ x

@@ -12,7 +12,8 @@ use Rattle.nvme_grammar.specs.declared.line.Line.{Line}
 use Rattle.nvme_live.specs.Conversations.{CanRun, CanStarve, Converses, Ends, EndsBy, Stops, alone, standing_over}
 use Rattle.nvme_live.specs.SetUps.{SetUp}
 use Rattle.nvme_live.specs.Standings.{LineByLine, Over, Running, Setting, Standing, TurnOf}
-use Rattle.nvme_live.specs.Streams.{LineCall, Sending}
+use Rattle.script_text.specs.Writing.{Sending}
+use Rattle.nvme_live.specs.Streams.{LineCall}
 
 not-running : (s : SetUp) (l : Layers) → Setting s ≡ Running l → ⊥
 not-running s l e = cc

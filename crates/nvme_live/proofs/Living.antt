@@ -20,7 +20,8 @@ use Rattle.nvme_live.specs.AnswerCalls.{TurnOver}
 use Rattle.nvme_live.specs.Conversations.{Ends, EndsBy, standing_over}
 use Rattle.nvme_live.specs.Lives.{Fails, FailsBehindReading, FailsFirst, LivesOn, Opens, Rests, RunsTo, surroundings}
 use Rattle.nvme_live.specs.Standings.{Setting, Running}
-use Rattle.nvme_live.specs.Streams.{LineCall, Sending, SendsBy}
+use Rattle.script_text.specs.Writing.{Sending}
+use Rattle.nvme_live.specs.Streams.{LineCall, SendsBy}
 use Rattle.nvme_live.proofs.Starting.{nothing-set}
 
 pub not-some : (o : Option ℕ) → ((n : ℕ) → o ≡ Some n → ⊥) → o ≡ None

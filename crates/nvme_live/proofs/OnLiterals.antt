@@ -1,7 +1,7 @@
 -- What an answer unfolds to compute texts with literal numbers.
 use Rattle.std.specs.Prelude.{⊤}
 use Rattle.std.specs.Fmt.{digits}
-use Rattle.nvme_program.specs.Reasons.{rule_text}
+use Rattle.nvme_program.specs.RuleTexts.{rule_text}
 
 unfoldable pub texts_on_literals : ⊤
 unfolding digits rule_text

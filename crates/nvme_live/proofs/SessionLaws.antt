@@ -24,14 +24,16 @@ use Rattle.live_text.specs.Faults.{refusal}
 use Rattle.live_text.specs.declared.fault.Why.TheVariants.{BeforeStart, BehindStart}
 use Rattle.live_text.specs.declared.looking.Looking.{Looking}
 use Rattle.live_text.specs.declared.looking.Looking.TheVariants as look
-use Rattle.nvme_live.specs.declared.asking.Asked.{Asked}
-use Rattle.nvme_live.specs.declared.asking.Asked.TheVariants.{Fails, Nothing, Looks, Sets, Does}
+use Rattle.nvme_lines.specs.LineTexts.{reading_text}
+use Rattle.live_text.specs.declared.asking.Asked.{Asked}
+use Rattle.live_text.specs.declared.asking.Asked.TheVariants.{Fails, Nothing, Looks, Parses, Sets, Does}
 use Rattle.nvme_live.specs.Answers.{AnswersLine, LooksAtBlocks, Shows, ShowsBlocks, place_of}
-use Rattle.nvme_live.specs.Asking.{asked}
+use Rattle.live_text.specs.Asking.{asked}
 use Rattle.nvme_live.specs.Keeping.{is_block_look}
 use Rattle.nvme_live.specs.Saying.{with_feed}
 use Rattle.nvme_live.specs.SessionLaws.{EndIsUnique, HasTicketsOnce, IsAnswered, LinesBeforeStartAreAnswered, LinesOfARunAreAnswered, SessionIsUnique, StartIsAnswered, asks_start, events_asked, failures_at, with_asked}
-use Rattle.nvme_live.specs.Looks.{read_text, shown_text}
+use Rattle.live_views.specs.Looks.{read_text}
+use Rattle.nvme_live.specs.Looks.{shown_text}
 use Rattle.live_views.specs.Showing.{early_text}
 use Rattle.nvme_live.specs.Standings.{Standing, Setting, Running, Over, Session, SetsBy, Starts, Turn, refused_text, started_text}
 use Rattle.nvme_live.specs.Taking.{TakesLines, session_lines}
@@ -73,6 +75,7 @@ answered-rises : (tells : Bool) (n : ℕ) (q : Asked) (old new : Layers) (answer
 answered-rises tells n (Fails why) old new answer h = same-rises _ _ (ap failing h.1)
 answered-rises tells n Nothing old new answer h = same-rises _ _ (ap failing h.1)
 answered-rises tells n (Looks looking) old new answer h = shows-rises tells n looking old new answer h
+answered-rises tells n (Parses says) old new answer h = same-rises _ _ (ap failing h.1)
 answered-rises tells n (Sets says) old new answer h = same-rises _ _ (ap failing h.1)
 answered-rises tells n (Does event) old new answer h = step-rises tells old new event h.reply h.step
 
@@ -91,6 +94,7 @@ turn-rises : (tells : Bool) (blocks : ℕ) (d : Device) (n : ℕ) (old new : Sta
 turn-rises tells blocks d n (Setting c) new (Fails why) answer h = stays-at d c c new h.1
 turn-rises tells blocks d n (Setting c) new Nothing answer h = stays-at d c c new h.1
 turn-rises tells blocks d n (Setting c) new (Looks looking) answer h = stays-at d c c new h.1
+turn-rises tells blocks d n (Setting c) new (Parses says) answer h = stays-at d c c new h.1
 turn-rises tells blocks d n (Setting c) new (Sets says) answer h = sets-rises blocks d n c says answer new h
 turn-rises tells blocks d n (Setting c) new (Does event) answer h = stays-at d c c new h.1
 turn-rises tells blocks d n (Running old) new q answer (later, h, is) =
@@ -153,6 +157,7 @@ module _ (n : ℕ) (old new other : Layers) (a b : List ℕ) (x : new.subsystem.
   answered-alike once (Fails why) h k = alike a b _ new other old h k
   answered-alike once Nothing h k = alike a b _ new other old h k
   answered-alike once (Looks looking) h k = shows-alike looking h k
+  answered-alike once (Parses says) h k = alike a b _ new other old h k
   answered-alike once (Sets says) h k = alike a b _ new other old h k
   answered-alike once (Does event) h k =
       let same = layers_run_is_unique old new other (event ∷ []) (h.reply ∷ []) (k.reply ∷ []) once (new, h.step, refl) (other, k.step, refl) x y below in
@@ -178,6 +183,7 @@ turns-alike : (blocks : ℕ) (d : Device) (n : ℕ) (old new other : Standing) (
 turns-alike blocks d n (Setting c) new other (Fails why) a b once h k x y below = alike a b _ new other _ h k
 turns-alike blocks d n (Setting c) new other Nothing a b once h k x y below = alike a b _ new other _ h k
 turns-alike blocks d n (Setting c) new other (Looks looking) a b once h k x y below = alike a b _ new other _ h k
+turns-alike blocks d n (Setting c) new other (Parses says) a b once h k x y below = alike a b _ new other _ h k
 turns-alike blocks d n (Setting c) new other (Sets says) a b once h k x y below = sets-alike blocks d n c says a b new other h k
 turns-alike blocks d n (Setting c) new other (Does event) a b once h k x y below = alike a b _ new other _ h k
 turns-alike blocks d n (Running old) new other q a b once (later, h, is) (latter, k, also) x y below =
@@ -208,6 +214,7 @@ answered-once : (n : ℕ) (q : Asked) (old new : Layers) (answer : List ℕ) →
 answered-once n (Fails why) old new answer h x below once = subst HaveTicketsOnce (sym h.1) once
 answered-once n Nothing old new answer h x below once = subst HaveTicketsOnce (sym h.1) once
 answered-once n (Looks looking) old new answer h x below once = subst HaveTicketsOnce (sym (shows-same n old new answer x below looking h)) once
+answered-once n (Parses says) old new answer h x below once = subst HaveTicketsOnce (sym h.1) once
 answered-once n (Sets says) old new answer h x below once = subst HaveTicketsOnce (sym h.1) once
 answered-once n (Does event) old new answer h x below once = tickets_stay_once true old new (event ∷ []) (h.reply ∷ []) (new, h.step, refl) once
 
@@ -230,6 +237,7 @@ turn-once : (blocks : ℕ) (d : Device) (n : ℕ) (old new : Standing) (q : Aske
 turn-once blocks d n (Setting c) new (Fails why) answer once h x below = set-once c new h.1
 turn-once blocks d n (Setting c) new Nothing answer once h x below = set-once c new h.1
 turn-once blocks d n (Setting c) new (Looks looking) answer once h x below = set-once c new h.1
+turn-once blocks d n (Setting c) new (Parses says) answer once h x below = set-once c new h.1
 turn-once blocks d n (Setting c) new (Sets says) answer once h x below = sets-once blocks d n c says answer new h
 turn-once blocks d n (Setting c) new (Does event) answer once h x below = set-once c new h.1
 turn-once blocks d n (Running old) new q answer once (later, h, is) x below = subst HasTicketsOnce (sym is) (answered-once n q old later answer h (sym (ap (failures_at d) is) ∙ x) below once)
@@ -291,6 +299,7 @@ settles-somehow : (tells : Bool) (blocks : ℕ) (d : Device) (n : ℕ) (c : SetU
 settles-somehow tells blocks d n c (Fails why) none = (c, with_feed (refusal n why), (refl, refl))
 settles-somehow tells blocks d n c Nothing none = (c, with_feed (codes "ok"), (refl, refl))
 settles-somehow tells blocks d n c (Looks looking) none = (c, with_feed (early_text n looking), (refl, refl))
+settles-somehow tells blocks d n c (Parses says) none = (c, with_feed (reading_text says), (refl, refl))
 settles-somehow tells blocks d n c (Does event) none = (c, with_feed (refusal n BehindStart), (refl, refl))
 settles-somehow tells blocks d n c (Sets Blank) none = (with_line n c Blank, with_feed (codes "ok"), (refl, refl))
 settles-somehow tells blocks d n c (Sets (Controller k)) none = (with_line n c (Controller k), with_feed (codes "ok"), (refl, refl))
@@ -312,12 +321,13 @@ start_is_answered tells blocks d n c line asks = by (asked line) refl asks
   where
     starts : (o : Option ConfigFault) → (new : Standing) × (answer : List ℕ) × Starts o blocks d n c answer new
     starts None = (Running (opening_layers c.configuration d), with_feed started_text, (refl, refl))
-    starts (Some fault) = (Over n fault, with_feed (refused_text n fault (numbered_reason c blocks fault)), (refl, refl))
+    starts (Some fault) = (Over n fault, with_feed (refused_text n fault (numbered_reason c blocks)), (refl, refl))
 
     by : (q : Asked) → asked line ≡ q → asks_start q ≡ true → (new : Standing) × IsAnswered tells blocks d n (Setting c) (line ∷ []) new
     by (Fails why) e so = absurd (false≢true so)
     by Nothing e so = absurd (false≢true so)
     by (Looks looking) e so = absurd (false≢true so)
+    by (Parses says) e so = absurd (false≢true so)
     by (Does event) e so = absurd (false≢true so)
     by (Sets Blank) e so = absurd (false≢true so)
     by (Sets (Controller k)) e so = absurd (false≢true so)
@@ -355,6 +365,7 @@ module _ (tells : Bool) (blocks : ℕ) (d : Device) (n : ℕ) (last : Layers) (l
   asked-somehow old (Looks looking) e replies plain ran =
       let shows = shows-somehow tells n looking old plain in
       silently tells blocks d n old last line lines (later old replies ran) (Looks looking) e shows.0 shows.1
+  asked-somehow old (Parses says) e replies plain ran = silently tells blocks d n old last line lines (later old replies ran) (Parses says) e (with_feed (reading_text says)) (refl, refl)
   asked-somehow old (Sets says) e replies plain ran = silently tells blocks d n old last line lines (later old replies ran) (Sets says) e (with_feed (refusal n BeforeStart)) (refl, refl)
   asked-somehow old (Does event) e [] plain ran = absurd ran
   asked-somehow old (Does event) e (reply ∷ replies) plain (mid, step, rest) =

@@ -35,7 +35,7 @@ use Rattle.nvme_script.specs.Faults.{IsScript, Runs, Transcribes, events_in}
 use Rattle.nvme_fleet.specs.Layers.{Run}
 use Rattle.nvme_mailbox.specs.Fleets as mailboxes
 use Rattle.nvme_fleet.specs.FleetStates.{opening_driver}
-use Rattle.nvme_live.proofs.Kept.{AllFine, IsBlank, IsRunOfLines, RunsBehind, all-fine, all-well, asked-look, asked-other, bytes-silent, is_behind, kept-line, looking-line, looks-look, mailboxes-ran, refused-line, runs-amid, runs-behind, runs-well, silent-line}
+use Rattle.nvme_live.proofs.Kept.{AllFine, IsBlank, IsRunOfLines, RunsBehind, all-fine, all-well, asked-other, bytes-silent, is_behind, kept-line, looking-line, is_shown, shows-look, mailboxes-ran, refused-line, runs-amid, runs-behind, runs-well, silent-line}
 use Rattle.nvme_live.specs.SessionScripts.{IsAScript, IsKeptAs, IsPlayed, PlayedIsARun, RefusedIsAFault, ReplaysAlike, SessionIsAScript, SessionIsAScriptAmidLooks}
 use Rattle.nvme_live.specs.Keeping.{LooksWell, RunAmidLooks, bytes_if, event_answers, is_event, is_kept, is_refusal, kept_lines, line_if}
 use Rattle.nvme_subsys.specs.OverMedium.{OverMedium}
@@ -43,13 +43,14 @@ use Rattle.nvme_live.proofs.Alone.{sessions_stand_alone}
 use Rattle.nvme_live.specs.Lives.{Opens, RunsTo}
 use Rattle.nvme_live.specs.Saying.{with_feed}
 use Rattle.nvme_live.specs.Standings.{SetsBy, Over, Running, Session, Setting, Settles, Standing, Starts}
-use Rattle.live_text.specs.Looking.{is_looking, looking_at}
+use Rattle.live_text.specs.Looking.{is_looking}
 use Rattle.live_text.specs.declared.fault.Why.TheVariants.{TooLong}
 use Rattle.live_text.specs.declared.looking.Looking.{Looking}
-use Rattle.nvme_live.specs.declared.asking.Asked.{Asked}
-use Rattle.nvme_live.specs.declared.asking.Asked.TheVariants.{Does, Fails, Looks, Nothing, Sets}
+use Rattle.live_text.specs.declared.asking.Asked.{Asked}
+use Rattle.live_text.specs.declared.asking.Asked.TheVariants.{Does, Fails, Looks, Nothing, Parses, Sets}
 use Rattle.nvme_transcript.specs.Transcript.{transcript}
-use Rattle.nvme_live.specs.Asking.{asked, line_asked, look_asked}
+use Rattle.live_text.specs.Asking.{asked, is_mark, line_asked}
+use Rattle.live_text.proofs.Marks.{asked-look}
 use Rattle.nvme_script.proofs.Texts.{events-append}
 use Rattle.nvme_script.proofs.Running.{Transcribes-append}
 use Rattle.nvme_grammar.proofs.OnLiterals.{lines_on_literals}
@@ -224,13 +225,8 @@ sets-of line (Some (Event event)) says e = absurd (cc)
 sets-line : (line : List ℕ) (says : Line) → asked line ≡ Sets says → is_looking line ≡ false × (line_at line ≡ Some says)
 sets-line line says e = by (is_looking line) refl
   where
-    no-look-sets : (o : Option Looking) → look_asked line o ≡ Sets says → ⊥
-    no-look-sets None f = absurd (cc)
-    no-look-sets (Some looking) f = absurd (cc)
-
-    looks : (asked line ≡ Fails TooLong) ⊎ (asked line ≡ look_asked line (looking_at line)) → ⊥
-    looks (inl f) = absurd (cc)
-    looks (inr f) = no-look-sets (looking_at line) (sym f ∙ e)
+    looks : is_mark (asked line) ≡ true → ⊥
+    looks mark = false≢true (sym (ap is_mark e) ∙ mark)
 
     others : (asked line ≡ Fails TooLong) ⊎ (asked line ≡ line_asked line (line_at line)) → line_at line ≡ Some says
     others (inl f) = absurd (cc)
@@ -362,7 +358,8 @@ module _ (tells : Bool) (Ran : Layers → List FleetEvent → List Reply → Lay
     settled : (q : Asked) → asked line ≡ q → Settles blocks d n c q answer mid → Grows
     settled (Fails why) e h = dropped (refused-line line answer (ap is_refusal h.0)) h.1
     settled Nothing e h = silent (silent-line line answer e (ap is_refusal h.0)) h.1
-    settled (Looks looking) e h = dropped (looking-line line answer (looks-look line looking e)) h.1
+    settled (Looks looking) e h = dropped (looking-line line answer (shows-look line (ap is_shown e))) h.1
+    settled (Parses says) e h = dropped (looking-line line answer (shows-look line (ap is_shown e))) h.1
     settled (Sets says) e h = sets-by says e h
     settled (Does event) e h = dropped (refused-line line answer (ap is_refusal h.0)) h.1
 

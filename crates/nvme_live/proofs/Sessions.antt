@@ -3,7 +3,8 @@ use Rattle.std.proofs.Common.{◌≡◌, ◌+◌, ℕ, suc, List, [], ◌∷◌,
 use Rattle.nvme_program.specs.declared.fault.ScriptFault.{ScriptFault}
 use Rattle.nvme_program.specs.declared.fault.ScriptFault.TheVariants.{Syntax, Config, TooLong, NoMemory, Read, Write}
 use Rattle.nvme_live.specs.Standings.{LineByLine, Standing}
-use Rattle.nvme_live.specs.Streams.{Came, LineCall, Sending, Sent}
+use Rattle.script_text.specs.Writing.{Sending, Sent}
+use Rattle.nvme_live.specs.Streams.{Came, LineCall}
 use Rattle.nvme_live.specs.Conversations.{Converses, Ends, EndsBy, ReadsLines, SendsAll, Starves, Stops, Uncounted, Unread}
 
 pub reads-append : {R : Type 0} (Reads : R → LineCall → R → Type 0) (ls ms : List (List ℕ)) (u v w : R) → ReadsLines Reads u ls v → ReadsLines Reads v ms w → ReadsLines Reads u (ls ++ ms) w

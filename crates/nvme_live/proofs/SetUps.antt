@@ -9,13 +9,13 @@ use Rattle.nvme_fleet.specs.FleetStates.{Layers}
 use Rattle.nvme_grammar.specs.Script.{attachment_in, controller_in, namespace_in}
 use Rattle.nvme_grammar.specs.declared.line.Line.{Line}
 use Rattle.nvme_grammar.specs.declared.line.Line.TheVariants.{Blank, Controller, Namespace, Attached, Start, Event}
-use Rattle.nvme_program.specs.ReasonLaws.{IsThere}
-use Rattle.nvme_program.proofs.Reasons.{refusal_has_a_reason}
-use Rattle.nvme_program.specs.declared.configuration.SetupLine.{SetupLine}
-use Rattle.nvme_program.specs.declared.configuration.SetupLine.TheVariants as line_of
-use Rattle.nvme_live.specs.declared.asking.Asked.{Asked}
-use Rattle.nvme_live.specs.declared.asking.Asked.TheVariants.{Fails, Nothing, Looks, Sets, Does}
-use Rattle.nvme_live.specs.Asking.{asked}
+use Rattle.nvme_ns.specs.RefusalLaws.{IsThere}
+use Rattle.nvme_ns.proofs.Refusals.{refusal_has_a_reason}
+use Rattle.nvme_ns.specs.declared.refusal.SetupLine.{SetupLine}
+use Rattle.nvme_ns.specs.declared.refusal.SetupLine.TheVariants as line_of
+use Rattle.live_text.specs.declared.asking.Asked.{Asked}
+use Rattle.live_text.specs.declared.asking.Asked.TheVariants.{Fails, Nothing, Looks, Parses, Sets, Does}
+use Rattle.live_text.specs.Asking.{asked}
 use Rattle.nvme_live.specs.SetUps.{Numbers, SetUp, by_number, nothing_set_up, number_of, numbered_by, with_line}
 use Rattle.nvme_live.specs.SetUpLaws.{IsNumbered, IsSettingLine, RefusalNamesALine, SetUpIsNumbered, numbers_from, sets_up}
 use Rattle.nvme_live.specs.Standings.{Standing, Setting, Running, Over, Session, Settles, Starts}
@@ -51,6 +51,7 @@ module _ (tells : Bool) (blocks : ℕ) (d : Device) (t : SetUp) where
     by-line n s line answer mid lines answers behind rest (Fails why) e h = passes n s line lines (Fails why) e (λ says f. absurd (cc)) (behind s h.1)
     by-line n s line answer mid lines answers behind rest Nothing e h = passes n s line lines Nothing e (λ says f. absurd (cc)) (behind s h.1)
     by-line n s line answer mid lines answers behind rest (Looks looking) e h = passes n s line lines (Looks looking) e (λ says f. absurd (cc)) (behind s h.1)
+    by-line n s line answer mid lines answers behind rest (Parses said) e h = passes n s line lines (Parses said) e (λ says f. absurd (cc)) (behind s h.1)
     by-line n s line answer mid lines answers behind rest (Does event) e h = passes n s line lines (Does event) e (λ says f. absurd (cc)) (behind s h.1)
     by-line n s line answer mid lines answers behind rest (Sets Start) e h = absurd (started-stays (first_config_fault s.configuration blocks) n s answer mid lines answers h rest)
     by-line n s line answer mid lines answers behind rest (Sets Blank) e h = sets n s line lines Blank e (behind (with_line n s Blank) h.1)
@@ -80,6 +81,7 @@ module _ (tells : Bool) (blocks : ℕ) (d : Device) (t : SetUp) where
     sets-nothing (Fails why) h = refl
     sets-nothing Nothing h = refl
     sets-nothing (Looks looking) h = refl
+    sets-nothing (Parses said) h = refl
     sets-nothing (Does event) h = refl
     sets-nothing (Sets says) h = absurd (h says refl)
 
@@ -164,6 +166,7 @@ module _ {A : Type 0} (in_line : Line → Option A) where
   says-something (Fails why) e = absurd (false≢true e)
   says-something Nothing e = absurd (false≢true e)
   says-something (Looks looking) e = absurd (false≢true e)
+  says-something (Parses said) e = absurd (false≢true e)
   says-something (Does event) e = absurd (false≢true e)
 
   abbrev Placed : ℕ → ℕ → List (List ℕ) → Type 0

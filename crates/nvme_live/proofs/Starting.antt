@@ -6,7 +6,7 @@ use Rattle.nvme_spec.specs.Blocks.{Device}
 use Rattle.nvme_spec.specs.MediumCalls.{MediumCall}
 use Rattle.nvme_subsys.specs.OverMedium.{over}
 use Rattle.nvme_spec.specs.Configuration.{Configuration, empty_configuration, first_config_fault, has_bad_id, has_bad_size, has_too_many, total_blocks}
-use Rattle.nvme_program.specs.declared.configuration.BrokenRule.{BrokenRule}
+use Rattle.nvme_ns.specs.declared.refusal.BrokenRule.{BrokenRule}
 use Rattle.nvme_live.specs.SetUps.{SetUp, numbered_reason}
 use Rattle.nvme_live.specs.SetUpLaws.{RunsWhereAccepted}
 use Rattle.nvme_spec.specs.declared.config.ConfigFault.{ConfigFault}
@@ -23,15 +23,16 @@ use Rattle.nvme_script.proofs.Preparing.{same_configuration}
 use Rattle.nvme_grammar.specs.declared.line.Line.TheVariants.{Start}
 use Rattle.nvme_program.specs.declared.fault.ScriptFault.{ScriptFault}
 use Rattle.nvme_program.specs.declared.fault.ScriptFault.TheVariants.{Syntax, Config, TooLong, NoMemory, Read, Write}
-use Rattle.nvme_live.specs.declared.asking.Asked.{Asked}
-use Rattle.nvme_live.specs.declared.asking.Asked.TheVariants.{Sets}
-use Rattle.nvme_live.specs.Asking.{asked}
+use Rattle.live_text.specs.declared.asking.Asked.{Asked}
+use Rattle.live_text.specs.declared.asking.Asked.TheVariants.{Sets}
+use Rattle.live_text.specs.Asking.{asked}
 use Rattle.nvme_live.specs.AnswerCalls.{TurnOver}
 use Rattle.nvme_live.specs.Conversations.{CanRun, ComesToStart, Converses, Ends, EndsBy, FromStart, standing_over}
 use Rattle.nvme_live.specs.Lives.{Rests, StartFails, StartRefused, device_in}
 use Rattle.nvme_live.specs.Saying.{LacksRoom, with_feed}
 use Rattle.nvme_live.specs.Standings.{MayLackRoom, Standing, Setting, Running, Over, Starts, Turn, refused_text, started_text}
-use Rattle.nvme_live.specs.Streams.{Came, LineCall, Says, Sending, Sent}
+use Rattle.script_text.specs.Writing.{Sending, Sent}
+use Rattle.nvme_live.specs.Streams.{Came, LineCall, Says}
 use Rattle.nvme_live.proofs.Lifting.{conversed-over}
 use Rattle.nvme_live.proofs.Sessions.{conversed-none, conversed-one, ends-behind, ends_by-behind}
 
@@ -63,11 +64,11 @@ unanswered (Some f) fault says never is (inr lacks) = inr (f, refl, subst (λ g.
 
 -- a reason that is what the definition gives for this fault
 pub refused-start : {W : Type 0} (Sends : W → Sending → W → Type 0) (result : ScriptFault) (blocks : ℕ) (d : Device) (n : ℕ) (s : SetUp) (fault : ConfigFault) (reason : Option (ℕ × BrokenRule)) (before after : W) → fault ≡ unwrap_or (first_config_fault s.configuration blocks) WantOfMemory
-    → reason ≡ numbered_reason s blocks fault → StartRefused Sends result n fault reason before after → StartFails Sends result blocks d n s before after
+    → reason ≡ numbered_reason s blocks → StartRefused Sends result n fault reason before after → StartFails Sends result blocks d n s before after
 refused-start Sends (Config k why) blocks d n s fault reason before after is because (at, same, other, sent) = (
   at,
   refuses (first_config_fault s.configuration blocks) fault is other ∙ ap Some (sym same),
-  subst (λ (f : ConfigFault). Sends before (Sent (with_feed (refused_text n f (numbered_reason s blocks f)))) after) (sym same)
+  subst (λ (f : ConfigFault). Sends before (Sent (with_feed (refused_text n f (numbered_reason s blocks)))) after) (sym same)
       (subst (λ (r : Option (ℕ × BrokenRule)). Sends before (Sent (with_feed (refused_text n fault r))) after) because sent),
 )
 refused-start Sends Write blocks d n s fault reason before after is because (other, broke) = (
@@ -78,7 +79,7 @@ refused-start Sends Write blocks d n s fault reason before after is because (oth
   broke,
 )
 refused-start Sends NoMemory blocks d n s fault reason before after is because (why, same) = (
-  unanswered (first_config_fault s.configuration blocks) fault (λ f. with_feed (refused_text n f (numbered_reason s blocks f))) (never-wanting s.configuration blocks) is
+  unanswered (first_config_fault s.configuration blocks) fault (λ f. with_feed (refused_text n f (numbered_reason s blocks))) (never-wanting s.configuration blocks) is
       (subst (λ (r : Option (ℕ × BrokenRule)). (fault ≡ WantOfMemory) ⊎ LacksRoom (with_feed (refused_text n fault r))) because why),
   same,
 )
@@ -177,8 +178,8 @@ module _ {M R W : Type 0} (Reads : R → LineCall → R → Type 0) (Sends : W �
     last = over (Over k f) m;
     ended = (
       n + 1,
-      conversed-one (TurnOver step tells blocks d) Reads Sends n (over (Setting c) m) (over (Over k f) m) between u y z line (with_feed (refused_text n f (numbered_reason c blocks f))) taken
-          (turn (with_feed (refused_text n f (numbered_reason c blocks f))) (Over k f) (subst (λ (o : Option ConfigFault). Starts o blocks d n c (with_feed (refused_text n f (numbered_reason c blocks f))) (Over k f)) (sym is) (refl, ap (λ i. Over i f) at))) sent,
+      conversed-one (TurnOver step tells blocks d) Reads Sends n (over (Setting c) m) (over (Over k f) m) between u y z line (with_feed (refused_text n f (numbered_reason c blocks))) taken
+          (turn (with_feed (refused_text n f (numbered_reason c blocks))) (Over k f) (subst (λ (o : Option ConfigFault). Starts o blocks d n c (with_feed (refused_text n f (numbered_reason c blocks))) (Over k f)) (sym is) (refl, ap (λ i. Over i f) at))) sent,
       refl,
     );
     medium = kept;
@@ -227,10 +228,10 @@ module _ {M R W : Type 0} (Reads : R → LineCall → R → Type 0) (Sends : W �
       conversed = conversed-none (TurnOver step tells blocks d) Reads Sends n (over (Setting c) m) between y;
       line = line;
       taken = taken;
-      answer = with_feed (refused_text n fault (numbered_reason c blocks fault));
-      turn = turn (with_feed (refused_text n fault (numbered_reason c blocks fault))) (Over n fault)
-          (subst (λ (o : Option ConfigFault). Starts o blocks d n c (with_feed (refused_text n fault (numbered_reason c blocks fault))) (Over n fault)) (sym is) (refl, refl));
-      unsent = (subst (λ (q : Asked). MayLackRoom (Setting c) q (with_feed (refused_text n fault (numbered_reason c blocks fault)))) (sym starts) lacks, same);
+      answer = with_feed (refused_text n fault (numbered_reason c blocks));
+      turn = turn (with_feed (refused_text n fault (numbered_reason c blocks))) (Over n fault)
+          (subst (λ (o : Option ConfigFault). Starts o blocks d n c (with_feed (refused_text n fault (numbered_reason c blocks))) (Over n fault)) (sym is) (refl, refl));
+      unsent = (subst (λ (q : Asked). MayLackRoom (Setting c) q (with_feed (refused_text n fault (numbered_reason c blocks)))) (sym starts) lacks, same);
     });
     medium = kept;
     rests = ap device kept ∙ told;

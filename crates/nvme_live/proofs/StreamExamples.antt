@@ -2,10 +2,9 @@
 use Rattle.std.proofs.Common.{◌≡◌, true, false, List, [], ◌∷◌, ◌++◌, length, None, Some, Ok, inl, inr, refl, sym, ap, subst, ◌∙◌, arith, append_assoc, append-nil, length-append}
 use Rattle.std.specs.Prelude.{codes, map}
 use Rattle.std.specs.declared.io.Error.{Error}
-use Rattle.script_text.specs.Streams.{WriteCall, Writes, Calls}
-use Rattle.script_text.specs.Writing.{IsWritten, WritesBytes}
-use Rattle.nvme_live.specs.StreamExamples.{Told, Flushed, Flushing, Writing, Wrote}
-use Rattle.nvme_live.specs.Streams.{Broken, IsSent, Sent}
+use Rattle.script_text.specs.Streams.{WriteCall, Writes, OutputCall, Wrote, Flushed, Calls}
+use Rattle.script_text.specs.Writing.{IsWritten, WritesBytes, Broken, IsSent, Sent}
+use Rattle.nvme_live.specs.StreamExamples.{Flushing, Writing}
 
 whole : IsWritten {T = Unit {0}} {E = Error} Writing (codes "ok") [] (Ok tt) (Wrote (Writes (codes "ok") (Some 2)) ∷ [])
 whole = record { calls = Writes (codes "ok") (Some 2) ∷ []; writes = (refl, omega arith, (refl, refl)); made = (Wrote (Writes (codes "ok") (Some 2)) ∷ [], refl, refl) }
@@ -31,12 +30,12 @@ pub failed : (fault : Error) → IsSent Writing Flushing [] (Broken (codes "ok")
 failed fault = inl (fault, record { calls = Writes (codes "ok") None ∷ []; writes = (refl, omega arith, refl, refl); made = (Wrote (Writes (codes "ok") None) ∷ [], refl, refl) })
 
 -- what a sink that tells its calls tells of writes
-logged : (calls : List WriteCall) (old new : List Told) → Calls Writing old calls new → new ≡ old ++ map Wrote calls
+logged : (calls : List WriteCall) (old new : List OutputCall) → Calls Writing old calls new → new ≡ old ++ map Wrote calls
 logged [] old new h = h ∙ sym (append-nil old)
 logged (call ∷ calls) old new (mid, is, rest) = logged calls mid new rest ∙ ap (λ t. t ++ map Wrote calls) is ∙ append_assoc old (Wrote call ∷ []) (map Wrote calls)
 
 -- an answer that is sent ends with a flush, behind its writes alone
-sent : (told : List Told) (h : IsSent Writing Flushing [] (Sent (codes "ok")) told) → told ≡ map Wrote h.1.calls ++ Flushed true ∷ []
+sent : (told : List OutputCall) (h : IsSent Writing Flushing [] (Sent (codes "ok")) told) → told ≡ map Wrote h.1.calls ++ Flushed true ∷ []
 sent told (written, h, flushed) = flushed ∙ ap (λ t. t ++ Flushed true ∷ []) (logged h.calls [] written h.made)
 
 module _ (call : WriteCall) where

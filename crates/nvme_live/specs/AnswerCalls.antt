@@ -15,12 +15,14 @@ use Rattle.live_text.specs.Faults.{refusal}
 use Rattle.live_text.specs.declared.fault.Why.TheVariants.{BeforeStart, OutsideNamespace}
 use Rattle.live_text.specs.declared.looking.Looking.{Looking}
 use Rattle.live_text.specs.declared.looking.Looking.TheVariants as look
-use Rattle.nvme_live.specs.declared.asking.Asked.{Asked}
-use Rattle.nvme_live.specs.declared.asking.Asked.TheVariants.{Fails, Nothing, Looks, Sets, Does}
+use Rattle.nvme_lines.specs.LineTexts.{reading_text}
+use Rattle.live_text.specs.declared.asking.Asked.{Asked}
+use Rattle.live_text.specs.declared.asking.Asked.TheVariants.{Fails, Nothing, Looks, Parses, Sets, Does}
 use Rattle.nvme_live.specs.Answers.{place_of}
-use Rattle.nvme_live.specs.Asking.{asked}
+use Rattle.live_text.specs.Asking.{asked}
 use Rattle.nvme_live.specs.Saying.{with_feed}
-use Rattle.nvme_live.specs.Looks.{shown_text, read_text}
+use Rattle.live_views.specs.Looks.{read_text}
+use Rattle.nvme_live.specs.Looks.{shown_text}
 use Rattle.nvme_live.specs.Standings.{Standing, Setting, Running, Over, Settles}
 
 -- An event happened, by exactly its calls, and it is answered by the line of it and of what it gave.
@@ -62,6 +64,7 @@ abbrev pub AnswersLineBy : {M : Type 0} → (M → MediumCall → M → Type 0) 
 AnswersLineBy step tells n (Fails why) old answer new = (answer ≡ with_feed (refusal n why)) × (new ≡ old)
 AnswersLineBy step tells n Nothing old answer new = (answer ≡ with_feed (codes "ok")) × (new ≡ old)
 AnswersLineBy step tells n (Looks looking) old answer new = ShowsBy step tells n looking old answer new
+AnswersLineBy step tells n (Parses line) old answer new = (answer ≡ with_feed (reading_text line)) × (new ≡ old)
 AnswersLineBy step tells n (Sets line) old answer new = (answer ≡ with_feed (refusal n BeforeStart)) × (new ≡ old)
 AnswersLineBy step tells n (Does event) old answer new = HappensBy step tells old event answer new
 

@@ -12,11 +12,14 @@ use Rattle.live_text.specs.Faults.{refusal}
 use Rattle.live_text.specs.declared.fault.Why.TheVariants.{BeforeStart, OutsideNamespace}
 use Rattle.live_text.specs.declared.looking.Looking.{Looking}
 use Rattle.live_text.specs.declared.looking.Looking.TheVariants as look
-use Rattle.nvme_live.specs.declared.asking.Asked.{Asked}
-use Rattle.nvme_live.specs.declared.asking.Asked.TheVariants.{Fails, Nothing, Looks, Sets, Does}
+use Rattle.nvme_lines.specs.LineTexts.{reading_text}
+use Rattle.live_text.specs.declared.asking.Asked.{Asked}
+use Rattle.live_text.specs.declared.asking.Asked.TheVariants.{Fails, Nothing, Looks, Parses, Sets, Does}
 use Rattle.nvme_live.specs.Saying.{with_feed}
-use Rattle.nvme_live.specs.Looks.{shown_text, read_text}
-use Rattle.nvme_live.specs.Streams.{Says, Sending}
+use Rattle.live_views.specs.Looks.{read_text}
+use Rattle.nvme_live.specs.Looks.{shown_text}
+use Rattle.script_text.specs.Writing.{Sending}
+use Rattle.nvme_live.specs.Streams.{Says}
 use Rattle.nvme_program.specs.declared.fault.ScriptFault.{ScriptFault}
 
 -- An event happened, and it is answered by the line of it and of what it gave.
@@ -58,6 +61,7 @@ abbrev pub AnswersLine : Bool → ℕ → Asked → Layers → List ℕ → Laye
 AnswersLine tells n (Fails why) old answer new = (answer ≡ with_feed (refusal n why)) × (new ≡ old)
 AnswersLine tells n Nothing old answer new = (answer ≡ with_feed (codes "ok")) × (new ≡ old)
 AnswersLine tells n (Looks looking) old answer new = Shows tells n looking old answer new
+AnswersLine tells n (Parses line) old answer new = (answer ≡ with_feed (reading_text line)) × (new ≡ old)
 AnswersLine tells n (Sets line) old answer new = (answer ≡ with_feed (refusal n BeforeStart)) × (new ≡ old)
 AnswersLine tells n (Does event) old answer new = Happens tells old event answer new
 

@@ -8,11 +8,12 @@ use Rattle.nvme_grammar.specs.declared.line.Line.{Line}
 use Rattle.nvme_grammar.specs.declared.line.Line.TheVariants.{Start}
 use Rattle.nvme_program.specs.declared.fault.ScriptFault.{ScriptFault}
 use Rattle.nvme_program.specs.declared.fault.ScriptFault.TheVariants.{Syntax, Config, TooLong, NoMemory, Read, Write}
-use Rattle.nvme_live.specs.declared.asking.Asked.TheVariants.{Sets}
-use Rattle.nvme_live.specs.Asking.{asked}
+use Rattle.live_text.specs.declared.asking.Asked.TheVariants.{Sets}
+use Rattle.live_text.specs.Asking.{asked}
 use Rattle.nvme_subsys.specs.OverMedium.{OverMedium}
 use Rattle.nvme_live.specs.Standings.{MayLackRoom, Standing, Setting, Running, Over, TurnOf, LineByLine}
-use Rattle.nvme_live.specs.Streams.{Broken, Came, Ended, Failed, LineCall, Sending, Sent}
+use Rattle.script_text.specs.Writing.{Broken, Sending, Sent}
+use Rattle.nvme_live.specs.Streams.{Came, Ended, Failed, LineCall}
 
 -- these lines were read, one after the other, each by one call, and no other call was made
 abbrev pub ReadsLines : {R : Type 0} → (R → LineCall → R → Type 0) → R → List (List ℕ) → R → Type 0

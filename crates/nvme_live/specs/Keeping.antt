@@ -15,9 +15,9 @@ use Rattle.live_text.specs.Faults.{refusal}
 use Rattle.live_text.specs.Looking.{is_looking}
 use Rattle.live_text.specs.declared.fault.Why.TheVariants.{MediumFailed}
 use Rattle.live_text.specs.declared.looking.Looking.TheVariants as look
-use Rattle.nvme_live.specs.declared.asking.Asked.{Asked}
-use Rattle.nvme_live.specs.declared.asking.Asked.TheVariants.{Looks}
-use Rattle.nvme_live.specs.Asking.{asked}
+use Rattle.live_text.specs.declared.asking.Asked.{Asked}
+use Rattle.live_text.specs.declared.asking.Asked.TheVariants.{Looks}
+use Rattle.live_text.specs.Asking.{asked}
 use Rattle.nvme_live.specs.Saying.{with_feed}
 use Rattle.nvme_live.specs.Standings.{Standing, Running, Session}
 

@@ -1,13 +1,15 @@
 pub use Rattle.live_text.specs.Faults
 pub use Rattle.live_text.specs.Looking
+pub use Rattle.live_text.specs.Asking
 pub use Rattle.live_views.specs.Showing
+pub use Rattle.live_views.specs.Looks as SubsystemLooks
+pub use Rattle.nvme_lines.specs.LineTexts
 pub use Rattle.nvme_grammar.specs.Script
 pub use Rattle.nvme_grammar.specs.Lent
 pub use Rattle.nvme_grammar.specs.Line
 pub use Rattle.nvme_fleet.specs.FleetStates
 pub use Rattle.nvme_fleet.specs.Layers
 pub use Rattle.nvme_transcript.specs.Transcript
-pub mod Asking
 pub mod Saying
 pub mod Looks
 pub mod Answers
@@ -22,7 +24,7 @@ pub mod Conversations
 pub mod Lives
 pub use Rattle.nvme_script.specs.Faults as ScriptFaults
 pub use Rattle.nvme_script.specs.ScriptCalls
-pub use Rattle.nvme_program.specs.Reasons
+pub use Rattle.nvme_ns.specs.Refusals
 pub mod Keeping
 pub mod SessionScripts
 pub mod SessionLaws

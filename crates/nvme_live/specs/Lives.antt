@@ -12,7 +12,7 @@ use Rattle.script_text.specs.Reading.{IsRead}
 use Rattle.script_text.specs.Streams.{ReadCall, WriteCall}
 use Rattle.script_text.specs.declared.reading.ReadFault.{ReadFault}
 use Rattle.nvme_grammar.specs.Script.{Begins, start_of}
-use Rattle.nvme_program.specs.declared.configuration.BrokenRule.{BrokenRule}
+use Rattle.nvme_ns.specs.declared.refusal.BrokenRule.{BrokenRule}
 use Rattle.nvme_program.specs.declared.fault.ScriptFault.{ScriptFault}
 use Rattle.nvme_program.specs.declared.fault.ScriptFault.TheVariants.{Syntax, Config, TooLong, NoMemory, Read, Write}
 use Rattle.nvme_subsys.specs.OverMedium.{OverMedium, over}
@@ -21,7 +21,8 @@ use Rattle.nvme_script.specs.Faults.{IsScript, IsEarlyFault, events_in}
 use Rattle.nvme_script.specs.ScriptCalls.{RanCalling, layers_of_text}
 use Rattle.nvme_script.specs.ScriptWrites.{RunsWriting, StopsWriting, TranscribesBy}
 use Rattle.nvme_live.specs.Saying.{LacksRoom, with_feed}
-use Rattle.nvme_live.specs.Streams.{Broken, LineCall, Sending, SendsBy, Sent}
+use Rattle.script_text.specs.Writing.{Broken, Sending, Sent}
+use Rattle.nvme_live.specs.Streams.{LineCall, SendsBy}
 use Rattle.nvme_live.specs.SetUps.{SetUp, nothing_set_up, numbered_reason}
 use Rattle.nvme_live.specs.Standings.{Standing, Setting, Running, Over, Starts, refused_text}
 use Rattle.nvme_live.specs.AnswerCalls.{TurnOver}
@@ -48,14 +49,14 @@ abbrev pub StartFails : {W : Type 0} → (W → Sending → W → Type 0) → Sc
     → Type 0
 StartFails Sends (Config k fault) blocks d n s before after =
     (k ≡ n) × (first_config_fault s.configuration blocks ≡ Some fault)
-    × Sends before (Sent (with_feed (refused_text n fault (numbered_reason s blocks fault)))) after
+    × Sends before (Sent (with_feed (refused_text n fault (numbered_reason s blocks)))) after
 StartFails Sends Write blocks d n s before after =
     (answer : List ℕ) × (new : Standing) × Starts (first_config_fault s.configuration blocks) blocks d n s answer new
     × Sends before (Broken answer) after
 StartFails Sends NoMemory blocks d n s before after =
     ((first_config_fault s.configuration blocks ≡ None)
     ⊎ ((fault : ConfigFault) × (first_config_fault s.configuration blocks ≡ Some fault)
-    × LacksRoom (with_feed (refused_text n fault (numbered_reason s blocks fault)))))
+    × LacksRoom (with_feed (refused_text n fault (numbered_reason s blocks)))))
     × (after ≡ before)
 StartFails Sends (Syntax k) blocks d n s before after = ⊥
 StartFails Sends TooLong blocks d n s before after = ⊥

@@ -1,11 +1,12 @@
 -- What the program's session comes to: behind a script, over its medium, and over its input and output.
-use Rattle.std.specs.Prelude.{◌≡◌, ℕ, List, [], ◌∷◌, Option, None, Some, Ok}
+use Rattle.std.specs.Prelude.{◌≡◌, ℕ, Bool, List, [], ◌∷◌, Option, None, Some, Ok}
 use Rattle.std.specs.Borrow.{Bor}
-use Rattle.std.specs.Io.KnownBytes.{Keeps}
 use Rattle.nvme_medium.specs.declared.medium.Medium as medium
 use Rattle.nvme_medium.specs.declared.cached.Cached.{Cached}
 use Rattle.script_text.specs.Reading.{IsRead}
-use Rattle.script_text.specs.Streams.{ReadsSome, WritesSome}
+use Rattle.script_text.specs.Streams.{ReadsSome}
+use Rattle.script_text.specs.declared.stream.Sink as sink
+use Rattle.script_text.specs.declared.stream.Source as source
 use Rattle.nvme_program.specs.Programs.{GuardedEnds}
 use Rattle.nvme_program.specs.Statuses.{end_status}
 use Rattle.nvme_program.specs.Streams.{Streams}
@@ -19,35 +20,37 @@ use Rattle.nvme_live.specs.Streams.{TakesKnown}
 -- A script was read, by its reads and no others, and a session went on behind it, over a medium, which it left so. Its
 -- lines are those of the input, whose bytes are read ahead: of these some were not taken, which are left. Or a fault ended
 -- it; or there was no memory to read ahead, and nothing was called.
-abbrev pub LivesOver : {T M I O : Type 0} → (T → Option (List ℕ)) → medium.Ghosts M → (I → Option (List ℕ))
-    → (O → Option (List ℕ)) → T → T → M → M → I → O → Option Failure → O → Type 0
-LivesOver remaining calls unread contents script read old new input before None after =
-    (text : List ℕ) × (left : Option (List ℕ)) × IsRead (ReadsSome remaining) remaining script (Ok text) read
-    × LivesOn calls.step calls.tells calls.device TakesKnown (WritesSome contents)
-    (λ w done z. Keeps (contents w) (contents z)) contents (calls.size old) text
-    (surroundings (unread input) before old) (surroundings left after new)
-LivesOver remaining calls unread contents script read old new input before (Some (failed.Script fault)) after =
-    (left : Option (List ℕ)) × FailsBehindReading (ReadsSome remaining) remaining script read fault
+abbrev pub LivesOver : {T M I O : Type 0} → source.Ghosts T → medium.Ghosts M → (I → Option (List ℕ)) → sink.Ghosts O
+    → (O → Bool → O → Type 0) → T → T → M → M → I → O → Option Failure → O → Type 0
+LivesOver reads calls unread out flushes script read old new input before None after =
+    (text : List ℕ) × (left : Option (List ℕ)) × IsRead reads.step reads.remaining script (Ok text) read
+    × LivesOn calls.step calls.tells calls.device TakesKnown out.step flushes out.contents
+    (calls.size old) text (surroundings (unread input) before old) (surroundings left after new)
+LivesOver reads calls unread out flushes script read old new input before (Some (failed.Script fault)) after =
+    (left : Option (List ℕ)) × FailsBehindReading reads.step reads.remaining script read fault
     (surroundings (unread input) before old) (surroundings left after new) (λ text.
-    Fails calls.step calls.tells calls.device TakesKnown (WritesSome contents)
-    (λ w done z. Keeps (contents w) (contents z)) contents (calls.size old) text fault
-    (surroundings (unread input) before old) (surroundings left after new))
-LivesOver remaining calls unread contents script read old new input before (Some failed.Memory) after =
+    Fails calls.step calls.tells calls.device TakesKnown out.step flushes out.contents
+    (calls.size old) text fault (surroundings (unread input) before old) (surroundings left after new))
+LivesOver reads calls unread out flushes script read old new input before (Some failed.Memory) after =
     (read ≡ script) × (new ≡ old) × (after ≡ before)
-LivesOver remaining calls unread contents script read old new input before (Some failed.File) after = ⊥
-LivesOver remaining calls unread contents script read old new input before (Some failed.CommandLine) after = ⊥
+LivesOver reads calls unread out flushes script read old new input before (Some failed.File) after = ⊥
+LivesOver reads calls unread out flushes script read old new input before (Some failed.CommandLine) after = ⊥
+
+-- bytes in memory, as a script is read
+abbrev pub bytes_source : source.Ghosts (Bor (List ℕ))
+bytes_source = record { remaining = λ s. Some s.now; step = ReadsSome (λ s. Some s.now) }
 
 -- The program over its streams: its session stands behind the script that is named, or else behind an empty one. Telling a
 -- failure leaves both streams as they are.
-abbrev pub lives_behind_scripts : {I O : Type 0} → (I → Option (List ℕ)) → (O → Option (List ℕ))
+abbrev pub lives_behind_scripts : {I O : Type 0} → (I → Option (List ℕ)) → sink.Ghosts O → (O → Bool → O → Type 0)
     → runner.Ghosts (Streams I O)
-lives_behind_scripts unread contents = record {
+lives_behind_scripts unread out flushes = record {
   links = λ s. s.input_name ∷ s.output_name ∷ [];
-  ran = λ T M remaining calls script read old new before end after.
-      LivesOver remaining calls unread contents script read old new before.input before.output end after.output;
+  ran = λ T M reads calls script read old new before end after.
+      LivesOver reads calls unread out flushes script read old new before.input before.output end after.output;
   ran_unnamed = λ M calls old new before end after.
       (script : Bor (List ℕ)) × (read : Bor (List ℕ)) × (script.now ≡ [])
-      × LivesOver (λ s. Some s.now) calls unread contents script read old new before.input before.output end
+      × LivesOver bytes_source calls unread out flushes script read old new before.input before.output end
       after.output;
   tells = λ before after. (after.input ≡ before.input) × (after.output ≡ before.output);
 }
@@ -56,17 +59,17 @@ lives_behind_scripts unread contents = record {
 -- the input and of the output. Where a word or a file was refused, that is the input as it was. Where there was no memory to
 -- read it ahead, nothing is said of it.
 unfoldable pub SessionProgramEnds : {S I T In Out : Type 0} → (S → SystemCall I T → S → Type 0)
-    → (image : medium.Ghosts I) → medium.Ghosts (Cached I image) → (T → Option (List ℕ)) → (In → Option (List ℕ))
-    → (Out → Option (List ℕ)) → List (List ℕ) → S → In → Out → Option Failure → S → In → Out → Type 0
-SessionProgramEnds {In = In} {Out = Out} step image behind_cache remaining unread contents words system input output end new left written =
+    → (image : medium.Ghosts I) → medium.Ghosts (Cached I image) → source.Ghosts T → (In → Option (List ℕ))
+    → sink.Ghosts Out → (Out → Bool → Out → Type 0) → List (List ℕ) → S → In → Out → Option Failure → S → In → Out → Type 0
+SessionProgramEnds {In = In} {Out = Out} step image behind_cache reads unread out flushes words system input output end new left written =
     (before : Streams In Out) × (after : Streams In Out) × (before.input ≡ input) × (before.output ≡ output)
     × (after.input ≡ left) × (after.output ≡ written)
-    × GuardedEnds step image behind_cache remaining (lives_behind_scripts unread contents) words system before end new after
+    × GuardedEnds step image behind_cache reads (lives_behind_scripts unread out flushes) words system before end new after
 
 -- The program ends so in some system, and its exit status is that of its end.
 unfoldable pub SessionProgramExits : {S I T In Out : Type 0} → (S → SystemCall I T → S → Type 0)
-    → (image : medium.Ghosts I) → medium.Ghosts (Cached I image) → (T → Option (List ℕ)) → (In → Option (List ℕ))
-    → (Out → Option (List ℕ)) → List (List ℕ) → In → Out → ℕ → In → Out → Type 0
-SessionProgramExits {S = S} step image behind_cache remaining unread contents words input output status left written =
+    → (image : medium.Ghosts I) → medium.Ghosts (Cached I image) → source.Ghosts T → (In → Option (List ℕ))
+    → sink.Ghosts Out → (Out → Bool → Out → Type 0) → List (List ℕ) → In → Out → ℕ → In → Out → Type 0
+SessionProgramExits {S = S} step image behind_cache reads unread out flushes words input output status left written =
     (system : S) × (end : Option Failure) × (new : S) × (status ≡ end_status end)
-    × SessionProgramEnds step image behind_cache remaining unread contents words system input output end new left written
+    × SessionProgramEnds step image behind_cache reads unread out flushes words system input output end new left written

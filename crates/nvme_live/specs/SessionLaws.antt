@@ -11,16 +11,17 @@ use Rattle.nvme_fleet.specs.FleetStates.{Layers}
 use Rattle.nvme_fleet.specs.Layers.{Run}
 use Rattle.nvme_fleet.specs.Unique.{HaveTicketsOnce}
 use Rattle.nvme_grammar.specs.Script.{is_start}
-use Rattle.nvme_live.specs.declared.asking.Asked.{Asked}
-use Rattle.nvme_live.specs.declared.asking.Asked.TheVariants.{Fails, Nothing, Looks, Sets, Does}
+use Rattle.live_text.specs.declared.asking.Asked.{Asked}
+use Rattle.live_text.specs.declared.asking.Asked.TheVariants.{Fails, Nothing, Looks, Parses, Sets, Does}
 use Rattle.nvme_live.specs.AnswerCalls.{TurnOver}
-use Rattle.nvme_live.specs.Asking.{asked}
+use Rattle.live_text.specs.Asking.{asked}
 use Rattle.nvme_live.specs.Conversations.{Ends, EndsBy, alone}
 use Rattle.nvme_live.specs.Keeping.{is_block_look}
 use Rattle.nvme_live.specs.Lives.{device_in}
 use Rattle.nvme_live.specs.SessionScripts.{text_of}
 use Rattle.nvme_live.specs.Standings.{LineByLine, Over, Running, Session, Setting, Standing, TurnOf}
-use Rattle.nvme_live.specs.Streams.{AddsKnown, LineCall, ReadsBy, Sending, SendsBy, TakesKnown}
+use Rattle.script_text.specs.Writing.{Sending}
+use Rattle.nvme_live.specs.Streams.{AddsKnown, LineCall, ReadsBy, SendsBy, TakesKnown}
 use Rattle.nvme_live.specs.Taking.{IsOfLine}
 use Rattle.nvme_program.specs.declared.fault.ScriptFault.{ScriptFault}
 use Rattle.script_text.specs.Streams.{WriteCall}
@@ -107,6 +108,7 @@ asks_start (Sets line) = is_start line
 asks_start (Fails why) = false
 asks_start Nothing = false
 asks_start (Looks looking) = false
+asks_start (Parses line) = false
 asks_start (Does event) = false
 
 -- Before `start` each list of lines has answers, and `start` has one, whatever the medium.
@@ -128,6 +130,7 @@ with_asked (Does event) events = event ∷ events
 with_asked (Fails why) events = events
 with_asked Nothing events = events
 with_asked (Looks looking) events = events
+with_asked (Parses line) events = events
 with_asked (Sets line) events = events
 
 abbrev pub events_asked : List (List ℕ) → List FleetEvent

@@ -6,10 +6,10 @@ use Rattle.nvme_spec.specs.declared.config.ConfigFault.{ConfigFault}
 use Rattle.nvme_grammar.specs.Script.{attachment_in, controller_in, namespace_in}
 use Rattle.nvme_grammar.specs.declared.line.Line.{Line}
 use Rattle.nvme_grammar.specs.declared.line.Line.TheVariants.{Start}
-use Rattle.nvme_program.specs.declared.configuration.BrokenRule.{BrokenRule}
-use Rattle.nvme_live.specs.declared.asking.Asked.{Asked}
-use Rattle.nvme_live.specs.declared.asking.Asked.TheVariants.{Fails, Nothing, Looks, Sets, Does}
-use Rattle.nvme_live.specs.Asking.{asked}
+use Rattle.nvme_ns.specs.declared.refusal.BrokenRule.{BrokenRule}
+use Rattle.live_text.specs.declared.asking.Asked.{Asked}
+use Rattle.live_text.specs.declared.asking.Asked.TheVariants.{Fails, Nothing, Looks, Parses, Sets, Does}
+use Rattle.live_text.specs.Asking.{asked}
 use Rattle.nvme_live.specs.Conversations.{CanRun, alone}
 use Rattle.nvme_live.specs.SetUps.{SetUp, nothing_set_up, numbered_reason}
 use Rattle.nvme_live.specs.Standings.{Setting, Session, TurnOf}
@@ -20,6 +20,7 @@ sets_up in_line (Sets line) = is_some (in_line line)
 sets_up in_line (Fails why) = false
 sets_up in_line Nothing = false
 sets_up in_line (Looks looking) = false
+sets_up in_line (Parses line) = false
 sets_up in_line (Does event) = false
 
 -- The numbers of the lines that set up something of a kind, among lines of which the first has the number n: all are
@@ -67,4 +68,4 @@ RefusalNamesALine =
     (tells : Bool) (blocks : ℕ) (d : Device) (lines answers : List (List ℕ)) (s : SetUp) (fault : ConfigFault)
     → Session tells blocks d 1 (Setting nothing_set_up) lines answers (Setting s)
     → first_config_fault s.configuration blocks ≡ Some fault
-    → (k : ℕ) × (rule : BrokenRule) × (numbered_reason s blocks fault ≡ Some (k, rule)) × IsSettingLine k lines
+    → (k : ℕ) × (rule : BrokenRule) × (numbered_reason s blocks ≡ Some (k, rule)) × IsSettingLine k lines

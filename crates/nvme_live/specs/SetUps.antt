@@ -2,15 +2,14 @@
 use Rattle.std.specs.Prelude.{◌≤◌, ◌<◌, ◌⊎◌, ℕ, List, [], ◌∷◌, ◌++◌, length, slice_get, vec_capacity, Option, None, Some, option_map}
 use Rattle.nvme_spec.specs.Configuration.{Configuration, empty_configuration}
 use Rattle.nvme_spec.specs.declared.config.Config.{Config}
-use Rattle.nvme_spec.specs.declared.config.ConfigFault.{ConfigFault}
 use Rattle.nvme_ns.specs.Configured as ns
 use Rattle.nvme_grammar.specs.declared.line.Line.{Line}
 use Rattle.nvme_grammar.specs.declared.line.Line.TheVariants.{Blank, Controller, Namespace, Attached, Start, Event}
-use Rattle.nvme_program.specs.Reasons.{reason_of}
-use Rattle.nvme_program.specs.declared.configuration.SetupLine.{SetupLine}
-use Rattle.nvme_program.specs.declared.configuration.SetupLine.TheVariants as line_of
-use Rattle.nvme_program.specs.declared.configuration.BrokenRule.{BrokenRule}
-use Rattle.nvme_program.specs.declared.configuration.ConfigReason.{ConfigReason}
+use Rattle.nvme_ns.specs.Refusals.{refusal_of}
+use Rattle.nvme_ns.specs.declared.refusal.SetupLine.{SetupLine}
+use Rattle.nvme_ns.specs.declared.refusal.SetupLine.TheVariants as line_of
+use Rattle.nvme_ns.specs.declared.refusal.BrokenRule.{BrokenRule}
+use Rattle.nvme_ns.specs.declared.refusal.ConfigReason.{ConfigReason}
 use Rattle.nvme_live.specs.declared.line_numbers.LineNumbers.{LineNumbers}
 
 -- the numbers of the lines of a session that set up controllers, namespaces and attachments, in the order of the lines
@@ -95,7 +94,7 @@ abbrev pub by_number : Numbers → Option ConfigReason → Option (ℕ × Broken
 by_number numbers None = None
 by_number numbers (Some reason) = option_map (λ k. (k, reason.rule)) (number_of numbers reason.line)
 
--- Why what is set up is refused with this fault over a medium of so many blocks: the number of the line that is at fault,
--- and the rule that it breaks.
-abbrev pub numbered_reason : SetUp → ℕ → ConfigFault → Option (ℕ × BrokenRule)
-numbered_reason s blocks fault = by_number s.numbers (reason_of s.configuration blocks fault)
+-- Why what is set up is refused over a medium of so many blocks: the number of the line that is at fault, and the rule
+-- that it breaks.
+abbrev pub numbered_reason : SetUp → ℕ → Option (ℕ × BrokenRule)
+numbered_reason s blocks = by_number s.numbers (refusal_of s.configuration blocks)

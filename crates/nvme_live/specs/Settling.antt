@@ -6,12 +6,12 @@ use Rattle.nvme_grammar.specs.declared.line.Line.{Line}
 use Rattle.nvme_grammar.specs.declared.line.Line.TheVariants.{Start}
 use Rattle.nvme_program.specs.declared.fault.ScriptFault.{ScriptFault}
 use Rattle.nvme_program.specs.declared.fault.ScriptFault.TheVariants.{Syntax, Config, TooLong, NoMemory, Read, Write}
-use Rattle.nvme_live.specs.declared.asking.Asked.{Asked}
-use Rattle.nvme_live.specs.declared.asking.Asked.TheVariants.{Sets}
+use Rattle.live_text.specs.declared.asking.Asked.{Asked}
+use Rattle.live_text.specs.declared.asking.Asked.TheVariants.{Sets}
 use Rattle.nvme_live.specs.declared.setting.Settled.{Settled}
 use Rattle.nvme_live.specs.declared.setting.Settled.TheVariants.{Answered, Started}
 use Rattle.nvme_live.specs.Standings.{MayLackRoom, Setting, Settles}
-use Rattle.nvme_live.specs.Streams.{Broken, Sending, Sent}
+use Rattle.script_text.specs.Writing.{Broken, Sending, Sent}
 
 -- over any medium the n-th line is answered so, and leaves this set up
 abbrev pub SettlesAlike : ℕ → SetUp → Asked → List ℕ → SetUp → Type 0

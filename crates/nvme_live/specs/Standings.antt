@@ -8,14 +8,15 @@ use Rattle.nvme_fleet.specs.FleetStates.{Layers, opening_layers}
 use Rattle.nvme_grammar.specs.declared.line.Line.{Line}
 use Rattle.nvme_grammar.specs.declared.line.Line.TheVariants.{Start}
 use Rattle.nvme_program.specs.FailureTexts.{config_fault_text}
-use Rattle.nvme_program.specs.Reasons.{rule_text}
-use Rattle.nvme_program.specs.declared.configuration.BrokenRule.{BrokenRule}
+use Rattle.nvme_program.specs.RuleTexts.{rule_text}
+use Rattle.nvme_ns.specs.declared.refusal.BrokenRule.{BrokenRule}
 use Rattle.live_text.specs.Faults.{refusal}
 use Rattle.live_text.specs.declared.fault.Why.TheVariants.{BehindStart}
-use Rattle.nvme_live.specs.declared.asking.Asked.{Asked}
-use Rattle.nvme_live.specs.declared.asking.Asked.TheVariants.{Fails, Nothing, Looks, Sets, Does}
+use Rattle.nvme_lines.specs.LineTexts.{reading_text}
+use Rattle.live_text.specs.declared.asking.Asked.{Asked}
+use Rattle.live_text.specs.declared.asking.Asked.TheVariants.{Fails, Nothing, Looks, Parses, Sets, Does}
 use Rattle.nvme_live.specs.Answers.{AnswersLine}
-use Rattle.nvme_live.specs.Asking.{asked}
+use Rattle.live_text.specs.Asking.{asked}
 use Rattle.nvme_live.specs.Saying.{LacksRoom, with_feed}
 use Rattle.nvme_live.specs.SetUps.{SetUp, numbered_reason, with_line}
 use Rattle.live_views.specs.Showing.{early_text}
@@ -34,12 +35,14 @@ abbrev pub MayLackRoom : Standing → Asked → List ℕ → Type 0
 MayLackRoom (Setting s) (Fails why) answer = LacksRoom answer
 MayLackRoom (Setting s) Nothing answer = ⊥
 MayLackRoom (Setting s) (Looks looking) answer = LacksRoom answer
+MayLackRoom (Setting s) (Parses line) answer = LacksRoom answer
 MayLackRoom (Setting s) (Sets Start) answer = LacksRoom answer
 MayLackRoom (Setting s) (Sets line) answer = ⊥
 MayLackRoom (Setting s) (Does event) answer = LacksRoom answer
 MayLackRoom (Running l) (Fails why) answer = LacksRoom answer
 MayLackRoom (Running l) Nothing answer = ⊥
 MayLackRoom (Running l) (Looks looking) answer = LacksRoom answer
+MayLackRoom (Running l) (Parses line) answer = LacksRoom answer
 MayLackRoom (Running l) (Sets line) answer = LacksRoom answer
 MayLackRoom (Running l) (Does event) answer = LacksRoom answer
 MayLackRoom (Over k fault) asks answer = ⊥
@@ -62,7 +65,7 @@ abbrev pub Starts : Option ConfigFault → ℕ → Device → ℕ → SetUp → 
 Starts None blocks d n s answer new =
     (answer ≡ with_feed started_text) × (new ≡ Running (opening_layers s.configuration d))
 Starts (Some fault) blocks d n s answer new =
-    (answer ≡ with_feed (refused_text n fault (numbered_reason s blocks fault))) × (new ≡ Over n fault)
+    (answer ≡ with_feed (refused_text n fault (numbered_reason s blocks))) × (new ≡ Over n fault)
 
 -- a line of the grammar, that stands before `start` or is it
 abbrev pub SetsBy : ℕ → Device → ℕ → SetUp → Line → List ℕ → Standing → Type 0
@@ -75,6 +78,7 @@ abbrev pub Settles : ℕ → Device → ℕ → SetUp → Asked → List ℕ →
 Settles blocks d n s (Fails why) answer new = (answer ≡ with_feed (refusal n why)) × (new ≡ Setting s)
 Settles blocks d n s Nothing answer new = (answer ≡ with_feed (codes "ok")) × (new ≡ Setting s)
 Settles blocks d n s (Looks looking) answer new = (answer ≡ with_feed (early_text n looking)) × (new ≡ Setting s)
+Settles blocks d n s (Parses line) answer new = (answer ≡ with_feed (reading_text line)) × (new ≡ Setting s)
 Settles blocks d n s (Sets line) answer new = SetsBy blocks d n s line answer new
 Settles blocks d n s (Does event) answer new = (answer ≡ with_feed (refusal n BehindStart)) × (new ≡ Setting s)
 

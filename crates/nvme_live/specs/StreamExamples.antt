@@ -1,13 +1,9 @@
 -- A sink that tells all its calls, for worked examples: it is the list of them.
 use Rattle.std.specs.Prelude.{◌≡◌, Bool, List, [], ◌∷◌, ◌++◌}
-use Rattle.script_text.specs.Streams.{WriteCall}
+use Rattle.script_text.specs.Streams.{WriteCall, OutputCall, Wrote, Flushed}
 
-pub data Told : Type 0 where
-  Wrote : WriteCall → Told
-  Flushed : Bool → Told
-
-abbrev pub Writing : List Told → WriteCall → List Told → Type 0
+abbrev pub Writing : List OutputCall → WriteCall → List OutputCall → Type 0
 Writing old call new = new ≡ old ++ Wrote call ∷ []
 
-abbrev pub Flushing : List Told → Bool → List Told → Type 0
+abbrev pub Flushing : List OutputCall → Bool → List OutputCall → Type 0
 Flushing old done new = new ≡ old ++ Flushed done ∷ []

@@ -1,10 +1,9 @@
 -- The calls of a session's streams: what its lines are read from, one at a time, and what its answers are written to,
 -- each of which is flushed.
 use Rattle.std.specs.Prelude.{◌≡◌, ◌⊎◌, ℕ, Bool, true, false, List, [], Option, Result, Ok, Err}
-use Rattle.std.specs.declared.io.Error.{Error}
 use Rattle.std.specs.Io.KnownBytes.{Appends, IsAtEnd, Keeps}
 use Rattle.script_text.specs.Streams.{WriteCall}
-use Rattle.script_text.specs.Writing.{IsWritten}
+use Rattle.script_text.specs.Writing.{IsSent, Sending, Sent, Broken}
 use Rattle.nvme_program.specs.declared.fault.ScriptFault.{ScriptFault}
 use Rattle.nvme_program.specs.declared.fault.ScriptFault.TheVariants.{Syntax, Config, TooLong, NoMemory, Read, Write}
 use Rattle.nvme_live.specs.Saying.{Breaks}
@@ -16,12 +15,6 @@ pub data LineCall : Type 0 where
   Came : List ℕ → LineCall
   Ended : LineCall
   Failed : LineCall
-
--- What became of an answer: it was written whole and flushed; or a write or the flush failed, and nothing was called
--- behind that.
-pub data Sending : Type 0 where
-  Sent : List ℕ → Sending
-  Broken : List ℕ → Sending
 
 -- what a call of a source takes of known bytes
 abbrev pub TakesKnown : Option (List ℕ) → LineCall → Option (List ℕ) → Type 0
@@ -38,16 +31,7 @@ AddsKnown old (Broken answer) new = Breaks old new answer
 abbrev pub ReadsBy : {R : Type 0} → (R → LineCall → R → Type 0) → (R → Option (List ℕ)) → R → LineCall → R → Type 0
 ReadsBy read remaining old call new = read old call new × TakesKnown (remaining old) call (remaining new)
 
--- An answer was written by its writes and no others, each of all that was left of it, and then it was flushed; or it
--- stopped at the first of these calls that failed.
-abbrev pub IsSent : {W : Type 0} → (W → WriteCall → W → Type 0) → (W → Bool → W → Type 0) → W → Sending → W → Type 0
-IsSent {W} write flush old (Sent answer) new =
-    (written : W) × IsWritten {T = Unit {0}} {E = Error} write answer old (Ok tt) written × flush written true new
-IsSent {W} write flush old (Broken answer) new =
-    ((fault : Error) × IsWritten {T = Unit {0}} write answer old (Err fault) new)
-    ⊎ ((written : W) × IsWritten {T = Unit {0}} {E = Error} write answer old (Ok tt) written × flush written false new)
-
--- the same, with what it added to the bytes that the sink holds
+-- what became of an answer, with what it added to the bytes that the sink holds
 abbrev pub SendsBy : {W : Type 0} → (W → WriteCall → W → Type 0) → (W → Bool → W → Type 0) → (W → Option (List ℕ))
     → W → Sending → W → Type 0
 SendsBy write flush contents old sending new =

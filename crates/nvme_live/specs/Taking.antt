@@ -3,7 +3,7 @@ use Rattle.std.specs.Prelude.{◌≡◌, ◌≢◌, ◌⊎◌, ◌+◌, ◌<◌,
 use Rattle.std.specs.List.{All}
 use Rattle.std.specs.Io.KnownBytes.{Consumes, IsAtEnd, Keeps}
 use Rattle.script_text.specs.Lines.{text_lines}
-use Rattle.nvme_live.specs.Asking.{line_limit}
+use Rattle.live_text.specs.Asking.{line_limit}
 use Rattle.nvme_live.specs.declared.reading.Part.{Part}
 use Rattle.nvme_live.specs.declared.reading.Part.TheVariants.{Middle, Last, Nothing}
 

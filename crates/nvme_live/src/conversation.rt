@@ -11,17 +11,17 @@ ghost use Rattle.nvme_live.specs.Lives.{Rests};
 ghost use Rattle.nvme_live.specs.Standings.{Running};
 ghost use Rattle.nvme_live.specs.Streams.{ReadsBy, SendsBy};
 
-use crate::asking::asked_of;
 use crate::line_numbers::LineNumbers;
 use crate::rooms::Rooms;
 use crate::setting::{Settled, settle};
-use crate::streams::{FlushedSink, LineSource};
+use crate::streams::LineSource;
 use crate::turn::answer;
+use live_text::asked_of;
 use nvme_fleet::Fleet;
 use nvme_medium::Medium;
 use nvme_program::ScriptFault;
 use nvme_spec::Config;
-use script_text::Text;
+use script_text::{FlushedSink, Text};
 
 /// Answers the lines before the fleet is there, up to `start`, whose number is the answer; `None` at the end of the
 /// input.

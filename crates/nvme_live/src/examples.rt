@@ -9,12 +9,12 @@ ghost use Rattle.nvme_live.specs.Keeping.{is_kept};
 ghost use Rattle.live_views.specs.Showing.{bit_text, io_name};
 ghost use Rattle.nvme_live.specs.SetUps.{nothing_set_up, numbered_reason, set_by, with_line};
 ghost use Rattle.nvme_live.specs.Standings.{refused_text};
-ghost use Rattle.nvme_live.specs.StreamExamples.{Flushed, Flushing, Writing, Wrote};
-ghost use Rattle.nvme_live.specs.Streams.{Broken, IsSent, Sent};
+ghost use Rattle.nvme_live.specs.StreamExamples.{Flushing, Writing};
+ghost use Rattle.script_text.specs.Writing.{Broken, IsSent, Sent};
 ghost use Rattle.nvme_live.specs.Taking.{session_lines};
-ghost use Rattle.script_text.specs.Streams.{Writes};
+ghost use Rattle.script_text.specs.Streams.{Flushed, Writes, Wrote};
 
-use nvme_program::BrokenRule;
+use nvme_ns::BrokenRule;
 use nvme_spec::ConfigFault;
 
 /// A line feed ends a line, and the last line may lack it; behind the last line feed stands no line.
@@ -47,6 +47,7 @@ pub fn answers()
 pub fn kept_lines()
     ensures event { is_kept (codes "up 1") (codes "up 1 ok") ≡ true }
     ensures looks { is_kept (codes "?attached") (codes "attached") ≡ false }
+    ensures parses { is_kept (codes "?line up 1") (codes "line up 1") ≡ false }
     ensures refused { is_kept (codes "pu 1") (codes "! line 1 word 1: there is no line 'pu'; did you mean 'up'?") ≡ false }
 {}
 
@@ -60,14 +61,14 @@ pub fn configurations()
 {}
 
 /// Why `start` is refused: the fourth line of the session is at fault, and its second one is not.
-#[tactic(auto, unfolding(nvme_program::specs::Reasons::reason_of))]
+#[tactic(auto, unfolding(nvme_ns::specs::Refusals::refusal_of))]
 pub fn reasons()
     ensures size { numbered_reason
         (with_line 4 (with_line 2 nothing_set_up (Namespace (namespace 1 64 true))) (Namespace (namespace 3 70000 true)))
-        1024 ConfigFault.BadSize ≡ Some (4, BrokenRule.TooLarge 3 70000) }
+        1024 ≡ Some (4, BrokenRule.TooLarge 3 70000) }
     ensures identifiers { numbered_reason
         (with_line 4 (with_line 2 nothing_set_up (Namespace (namespace 1 64 true))) (Namespace (namespace 1 64 true)))
-        1024 ConfigFault.BadId ≡ Some (4, BrokenRule.RepeatedNsid 1) }
+        1024 ≡ Some (4, BrokenRule.RepeatedNsid 1) }
 {}
 
 /// What a refused `start` is answered.

@@ -7,8 +7,9 @@ ghost use Rattle.nvme_live.specs.SetUpLaws.{RefusalNamesALine, RunsWhereAccepted
 ghost use Rattle.nvme_live.specs.Streams.{ReadsBy, SendsBy};
 ghost use Rattle.nvme_live.specs.Taking.{LinesAreKnown};
 
-use crate::streams::{FlushedSink, LineSource};
+use crate::streams::LineSource;
 use nvme_medium::Medium;
+use script_text::FlushedSink;
 
 /// Of known bytes that are taken to their end the lines are those between the line feeds, and no others.
 pub fn lines_are_known()

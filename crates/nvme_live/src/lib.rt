@@ -1,7 +1,6 @@
 //! A session: a subsystem and its hosts, line by line. Each line is answered by exactly one, before the next is read.
 #![tactic(auto)]
 
-mod asking;
 mod conversation;
 mod examples;
 pub mod laws;
@@ -20,4 +19,4 @@ mod turn;
 
 pub use program::{run_in, run_program};
 pub use session::run_live;
-pub use streams::{FlushedSink, LineSource};
+pub use streams::LineSource;

@@ -5,8 +5,8 @@ ghost use Rattle.nvme_grammar.specs.Lent.{line_by_value};
 ghost use Rattle.nvme_live.specs.SetUps as spec;
 
 use nvme_grammar::Line;
-use nvme_program::{BrokenRule, ConfigReason, SetupLine};
-use nvme_spec::{Config, ConfigFault};
+use nvme_ns::{BrokenRule, SetupLine, refusal_of};
+use nvme_spec::Config;
 use std::alloc::{AllocError, Global};
 
 /// The most controllers of a configuration.
@@ -99,17 +99,16 @@ pub fn set(
     Ok(())
 }
 
-/// Why a configuration is refused with this fault over a medium of so many blocks: the number of the line that is at
-/// fault, and the rule that it breaks.
+/// Why a configuration is refused over a medium of so many blocks: the number of the line that is at fault, and the rule
+/// that it breaks.
 pub fn numbered_reason(
     config: &Config,
     numbers: &LineNumbers,
     blocks: u64,
-    fault: ConfigFault,
 ) -> Option<(u64, BrokenRule)>
-    ensures { result ≡ spec.numbered_reason (spec.set_up_of config.now numbers.now) blocks fault }
+    ensures { result ≡ spec.numbered_reason (spec.set_up_of config.now numbers.now) blocks }
 {
-    let reason = ConfigReason::of(config, blocks, fault)?;
+    let reason = refusal_of(config, blocks)?;
     let number = numbers.of(reason.line)?;
     Some((number, reason.rule))
 }

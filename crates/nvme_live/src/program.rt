@@ -12,6 +12,7 @@ use nvme_program::{
     Failure, HostFiles, Lent, Paths, Program, Ran, Reason, Runner, ScriptFault, System,
     launch_guarded, status_of,
 };
+use script_text::{FlushedSink, Source};
 use std::alloc::Global;
 use std::fs::File;
 use std::io::{Read, Write};
@@ -54,22 +55,22 @@ impl<'i, 'o, 'e, I, O, E> Model for Streams<'i, 'o, 'e, I, O, E> {
 }
 
 /// A session behind a script; without a named one behind none.
-impl<I: Read, O: Write, E: Write> Runner for Streams<'_, '_, '_, I, O, E> {
+impl<I: Read, O: FlushedSink, E: Write> Runner for Streams<'_, '_, '_, I, O, E> {
     ghost use Rattle.nvme_live.specs.ProgramLives.{lives_behind_scripts};
 
-    ghost links = { (lives_behind_scripts I.remaining O.contents).links };
+    ghost links = { (lives_behind_scripts I.remaining O.Sink O.flushes).links };
 
-    ghost ran = { (lives_behind_scripts I.remaining O.contents).ran };
+    ghost ran = { (lives_behind_scripts I.remaining O.Sink O.flushes).ran };
 
-    ghost ran_unnamed = { (lives_behind_scripts I.remaining O.contents).ran_unnamed };
+    ghost ran_unnamed = { (lives_behind_scripts I.remaining O.Sink O.flushes).ran_unnamed };
 
-    ghost tells = { (lives_behind_scripts I.remaining O.contents).tells };
+    ghost tells = { (lives_behind_scripts I.remaining O.Sink O.flushes).tells };
 
     fn program(&self) -> Program {
         NVMELIVE
     }
 
-    fn run<T: Read, M: Medium + Drop>(
+    fn run<T: Source, M: Medium + Drop>(
         &mut self,
         alloc: Global,
         paths: Paths<'_>,
@@ -109,14 +110,14 @@ impl<I: Read, O: Write, E: Write> Runner for Streams<'_, '_, '_, I, O, E> {
 }
 
 /// The program in a system, over its streams.
-fn launch_over<S: System, I: Read, O: Write, E: Write>(
+fn launch_over<S: System, I: Read, O: FlushedSink, E: Write>(
     alloc: Global,
     system: &mut S,
     streams: &mut Streams<'_, '_, '_, I, O, E>,
     words: &[String],
 ) -> Result<(), Failure>
-    ensures ends { SessionProgramEnds S.step S.Image.Medium ⟦<Cached<S::Image> as Medium>⟧ S.Script.remaining
-        I.remaining O.contents (map string_bytes words.now) system.old streams.old.input streams.old.output
+    ensures ends { SessionProgramEnds S.step S.Image.Medium ⟦<Cached<S::Image> as Medium>⟧ S.Script.Source
+        I.remaining O.Sink O.flushes (map string_bytes words.now) system.old streams.old.input streams.old.output
         (result_err result) system.new streams.new.input streams.new.output }
     ensures input { streams.new.input_name ≡ streams.old.input_name }
     ensures output { streams.new.output_name ≡ streams.old.output_name }
@@ -127,7 +128,7 @@ fn launch_over<S: System, I: Read, O: Write, E: Write>(
 /// The program in any system: which files it opens, in which order, and what ends it. Its words are those of
 /// `run_program`. For a failure one line goes to `errors`, and behind it a second, which gives the reason, where no
 /// answer gave it.
-pub fn run_in<S: System, I: Read, O: Write, E: Write>(
+pub fn run_in<S: System, I: Read, O: FlushedSink, E: Write>(
     alloc: Global,
     system: &mut S,
     words: &[String],
@@ -135,8 +136,8 @@ pub fn run_in<S: System, I: Read, O: Write, E: Write>(
     output: &mut O,
     errors: &mut E,
 ) -> Result<(), Failure>
-    ensures { SessionProgramEnds S.step S.Image.Medium ⟦<Cached<S::Image> as Medium>⟧ S.Script.remaining I.remaining
-        O.contents (map string_bytes words.now) system.old input.old output.old (result_err result) system.new
+    ensures { SessionProgramEnds S.step S.Image.Medium ⟦<Cached<S::Image> as Medium>⟧ S.Script.Source I.remaining
+        O.Sink O.flushes (map string_bytes words.now) system.old input.old output.old (result_err result) system.new
         input.new output.new }
 {
     let mut streams = Streams {
@@ -157,7 +158,7 @@ pub fn run_in<S: System, I: Read, O: Write, E: Write>(
 /// its exit status: 0 at the end of the input; 1 a fault of the script, or a refused configuration; 2 a file or stream
 /// that can't be opened, read or written; 3 a refused command line; 4 out of memory.
 #[tactic(auto, using(crate::proofs::Launching::refused_status, crate::proofs::Launching::taken_status))]
-pub fn run_program<R: Files<File = File> + AllocGlobal, I: Read, O: Write, E: Write>(
+pub fn run_program<R: Files<File = File> + AllocGlobal, I: Read, O: FlushedSink, E: Write>(
     rt: &R,
     words: &[String],
     input: &mut I,
@@ -166,7 +167,7 @@ pub fn run_program<R: Files<File = File> + AllocGlobal, I: Read, O: Write, E: Wr
 ) -> u8
     ensures last { result ≤ 4 }
     ensures run { SessionProgramExits ⟦<HostFiles<'static, R> as System>⟧.step ⟦<FileMedium<HostFile> as Medium>⟧
-        ⟦<Cached<FileMedium<HostFile>> as Medium>⟧ ⟦<File as Read>⟧.remaining I.remaining O.contents
+        ⟦<Cached<FileMedium<HostFile>> as Medium>⟧ ⟦<File as Source>⟧ I.remaining O.Sink O.flushes
         (map string_bytes words.now) input.old output.old result input.new output.new }
     ensures refused { word_fault (behind_option (map string_bytes words.now)) ≢ None → result ≡ 3 }
     ensures taken { word_fault (behind_option (map string_bytes words.now)) ≡ None → result ≢ 3 }

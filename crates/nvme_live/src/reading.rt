@@ -5,7 +5,7 @@ ghost use Rattle.std.specs.List.{prefix_len};
 ghost use Rattle.script_text.specs.Lines.{is_of_line};
 ghost use Rattle.nvme_live.specs.Taking.{IsCut, ReadsLine, TakesFront, TakesPart, kept};
 
-use crate::asking::LINE_LIMIT;
+use live_text::LINE_LIMIT;
 use std::alloc::AllocError;
 use std::io;
 use std::io::{BufRead, ErrorKind};

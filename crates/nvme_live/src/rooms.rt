@@ -3,7 +3,7 @@
 
 ghost use Rattle.std.specs.Prelude.{◌≡◌, IfOk, length};
 
-use crate::asking::LINE_LIMIT;
+use live_text::LINE_LIMIT;
 use script_text::Text;
 use std::alloc::{AllocError, Global};
 

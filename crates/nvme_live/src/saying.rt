@@ -4,9 +4,8 @@ ghost use Rattle.script_text.specs.Pages.{Adds, most_text};
 ghost use Rattle.nvme_live.specs.Saying.{LacksRoom, with_feed};
 ghost use Rattle.nvme_live.specs.Streams.{Says, SendsBy};
 
-use crate::streams::FlushedSink;
 use nvme_program::ScriptFault;
-use script_text::{NoRoom, Page, Spell, Text, write_whole};
+use script_text::{FlushedSink, NoRoom, Page, Spell, Text, write_whole};
 
 /// Writes bytes whole, and flushes them.
 pub fn send<W: FlushedSink>(writer: &mut W, bytes: &[u8]) -> Result<(), ScriptFault>

@@ -17,20 +17,22 @@ ghost use Rattle.nvme_live.specs.Lives.{Fails, FailsBehindReading, FailsFirst, L
 ghost use Rattle.nvme_live.specs.Saying.{with_feed};
 ghost use Rattle.nvme_live.specs.SetUps.{HasSetUpRoom, set_up_of};
 ghost use Rattle.nvme_live.specs.Standings.{Setting, reason_text, refused_text, started_text};
-ghost use Rattle.nvme_live.specs.Streams.{ReadsBy, SendsBy, Sent};
+ghost use Rattle.script_text.specs.Writing.{Sent};
+ghost use Rattle.nvme_live.specs.Streams.{ReadsBy, SendsBy};
 
 use crate::conversation::{run_on, set_up};
 use crate::line_numbers::{LineNumbers, make_room, numbered_reason};
 use crate::opening::{Opening, prepare};
 use crate::rooms::Rooms;
 use crate::saying::{say, send};
-use crate::streams::{FlushedSink, LineSource};
+use crate::streams::LineSource;
 use nvme_fleet::{Fleet, NewFault};
 use nvme_medium::Medium;
-use nvme_program::{BrokenRule, ScriptFault, config_fault_name};
+use nvme_ns::BrokenRule;
+use nvme_program::{ScriptFault, config_fault_name, sentence_of};
 use nvme_script::run_events;
 use nvme_spec::{Config, ConfigFault};
-use script_text::{NoRoom, Page, Source, Spell, Text, put_both, put_labelled};
+use script_text::{FlushedSink, NoRoom, Page, Source, Spell, Text, put_both, put_labelled};
 use std::alloc::Global;
 use std::io;
 
@@ -62,7 +64,7 @@ fn put_reason<P: Page>(page: &mut P, reason: Option<(u64, BrokenRule)>) -> Resul
     };
     put_labelled(page, "; line ", line)?;
     page.put_str(": ")?;
-    rule.spell(page)
+    sentence_of(rule).spell(page)
 }
 
 /// Answers `start`, whose fleet was refused for this reason. `NoMemory` is not answered.
@@ -118,7 +120,7 @@ fn start<W: FlushedSink, M: Medium>(
             Err(unsaid) => Err((unsaid, fleet.into_medium())),
         },
         Err(NewFault { fault, medium }) => {
-            let reason = numbered_reason(config, numbers, medium.blocks(), fault);
+            let reason = numbered_reason(config, numbers, medium.blocks());
             let answered = refuse_start(number, fault, reason, text, writer);
             Err((answered, medium))
         }

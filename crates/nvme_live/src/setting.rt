@@ -2,24 +2,23 @@
 
 ghost use Rattle.std.specs.Prelude.{◌≡◌, IfErr, IfOk, Err, Ok};
 ghost use Rattle.nvme_grammar.specs.Lent.{line_by_value};
-ghost use Rattle.nvme_live.specs.Asking.{asked_by_value};
-ghost use Rattle.nvme_live.specs.declared.asking.Asked.TheVariants.{Sets};
+ghost use Rattle.live_text.specs.Asking.{asked_by_value};
+ghost use Rattle.live_text.specs.declared.asking.Asked.TheVariants.{Sets};
 ghost use Rattle.nvme_live.specs.Settling.{Comes};
 ghost use Rattle.nvme_live.specs.SetUps.{HasSetUpRoom, set_up_of};
 ghost use Rattle.nvme_live.specs.Streams.{SendsBy};
 ghost use Rattle.nvme_live.specs.declared.setting.Settled.TheVariants.{Answered as IsAnswered};
 
-use crate::asking::Asked;
 use crate::line_numbers::{LineNumbers, set};
 use crate::saying::{say, send};
-use crate::streams::FlushedSink;
 use crate::turn::refuse;
-use live_text::Why;
+use live_text::{Asked, Why};
 use live_views::shown_early;
 use nvme_grammar::Line;
+use nvme_lines::Reading;
 use nvme_program::ScriptFault;
 use nvme_spec::Config;
-use script_text::Text;
+use script_text::{FlushedSink, Text};
 
 /// What a line before `start` came to.
 #[derive(Clone, Copy, Debug, PartialEq, Eq)]
@@ -82,6 +81,7 @@ pub fn settle<W: FlushedSink>(
         Asked::Fails(why) => answered(refuse(number, why, text, writer)),
         Asked::Nothing => answered(send(writer, b"ok\n")),
         Asked::Looks(looking) => answered(say(writer, text, &shown_early(number, looking))),
+        Asked::Parses(line) => answered(say(writer, text, &Reading(line))),
         Asked::Does(_) => answered(refuse(number, Why::BehindStart, text, writer)),
     }
 }

@@ -1,13 +1,11 @@
-//! What a session is read from and written to: streams that tell each of their calls.
+//! What a session is read from: a stream that tells each of its calls.
 
-ghost use Rattle.std.specs.Prelude.{Bool, ℕ, List, Option, IfOk, IfErr, is_ok};
-ghost use Rattle.std.specs.Io.KnownBytes.{Keeps};
+ghost use Rattle.std.specs.Prelude.{ℕ, List, Option, IfOk, IfErr};
 ghost use Rattle.nvme_live.specs.Streams.{Failed, GivesLine, LineCall, ReadsBy};
 
 use crate::reading::read_line;
-use script_text::Sink;
 use std::io;
-use std::io::{BufRead, Write};
+use std::io::BufRead;
 
 /// A source of lines: each `BufRead` is one. For contracts it tells by `step` which states may follow a call, with the
 /// line that came, and by `remaining` which bytes it has left, where these are known.
@@ -36,24 +34,5 @@ impl<R: BufRead> LineSource for R {
 
     fn take_line(&mut self, line: &mut Vec<u8>) -> io::Result<bool> {
         read_line(self, line)
-    }
-}
-
-/// A sink of answers, each of which is flushed: each `Write` is one. For contracts it tells by `flushes` which states may
-/// follow a flush that succeeded, and one that failed.
-pub trait FlushedSink: Sink {
-    ghost flushes: { Self → Bool → Self → Type 0 };
-
-    /// Passes on all that was written.
-    fn flush_all(&mut self) -> io::Result<()>
-        ensures step { flushes self.old (is_ok result) self.new }
-        ensures bytes { Keeps (Self.contents self.old) (Self.contents self.new) };
-}
-
-impl<W: Write> FlushedSink for W {
-    ghost flushes = { λ old done new. Keeps (W.Write.contents old) (W.Write.contents new) };
-
-    fn flush_all(&mut self) -> io::Result<()> {
-        self.flush()
     }
 }

@@ -4,7 +4,7 @@ ghost use Rattle.std.specs.Prelude.{◌≡◌, length};
 ghost use Rattle.live_text.specs.Faults.{refusal, why_by_value};
 ghost use Rattle.nvme_grammar.specs.Lent.{event_by_value};
 ghost use Rattle.nvme_fleet.specs.FleetStates.{layers_of};
-ghost use Rattle.nvme_live.specs.Asking.{asked_by_value};
+ghost use Rattle.live_text.specs.Asking.{asked_by_value};
 ghost use Rattle.nvme_subsys.specs.OverMedium.{over};
 ghost use Rattle.nvme_live.specs.Answers.{Answered, place_of};
 ghost use Rattle.nvme_live.specs.AnswerCalls.{AnswersLineBy, HappensBy, ShowsBlocksBy, ShowsBy};
@@ -12,18 +12,17 @@ ghost use Rattle.nvme_live.specs.Saying.{LacksRoom, with_feed};
 ghost use Rattle.nvme_live.specs.Standings.{MayLackRoom, Running};
 ghost use Rattle.nvme_live.specs.Streams.{Says, SendsBy};
 
-use crate::asking::Asked;
 use crate::saying::{say, send};
 use crate::showing::shown_of;
-use crate::streams::FlushedSink;
-use live_text::{Looking, Refusal, Why};
-use live_views::BlocksText;
+use live_text::{Asked, Looking, Refusal, Why};
+use live_views::blocks_shown;
 use nvme_fleet::{Fleet, FleetEvent};
+use nvme_lines::Reading;
 use nvme_medium::Medium;
 use nvme_program::ScriptFault;
 use nvme_spec::Marks;
 use nvme_transcript::TranscriptLine;
-use script_text::Text;
+use script_text::{FlushedSink, Text};
 
 /// Answers a line that is not carried out.
 #[tactic(auto, using(live_text::proofs::ByValue::refusal_by_value))]
@@ -81,20 +80,8 @@ fn look_at_blocks<W: FlushedSink, M: Medium>(
         return refuse(number, Why::OutsideNamespace, text, writer);
     }
     let bytes = &mut blocks[..512 * count as usize];
-    match fleet.read_blocks(nsid, slba, bytes) {
-        Some(Ok(())) => say(
-            writer,
-            text,
-            &BlocksText {
-                nsid,
-                slba,
-                count,
-                bytes,
-            },
-        ),
-        Some(Err(_)) => refuse(number, Why::MediumFailed, text, writer),
-        None => refuse(number, Why::OutsideNamespace, text, writer),
-    }
+    let looked = fleet.read_blocks(nsid, slba, bytes);
+    say(writer, text, &blocks_shown(number, place, looked, bytes))
 }
 
 /// Answers a looking line.
@@ -139,6 +126,7 @@ pub fn answer<W: FlushedSink, M: Medium>(
         Asked::Fails(why) => refuse(number, why, text, writer),
         Asked::Nothing => send(writer, b"ok\n"),
         Asked::Looks(looking) => look(number, looking, fleet, blocks, text, writer),
+        Asked::Parses(line) => say(writer, text, &Reading(line)),
         Asked::Sets(_) => refuse(number, Why::BeforeStart, text, writer),
         Asked::Does(event) => apply(event, fleet, text, writer),
     }

@@ -3,4 +3,3 @@ pub mod ProgramEnds
 pub mod Guarded
 mod CommandLine
 pub mod Left
-pub mod Reasons

@@ -5,9 +5,9 @@ use Rattle.nvme_spec.specs.declared.config.ConfigFault.{ConfigFault}
 use Rattle.nvme_spec.specs.declared.config.ConfigFault.TheVariants.{BadId, BadSize, TooMany, DoesNotFit, NoMemory as NoRoom}
 use Rattle.nvme_grammar.specs.FaultTexts.{fault_text}
 use Rattle.nvme_grammar.specs.declared.fault.LineFault.{LineFault}
-use Rattle.nvme_program.specs.Reasons.{rule_text}
-use Rattle.nvme_program.specs.declared.configuration.BrokenRule.{BrokenRule}
-use Rattle.nvme_program.specs.declared.configuration.BrokenRule.TheVariants as broken
+use Rattle.nvme_program.specs.RuleTexts.{rule_text}
+use Rattle.nvme_ns.specs.declared.refusal.BrokenRule.{BrokenRule}
+use Rattle.nvme_ns.specs.declared.refusal.BrokenRule.TheVariants as broken
 use Rattle.nvme_program.specs.declared.fault.ScriptFault.{ScriptFault}
 use Rattle.nvme_program.specs.declared.fault.ScriptFault.TheVariants.{Syntax, Config, TooLong, NoMemory, Read, Write}
 use Rattle.nvme_program.specs.declared.failure.Failure.{Failure}

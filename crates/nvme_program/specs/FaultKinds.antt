@@ -16,7 +16,7 @@ of_reading reading.NoMemory = NoMemory
 of_reading reading.Read = Read
 
 abbrev pub of_grammar : ParseFault → ScriptFault
-of_grammar (grammar.Syntax n) = Syntax n
+of_grammar (grammar.Syntax n fault) = Syntax n
 of_grammar grammar.NoMemory = NoMemory
 
 -- what a fleet's refusal is as a fault of the script: its configuration is refused at the line `start`

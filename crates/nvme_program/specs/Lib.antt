@@ -9,6 +9,5 @@ pub mod SystemCalls
 pub mod Programs
 pub mod Streams
 pub mod Media
-pub mod Reasons
-pub mod ReasonLaws
+pub mod RuleTexts
 pub mod SetupLines

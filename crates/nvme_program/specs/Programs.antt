@@ -8,6 +8,7 @@ use Rattle.nvme_medium.specs.contracts.memory.MemMediumMedium.TheImpl as in_memo
 use Rattle.nvme_medium.specs.Caches.{inner_of, blocks_kept, capacity_of}
 use Rattle.nvme_medium.specs.Memory.{memory_bytes}
 use Rattle.nvme_grammar.specs.Beginnings.{begins_script}
+use Rattle.script_text.specs.declared.stream.Source as source
 use Rattle.nvme_program.specs.CommandLines.{word_fault, image_in, script_in, means_image, behind_option}
 use Rattle.nvme_program.specs.Failures.{IsOfFile, IsOfRun}
 use Rattle.nvme_program.specs.Media.{zero_blocks}
@@ -35,7 +36,7 @@ judged (Err failure) = Some failure
 -- known of an open image, of one behind a cache, and of an open script; of the runner what a run does, and what is left of
 -- it as it tells a failure.
 module _ {S I T R : Type 0} (step : S → SystemCall I T → S → Type 0) (image : medium.Ghosts I)
-    (behind_cache : medium.Ghosts (Cached I image)) (remaining : T → Option (List ℕ)) (runs : runner.Ghosts R) where
+    (behind_cache : medium.Ghosts (Cached I image)) (reads : source.Ghosts T) (runs : runner.Ghosts R) where
   -- a failure is told, and is the end
   abbrev pub Tells : Failure → R → Option Failure → R → Type 0
   Tells failure before end after = (end ≡ Some failure) × runs.tells before after
@@ -46,7 +47,7 @@ module _ {S I T R : Type 0} (step : S → SystemCall I T → S → Type 0) (imag
   EndsBehindScript {M} calls (Err failure) old left before end after =
       IsOfFile failure × (left ≡ old) × Tells failure before end after
   EndsBehindScript {M} calls (Ok script) old left before end after =
-      (read : T) × runs.ran T M remaining calls script read old left before end after × IsOfRun end
+      (read : T) × runs.ran T M reads calls script read old left before end after × IsOfRun end
 
   -- The script is opened, and run over a medium, which is left so; where none is named, the runner knows what to run.
   abbrev pub EndsFromScript : {M : Type 0} → medium.Ghosts M → Option (List ℕ)

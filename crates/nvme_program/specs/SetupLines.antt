@@ -3,8 +3,8 @@ use Rattle.std.specs.Prelude.{ℕ, ◌+◌, Bool, false, is_some, if◌then◌el
 use Rattle.nvme_grammar.specs.Line.{line_at}
 use Rattle.nvme_grammar.specs.Script.{controller_in, namespace_in, attachment_in}
 use Rattle.nvme_grammar.specs.declared.line.Line.{Line}
-use Rattle.nvme_program.specs.declared.configuration.SetupLine.{SetupLine}
-use Rattle.nvme_program.specs.declared.configuration.SetupLine.TheVariants.{Controller, Namespace, Attached}
+use Rattle.nvme_ns.specs.declared.refusal.SetupLine.{SetupLine}
+use Rattle.nvme_ns.specs.declared.refusal.SetupLine.TheVariants.{Controller, Namespace, Attached}
 
 -- whether what a line says is of the kind of this one
 abbrev pub is_of_kind : SetupLine → Option Line → Bool

@@ -97,7 +97,9 @@ impl From<FileFault> for Failure {
 
     fn from(fault: FileFault) -> Failure {
         match fault {
-            FileFault::NoFile | FileFault::NoLength => Failure::File,
+            FileFault::NoFile | FileFault::InUse | FileFault::NoLock | FileFault::NoLength => {
+                Failure::File
+            }
             FileFault::NoMemory => Failure::Memory,
         }
     }

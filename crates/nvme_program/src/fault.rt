@@ -41,12 +41,12 @@ impl From<ReadFault> for ScriptFault {
     }
 }
 
-impl From<ParseFault> for ScriptFault {
+impl From<ParseFault<'_>> for ScriptFault {
     ghost from_gives = { λ fault e. e ≡ of_grammar fault };
 
-    fn from(fault: ParseFault) -> ScriptFault {
+    fn from(fault: ParseFault<'_>) -> ScriptFault {
         match fault {
-            ParseFault::Syntax(line) => ScriptFault::Syntax(line),
+            ParseFault::Syntax(line, _) => ScriptFault::Syntax(line),
             ParseFault::NoMemory => ScriptFault::NoMemory,
         }
     }

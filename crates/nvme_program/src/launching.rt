@@ -53,7 +53,7 @@ fn run_named<S: System, R: Runner, M: Medium + Drop>(
     medium: M,
 ) -> Ran<M>
     ensures ends { EndsFromScript S.step S.Image.Medium ⟦<Cached<S::Image> as Medium>⟧
-        S.Script.remaining R.Runner M.Medium
+        S.Script.Source R.Runner M.Medium
         (option_map (λ path. path.now) paths.entry.script) medium result.medium system.old runner.old
         (result_err result.outcome) system.new runner.new }
     ensures links { R.links runner.new ≡ R.links runner.old }
@@ -79,7 +79,7 @@ fn run_open_image<S: System, R: Runner>(
     paths: Paths<'_>,
 ) -> Result<(), Failure>
     ensures ends { EndsBehindImage S.step S.Image.Medium ⟦<Cached<S::Image> as Medium>⟧
-        S.Script.remaining R.Runner (Ok image)
+        S.Script.Source R.Runner (Ok image)
         (option_map (λ path. path.now) paths.entry.script) system.old runner.old (result_err result) system.new
         runner.new }
     ensures links { R.links runner.new ≡ R.links runner.old }
@@ -106,12 +106,12 @@ fn run_image<S: System, R: Runner>(
     paths: Paths<'_>,
 ) -> Result<(), Failure>
     ensures ends { EndsFromImage S.step S.Image.Medium ⟦<Cached<S::Image> as Medium>⟧
-        S.Script.remaining R.Runner (Some image.now)
+        S.Script.Source R.Runner (Some image.now)
         (option_map (λ path. path.now) paths.entry.script) system.old runner.old (result_err result) system.new
         runner.new }
     ensures links { R.links runner.new ≡ R.links runner.old }
 {
-    match system.open_image(image) {
+    match system.open_image(alloc, image) {
         Ok(opened) => run_open_image(alloc, system, runner, opened, paths),
         Err(unopened) => Err(refuse_file(runner, &unopened, image, AS_IMAGE)),
     }
@@ -125,7 +125,7 @@ fn run_scratch<S: System, R: Runner>(
     paths: Paths<'_>,
 ) -> Result<(), Failure>
     ensures ends { EndsFromImage S.step S.Image.Medium ⟦<Cached<S::Image> as Medium>⟧
-        S.Script.remaining R.Runner None
+        S.Script.Source R.Runner None
         (option_map (λ path. path.now) paths.entry.script) system.old runner.old (result_err result) system.new
         runner.new }
     ensures links { R.links runner.new ≡ R.links runner.old }
@@ -148,7 +148,7 @@ pub fn launch<S: System, R: Runner>(
     words: &[String],
 ) -> Result<(), Failure>
     ensures ends { ProgramEnds S.step S.Image.Medium ⟦<Cached<S::Image> as Medium>⟧
-        S.Script.remaining R.Runner (map string_bytes words.now) system.old
+        S.Script.Source R.Runner (map string_bytes words.now) system.old
         runner.old (result_err result) system.new runner.new }
     ensures links { R.links runner.new ≡ R.links runner.old }
 {
@@ -172,7 +172,7 @@ fn run_guarded<S: System, R: Runner>(
     paths: Paths<'_>,
 ) -> Result<(), Failure>
     ensures ends { EndsGuarded S.step S.Image.Medium ⟦<Cached<S::Image> as Medium>⟧
-        S.Script.remaining R.Runner is_meant
+        S.Script.Source R.Runner is_meant
         (option_map (λ path. path.now) paths.entry.image) (option_map (λ path. path.now) paths.entry.script) system.old
         runner.old (result_err result) system.new runner.new }
     ensures links { R.links runner.new ≡ R.links runner.old }
@@ -203,7 +203,7 @@ pub fn launch_guarded<S: System, R: Runner>(
     words: &[String],
 ) -> Result<(), Failure>
     ensures ends { GuardedEnds S.step S.Image.Medium ⟦<Cached<S::Image> as Medium>⟧
-        S.Script.remaining R.Runner (map string_bytes words.now) system.old
+        S.Script.Source R.Runner (map string_bytes words.now) system.old
         runner.old (result_err result) system.new runner.new }
     ensures links { R.links runner.new ≡ R.links runner.old }
 {

@@ -3,13 +3,12 @@
 #![tactic(auto)]
 
 mod command_line;
-mod configuration;
 mod examples;
 mod failure;
 mod fault;
+mod holder;
 mod judging;
 mod launching;
-pub mod laws;
 mod lent;
 mod media;
 mod placed;
@@ -17,13 +16,14 @@ mod process;
 mod reason;
 mod running;
 mod sentence;
+mod setup_lines;
 mod system;
 mod telling;
 
 pub use command_line::{Paths, WordFault, behind_option, means_image, paths_of, refused_word};
-pub use configuration::{BrokenRule, ConfigReason, SetupLine};
 pub use failure::{Failure, status_of};
 pub use fault::{ScriptFault, config_fault_name};
+pub use holder::Holder;
 pub use judging::judge_image;
 pub use launching::{launch, launch_guarded};
 pub use lent::Lent;
@@ -32,5 +32,7 @@ pub use placed::{PlacedFault, PlacedRule};
 pub use process::{command_words, hold_stream};
 pub use reason::{Reason, USAGE};
 pub use running::{Ran, Runner};
+pub use sentence::{Sentence, sentence_of};
+pub use setup_lines::number_in;
 pub use system::{Cause, HostFiles, System, Unopened};
 pub use telling::Program;

@@ -3,8 +3,9 @@
 ghost use Rattle.std.specs.Prelude.{◌≡◌, [], Some, codes, true, false};
 ghost use Rattle.nvme_program.specs.FailureTexts.{config_reason_text, line_reason_text, room_text};
 
-use crate::configuration::BrokenRule;
+use crate::sentence::sentence_of;
 use nvme_grammar::LineFault;
+use nvme_ns::BrokenRule;
 use std::fmt;
 
 /// Why a line outside the grammar is refused: its number, from 1, and its fault.
@@ -35,8 +36,9 @@ impl fmt::Display for PlacedRule {
     ghost output = { λ it. Some (config_reason_text it.line it.rule it.in_memory) };
 
     fn fmt<W: fmt::Write>(&self, f: &mut fmt::Formatter<W>) -> fmt::Result {
+        let rule = sentence_of(self.rule);
         let room = RoomText(self.rule, self.in_memory);
-        write!(f, "{}:1: {}{}", self.line, self.rule, room)
+        write!(f, "{}:1: {rule}{room}", self.line)
     }
 }
 

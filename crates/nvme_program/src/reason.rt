@@ -1,5 +1,6 @@
 //! What the program tells beside the text of a failure: one line, which gives its reason.
 
+use crate::holder::Holder;
 use crate::placed::{PlacedFault, PlacedRule};
 use std::{fmt, io};
 
@@ -31,6 +32,15 @@ pub enum Reason<'p, 't> {
     NoImage {
         path: &'p str,
     },
+    /// An image whose lock another program holds: which one, if that is known.
+    InUse {
+        path: &'p str,
+        holder: &'t Option<Holder>,
+    },
+    /// An image that the system can't lock.
+    Unlocked {
+        path: &'p str,
+    },
     /// A path that is a script, and was to be the image.
     IsScript {
         path: &'p str,
@@ -59,9 +69,10 @@ pub enum Reason<'p, 't> {
         path: Option<&'p str>,
         rule: PlacedRule,
     },
-    /// An image without a block.
+    /// An image without a block, and the script that was to run over it: that file itself, if none is named.
     NoBlock {
         path: &'p str,
+        script: &'p str,
     },
 }
 
@@ -83,6 +94,25 @@ impl fmt::Display for ScriptName<'_> {
             None => write!(f, "standard input"),
         }
     }
+}
+
+/// Writes a path, and what is said of it.
+fn say<W: fmt::Write>(f: &mut fmt::Formatter<W>, path: &str, said: &str) -> fmt::Result {
+    write!(f, "'{}' {said}", path.escape_debug())
+}
+
+/// Writes who holds the lock of an image.
+fn say_in_use<W: fmt::Write>(
+    f: &mut fmt::Formatter<W>,
+    path: &str,
+    holder: &Option<Holder>,
+) -> fmt::Result {
+    say(f, path, "is in use: ")?;
+    match holder {
+        Some(holder) => write!(f, "{holder}")?,
+        None => write!(f, "another program")?,
+    }
+    write!(f, " holds its lock; --wait waits for it")
 }
 
 impl fmt::Display for Reason<'_, '_> {
@@ -115,11 +145,9 @@ impl fmt::Display for Reason<'_, '_> {
                 "'{}' can't be opened {purpose}: {error}",
                 path.escape_debug()
             ),
-            Reason::NoImage { path } => write!(
-                f,
-                "'{}' is no regular file, as an image has to be",
-                path.escape_debug()
-            ),
+            Reason::NoImage { path } => say(f, path, "is no regular file, as an image has to be"),
+            Reason::InUse { path, holder } => say_in_use(f, path, holder),
+            Reason::Unlocked { path } => say(f, path, "can't be locked, as an image has to be"),
             Reason::IsScript { path } => write!(
                 f,
                 "'{}' is a script, by its first line, and not an image; to use it as the image, put --image before it",
@@ -139,11 +167,11 @@ impl fmt::Display for Reason<'_, '_> {
                 path.escape_debug()
             ),
             Reason::Config { path, rule } => write!(f, "{}:{rule}", ScriptName(*path)),
-            Reason::NoBlock { path } => write!(
+            Reason::NoBlock { path, script } => write!(
                 f,
                 "'{}' has no whole block; to run a script over zeros in memory: ./nvmesim - {}",
                 path.escape_debug(),
-                path.escape_debug()
+                script.escape_debug()
             ),
         }
     }

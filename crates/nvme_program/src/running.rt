@@ -1,9 +1,10 @@
 //! What a program runs once its files are open.
 
-ghost use Rattle.std.specs.Prelude.{◌≡◌, ℕ, List, Option};
+ghost use Rattle.std.specs.Prelude.{◌≡◌, List, Option};
 ghost use Rattle.std.specs.Borrow.{GName};
 ghost use Rattle.std.specs.Result.{result_err};
 ghost use Rattle.nvme_medium.specs.declared.medium.Medium.{Ghosts};
+ghost use Rattle.script_text.specs.declared.stream.Source.{Ghosts as SourceGhosts};
 ghost use Rattle.nvme_program.specs.Failures.{IsOfRun};
 ghost use Rattle.nvme_program.specs.declared.failure.Failure.{Failure};
 
@@ -12,8 +13,8 @@ use crate::failure::Failure;
 use crate::reason::Reason;
 use crate::telling::Program;
 use nvme_medium::Medium;
+use script_text::Source;
 use std::alloc::Global;
-use std::io::Read;
 
 /// What a run came to, and its medium as the run left it.
 #[derive(Drop)]
@@ -29,8 +30,8 @@ pub trait Runner {
     ghost links: { Self → List GName };
 
     /// What a run with a named script leaves of that, of the medium and of the runner, and what ended it. Of the script
-    /// it is known what is left to be read.
-    ghost ran: { (T : Type 0) → (M : Type 0) → (T → Option (List ℕ)) → Ghosts M → T → T → M → M → Self
+    /// it is known which states may follow a read, and what is left to be read.
+    ghost ran: { (T : Type 0) → (M : Type 0) → SourceGhosts T → Ghosts M → T → T → M → M → Self
         → Option Failure → Self → Type 0 };
 
     /// The same where no script is named.
@@ -43,7 +44,7 @@ pub trait Runner {
     fn program(&self) -> Program;
 
     /// Runs over a medium, with the script that the command line names.
-    fn run<T: Read, M: Medium + Drop>(
+    fn run<T: Source, M: Medium + Drop>(
         &mut self,
         alloc: Global,
         paths: Paths<'_>,
@@ -51,7 +52,7 @@ pub trait Runner {
         medium: M,
     ) -> Ran<M>
         ensures end { IsOfRun (result_err result.outcome) }
-        ensures ran { ran T M T.remaining M.Medium script.old script.new medium result.medium self.old
+        ensures ran { ran T M T.Source M.Medium script.old script.new medium result.medium self.old
             (result_err result.outcome) self.new }
         ensures links { links self.new ≡ links self.old };
 

@@ -2,10 +2,10 @@
 
 ghost use Rattle.std.specs.Prelude.{◌≡◌, ◌++◌, Some, codes};
 ghost use Rattle.std.specs.Fmt.{decimal};
-ghost use Rattle.nvme_program.specs.Reasons.{rule_text, sentence_text};
-ghost use Rattle.nvme_program.specs.declared.configuration.BrokenRule.TheVariants as broken;
+ghost use Rattle.nvme_program.specs.RuleTexts.{rule_text, sentence_text};
+ghost use Rattle.nvme_ns.specs.declared.refusal.BrokenRule.TheVariants as broken;
 
-use crate::configuration::BrokenRule;
+use nvme_ns::BrokenRule;
 use script_text::{NoRoom, Page, Spell, put_labelled};
 use std::fmt;
 
@@ -71,7 +71,7 @@ fn of_blocks(nsid: u32, said: &'static str, blocks: u64, end: &'static str) -> S
     Sentence::Two("namespace ", u64::from(nsid), said, blocks, end)
 }
 
-#[tactic(auto, unfolding(crate::specs::Reasons::rule_text))]
+#[tactic(auto, unfolding(crate::specs::RuleTexts::rule_text))]
 fn misnumbered(k: usize, cntlid: u16) -> Sentence
     ensures { sentence_text result ≡ rule_text (broken.Misnumbered k cntlid) }
 {
@@ -81,7 +81,7 @@ fn misnumbered(k: usize, cntlid: u16) -> Sentence
     Sentence::Two(front, k as u64, said, u64::from(cntlid), end)
 }
 
-#[tactic(auto, unfolding(crate::specs::Reasons::rule_text))]
+#[tactic(auto, unfolding(crate::specs::RuleTexts::rule_text))]
 fn repeated_attachment(cntlid: u16, nsid: u32) -> Sentence
     ensures { sentence_text result ≡ rule_text (broken.RepeatedAttachment cntlid nsid) }
 {
@@ -95,7 +95,7 @@ fn repeated_attachment(cntlid: u16, nsid: u32) -> Sentence
     )
 }
 
-#[tactic(auto, unfolding(crate::specs::Reasons::rule_text))]
+#[tactic(auto, unfolding(crate::specs::RuleTexts::rule_text))]
 fn not_shared(cntlid: u16, nsid: u32) -> Sentence
     ensures { sentence_text result ≡ rule_text (broken.NotShared cntlid nsid) }
 {
@@ -104,57 +104,36 @@ fn not_shared(cntlid: u16, nsid: u32) -> Sentence
     Sentence::Two("namespace ", u64::from(nsid), said, u64::from(cntlid), end)
 }
 
-impl BrokenRule {
-    /// The sentence that says it.
-    #[tactic(auto, unfolding(crate::specs::Reasons::rule_text))]
-    fn sentence(self) -> Sentence
-        ensures { sentence_text result ≡ rule_text self }
-    {
-        match self {
-            BrokenRule::TooManyControllers => {
-                Sentence::Plain("this is controller 17, and 16 is the most")
-            }
-            BrokenRule::TooManyNamespaces => {
-                Sentence::Plain("this is the ninth namespace, and 8 is the most")
-            }
-            BrokenRule::TooManyAttachments => {
-                Sentence::Plain("this is attachment 129, and 128 is the most")
-            }
-            BrokenRule::Misnumbered(k, cntlid) => misnumbered(k, cntlid),
-            BrokenRule::NoHost(cntlid) => of_controller(
-                cntlid,
-                " belongs to host 0, which is none",
-            ),
-            BrokenRule::ForeignNsid(nsid) => of_namespace(nsid, " can't be: they are 1 to 8"),
-            BrokenRule::RepeatedNsid(nsid) => of_namespace(nsid, " stands twice"),
-            BrokenRule::UnknownController(cntlid) => of_controller(cntlid, " is not configured"),
-            BrokenRule::UnknownNamespace(nsid) => of_namespace(nsid, " is not configured"),
-            BrokenRule::RepeatedAttachment(cntlid, nsid) => repeated_attachment(cntlid, nsid),
-            BrokenRule::NotShared(cntlid, nsid) => not_shared(cntlid, nsid),
-            BrokenRule::NoBlocks(nsid) => of_namespace(nsid, " has no blocks"),
-            BrokenRule::TooLarge(nsid, blocks) => {
-                of_blocks(nsid, " has ", blocks, " blocks, and 65536 is the most")
-            }
-            BrokenRule::DoesNotFit(nsid, blocks) => {
-                let end = " blocks of the medium, where the namespaces lie one after the other";
-                of_blocks(nsid, " ends behind the ", blocks, end)
-            }
+/// The sentence that says a broken rule.
+#[tactic(auto, unfolding(crate::specs::RuleTexts::rule_text))]
+pub fn sentence_of(rule: BrokenRule) -> Sentence
+    ensures { sentence_text result ≡ rule_text rule }
+{
+    match rule {
+        BrokenRule::TooManyControllers => {
+            Sentence::Plain("this is controller 17, and 16 is the most")
         }
-    }
-}
-
-impl fmt::Display for BrokenRule {
-    ghost output = { λ rule. Some (rule_text rule) };
-
-    fn fmt<W: fmt::Write>(&self, f: &mut fmt::Formatter<W>) -> fmt::Result {
-        write!(f, "{}", self.sentence())
-    }
-}
-
-impl Spell for BrokenRule {
-    ghost spelled = { rule_text };
-
-    fn spell<P: Page>(&self, page: &mut P) -> Result<(), NoRoom> {
-        self.sentence().spell(page)
+        BrokenRule::TooManyNamespaces => {
+            Sentence::Plain("this is the ninth namespace, and 8 is the most")
+        }
+        BrokenRule::TooManyAttachments => {
+            Sentence::Plain("this is attachment 129, and 128 is the most")
+        }
+        BrokenRule::Misnumbered(k, cntlid) => misnumbered(k, cntlid),
+        BrokenRule::NoHost(cntlid) => of_controller(cntlid, " belongs to host 0, which is none"),
+        BrokenRule::ForeignNsid(nsid) => of_namespace(nsid, " can't be: they are 1 to 8"),
+        BrokenRule::RepeatedNsid(nsid) => of_namespace(nsid, " stands twice"),
+        BrokenRule::UnknownController(cntlid) => of_controller(cntlid, " is not configured"),
+        BrokenRule::UnknownNamespace(nsid) => of_namespace(nsid, " is not configured"),
+        BrokenRule::RepeatedAttachment(cntlid, nsid) => repeated_attachment(cntlid, nsid),
+        BrokenRule::NotShared(cntlid, nsid) => not_shared(cntlid, nsid),
+        BrokenRule::NoBlocks(nsid) => of_namespace(nsid, " has no blocks"),
+        BrokenRule::TooLarge(nsid, blocks) => {
+            of_blocks(nsid, " has ", blocks, " blocks, and 65536 is the most")
+        }
+        BrokenRule::DoesNotFit(nsid, blocks) => {
+            let end = " blocks of the medium, where the namespaces lie one after the other";
+            of_blocks(nsid, " ends behind the ", blocks, end)
+        }
     }
 }

@@ -5,11 +5,11 @@ ghost use Rattle.nvme_program.specs.Failures.{IsOfFile};
 ghost use Rattle.nvme_program.specs.SystemCalls.{SystemCall, OpensImage, OpensScript, ReadsText, ClosesImage};
 
 use crate::failure::Failure;
+use crate::holder::{Holder, holder_of};
 use nvme_medium::{FileFault, FileMedium, HostFile, Medium};
-use script_text::{ReadFault, read_text};
+use script_text::{ReadFault, Source, read_text};
 use std::alloc::Global;
 use std::fs::{File, OpenOptions};
-use std::io::Read;
 use std::rt::Files;
 use std::{fs, io};
 
@@ -20,6 +20,10 @@ pub enum Cause {
     System(io::Error),
     /// It is no regular file, as an image has to be.
     Irregular,
+    /// Another program holds its lock: which one, if that is known.
+    InUse(Option<Holder>),
+    /// The system can't lock it.
+    Unlocked,
     /// It begins as a script does, and was to be an image.
     IsScript,
     /// It was opened, and can't be read.
@@ -54,7 +58,7 @@ pub trait System {
     type Image: Medium + Drop;
 
     /// An open script.
-    type Script: Read + Drop;
+    type Script: Source + Drop;
 
     ghost step: { Self → SystemCall Self.Image Self.Script → Self → Type 0 };
 
@@ -66,7 +70,7 @@ pub trait System {
         ensures failure { IfErr result (λ e. IsOfFile e.failure) };
 
     /// Opens the image at a path, to read and write it in place.
-    fn open_image(&mut self, path: &str) -> Result<Self::Image, Unopened>
+    fn open_image(&mut self, alloc: Global, path: &str) -> Result<Self::Image, Unopened>
         ensures step { MatchResult result (λ image. step self.old (OpensImage path.now (Ok image)) self.new)
             (λ e. step self.old (OpensImage path.now (Err e.failure)) self.new) }
         ensures failure { IfErr result (λ e. IsOfFile e.failure) };
@@ -109,11 +113,11 @@ impl<R: Files<File = File>> System for HostFiles<'_, R> {
         }
     }
 
-    fn open_image(&mut self, path: &str) -> Result<FileMedium<HostFile>, Unopened> {
+    fn open_image(&mut self, alloc: Global, path: &str) -> Result<FileMedium<HostFile>, Unopened> {
         refuse_irregular(self.rt, path)?;
         match FileMedium::open(self.rt, path) {
             Ok(image) => Ok(image),
-            Err(fault) => Err(refused_image(self.rt, path, fault)),
+            Err(fault) => Err(refused_image(self.rt, alloc, path, fault)),
         }
     }
 
@@ -158,19 +162,25 @@ fn unread(alloc: Global, fault: ReadFault) -> Result<Vec<u8>, Unopened>
     }
 }
 
-/// Why an image can't be opened. The fault doesn't say so, and it is opened again to hear it.
-fn refused_image<R: Files<File = File>>(rt: &R, path: &str, fault: FileFault) -> Unopened
+/// Why an image can't be opened. The fault doesn't name an error of the system: the image is opened again to get it.
+fn refused_image<R: Files<File = File>>(
+    rt: &R,
+    alloc: Global,
+    path: &str,
+    fault: FileFault,
+) -> Unopened
     ensures { IsOfFile result.failure }
 {
-    let failure = Failure::from(fault);
-    match OpenOptions::new().read(true).write(true).open(rt, path) {
-        Ok(_) => Unopened {
-            failure,
-            cause: Cause::Unknown,
+    let cause = match fault {
+        FileFault::InUse => Cause::InUse(holder_of(rt, alloc, path)),
+        FileFault::NoLock => Cause::Unlocked,
+        _ => match OpenOptions::new().read(true).write(true).open(rt, path) {
+            Ok(_) => Cause::Unknown,
+            Err(error) => Cause::System(error),
         },
-        Err(error) => Unopened {
-            failure,
-            cause: Cause::System(error),
-        },
+    };
+    Unopened {
+        failure: Failure::from(fault),
+        cause,
     }
 }

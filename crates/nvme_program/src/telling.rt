@@ -3,8 +3,8 @@
 ghost use Rattle.std.specs.Prelude.{◌≡◌, ◌++◌, OnOk, Some, codes};
 ghost use Rattle.std.specs.Io.KnownBytes.{Appends};
 ghost use Rattle.nvme_program.specs.FailureTexts.{told_text};
-ghost use Rattle.nvme_program.specs.declared.reason.Reason.TheVariants.{IsScript as SaysScript};
-ghost use Rattle.nvme_program.specs.declared.system.Cause.TheVariants.{IsScript};
+ghost use Rattle.nvme_program.specs.declared.reason.Reason.TheVariants.{InUse as SaysInUse, IsScript as SaysScript};
+ghost use Rattle.nvme_program.specs.declared.system.Cause.TheVariants.{InUse, IsScript};
 
 use crate::command_line::{WordFault, refused_word};
 use crate::failure::Failure;
@@ -25,6 +25,8 @@ pub(crate) fn reason_of<'a>(
     path: &'a str,
     purpose: &'static str,
 ) -> Option<Reason<'a, 'a>>
+    ensures held { (holder : _) → cause.entry.now ≡ InUse holder
+        → (told : _) × (told.now ≡ holder) × (result ≡ Some (SaysInUse path.entry told)) }
     ensures script { cause.entry.now ≡ IsScript → result ≡ Some (SaysScript path.entry) }
 {
     match cause {
@@ -34,6 +36,8 @@ pub(crate) fn reason_of<'a>(
             error,
         }),
         Cause::Irregular => Some(Reason::NoImage { path }),
+        Cause::InUse(holder) => Some(Reason::InUse { path, holder }),
+        Cause::Unlocked => Some(Reason::Unlocked { path }),
         Cause::IsScript => Some(Reason::IsScript { path }),
         Cause::Unread => Some(Reason::Unread { path: Some(path) }),
         Cause::Unknown => None,

@@ -1,7 +1,9 @@
 -- What the end of the program says of its status.
-use Rattle.std.proofs.Common.{◌≡◌, ◌≢◌, ℕ, List, Option, None}
+use Rattle.std.proofs.Common.{◌≡◌, ◌≢◌, ℕ, Bool, List, Option, None}
 use Rattle.nvme_medium.specs.declared.medium.Medium as medium
 use Rattle.nvme_medium.specs.declared.cached.Cached.{Cached}
+use Rattle.script_text.specs.declared.stream.Sink as sink
+use Rattle.script_text.specs.declared.stream.Source as source
 use Rattle.nvme_program.specs.CommandLines.{word_fault}
 use Rattle.nvme_program.specs.Statuses.{end_status}
 use Rattle.nvme_program.specs.SystemCalls.{SystemCall}
@@ -9,12 +11,12 @@ use Rattle.nvme_program.specs.declared.failure.Failure.{Failure}
 use Rattle.nvme_program.proofs.ProgramEnds as program
 use Rattle.nvme_script.specs.ProgramRuns.{ScriptProgramEnds, runs_scripts}
 
-module _ {S I T In Out : Type 0} (step : S → SystemCall I T → S → Type 0) (image : medium.Ghosts I) (behind_cache : medium.Ghosts (Cached I image)) (remaining : T → Option (List ℕ))
-    (unread : In → Option (List ℕ)) (contents : Out → Option (List ℕ)) (words : List (List ℕ)) (system : S) (input : In) (output : Out) (end : Option Failure) (new : S) (left : In) (written : Out) where
-  pub refused_status : ScriptProgramEnds step image behind_cache remaining unread contents words system input output end new left written → word_fault words ≢ None → end_status end ≡ 3
+module _ {S I T In Out : Type 0} (step : S → SystemCall I T → S → Type 0) (image : medium.Ghosts I) (behind_cache : medium.Ghosts (Cached I image)) (reads : source.Ghosts T)
+    (unread : source.Ghosts In) (out : sink.Ghosts Out) (flushes : Out → Bool → Out → Type 0) (words : List (List ℕ)) (system : S) (input : In) (output : Out) (end : Option Failure) (new : S) (left : In) (written : Out) where
+  pub refused_status : ScriptProgramEnds step image behind_cache reads unread out flushes words system input output end new left written → word_fault words ≢ None → end_status end ≡ 3
   unfolding ScriptProgramEnds
-  refused_status (before, after, is, at, kept, done, ends) refused = program.refused_status step image behind_cache remaining (runs_scripts unread contents) words system before end new after ends refused
+  refused_status (before, after, is, at, kept, done, ends) refused = program.refused_status step image behind_cache reads (runs_scripts unread out flushes) words system before end new after ends refused
 
-  pub taken_status : ScriptProgramEnds step image behind_cache remaining unread contents words system input output end new left written → word_fault words ≡ None → end_status end ≢ 3
+  pub taken_status : ScriptProgramEnds step image behind_cache reads unread out flushes words system input output end new left written → word_fault words ≡ None → end_status end ≢ 3
   unfolding ScriptProgramEnds
-  taken_status (before, after, is, at, kept, done, ends) taken = program.taken_status step image behind_cache remaining (runs_scripts unread contents) words system before end new after ends taken
+  taken_status (before, after, is, at, kept, done, ends) taken = program.taken_status step image behind_cache reads (runs_scripts unread out flushes) words system before end new after ends taken

@@ -8,4 +8,6 @@ pub mod Ending
 pub mod Alone
 pub mod Mailboxes
 pub mod Buffering
+pub mod Sending
+pub mod Outputs
 pub mod Launching

@@ -1,5 +1,5 @@
 -- What a script that was read opens, and what the refusal of its configuration says.
-use Rattle.std.proofs.Common.{◌≡◌, ℕ, false, List, Option, Some, None, refl, sym, arith}
+use Rattle.std.proofs.Common.{◌≡◌, ◌≤◌, ℕ, false, length, List, Option, Some, None, refl, sym, arith}
 use Rattle.std.specs.Prelude.{unwrap_or, is_some}
 use Rattle.std.specs.List.{list_any}
 use Rattle.std.proofs.lemmas.Bool.{le-ltb}
@@ -9,12 +9,16 @@ use Rattle.nvme_spec.specs.declared.config.ConfigFault.TheVariants as fault_of
 use Rattle.nvme_spec.specs.declared.config.ConfigFault.TheVariants.{NoMemory as WantOfMemory}
 use Rattle.nvme_ns.specs.Configured.{configuration}
 use Rattle.script_text.specs.Lines.{text_lines}
+use Rattle.script_text.specs.Reading.{longest}
 use Rattle.nvme_grammar.specs.declared.line.Line.{Line}
 use Rattle.nvme_grammar.specs.declared.script.Script.{Script}
 use Rattle.nvme_grammar.specs.Script.{said, Says, is_start, start_in, configuration_in, configuration_of}
+use Rattle.nvme_grammar.specs.LineFaults.{IsParseFault}
+use Rattle.nvme_grammar.specs.declared.script.ParseFault.{ParseFault}
+use Rattle.nvme_grammar.specs.declared.script.ParseFault.TheVariants.{Syntax, NoMemory}
 use Rattle.nvme_grammar.proofs.ReadingLemmas.{started}
 use Rattle.nvme_program.specs.declared.fault.ScriptFault.TheVariants.{Config}
-use Rattle.nvme_program.specs.FaultKinds.{of_opening}
+use Rattle.nvme_program.specs.FaultKinds.{of_grammar, of_opening}
 use Rattle.nvme_script.specs.Faults.{IsScript, IsReady, IsEarlyFault}
 
 pub same_configuration : (raw : List (List ℕ)) (script : Script) → Says (said raw) script → configuration script.config ≡ configuration_of raw
@@ -65,3 +69,8 @@ refused_script text size script fault ready is = by (first_config_fault (configu
     by (Some f) e k =
         let same = same_configuration (text_lines text) script ready.says in
         rw k (of f (rw same at e))
+
+-- what a refusal of the grammar says of the text
+pub grammar_fault : (text : List ℕ) (size : ℕ) (fault : ParseFault) → length text ≤ longest → IsParseFault (text_lines text) fault → IsEarlyFault (of_grammar fault) text size
+grammar_fault text size (Syntax n line) short is = (short, is.0)
+grammar_fault text size NoMemory short is = tt

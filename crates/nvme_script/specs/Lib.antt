@@ -15,3 +15,4 @@ pub mod ScriptWrites
 pub mod RunLaws
 pub mod Buffering
 pub mod ProgramRuns
+pub mod OutputLaws

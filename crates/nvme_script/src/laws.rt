@@ -1,8 +1,10 @@
 //! What follows from the definitions of a script's run.
 
+ghost use Rattle.nvme_script.specs.OutputLaws.{DoneIsSent, StopsBeyondABuffer, StopsByACall, UnsentByACall};
 ghost use Rattle.nvme_script.specs.RunLaws.{CallingRuns, CallingStops, TranscriptExists, TranscriptIsUnique};
 
 use nvme_medium::Medium;
+use script_text::FlushedSink;
 
 /// A script's run over a medium is one of the mailboxes, with that transcript, and what it left is on the medium; so is
 /// one that stopped at a line that could not be written.
@@ -16,4 +18,14 @@ pub fn run_is_of_mailboxes<M: Medium>()
 pub fn transcript_is_determined()
     ensures unique { TranscriptIsUnique }
     ensures exists { TranscriptExists }
+{}
+
+/// The output of a program that is done got the whole transcript, each byte once and in order, then one flush, and no call
+/// of it failed. The fault `Write` comes only after a call of the output that failed, which is the first that did and the
+/// last that was made; or at a line that is longer than a text may be.
+pub fn output_is_called<O: FlushedSink, M: Medium>()
+    ensures done { DoneIsSent M.Medium O.Sink O.flushes }
+    ensures stopped { StopsByACall M.Medium O.Sink O.flushes }
+    ensures beyond { StopsBeyondABuffer M.Medium O.Sink }
+    ensures unsent { UnsentByACall M.Medium O.Sink O.flushes }
 {}

@@ -5,9 +5,11 @@ mod buffered;
 mod held;
 pub mod laws;
 mod program;
+mod refusal;
 mod run;
 mod transcribing;
 
-pub use nvme_program::{BrokenRule, ConfigReason, Failure, ScriptFault, SetupLine};
+pub use nvme_ns::{BrokenRule, ConfigReason, SetupLine};
+pub use nvme_program::{Failure, ScriptFault};
 pub use program::{run_in, run_program};
 pub use run::{run_events, run_script, run_text};

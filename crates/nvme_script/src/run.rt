@@ -13,10 +13,12 @@ ghost use Rattle.nvme_script.specs.ScriptWrites.{IsFault, RunsWriting, StopsAtBy
 ghost use Rattle.nvme_program.specs.FaultKinds.{of_opening};
 ghost use Rattle.nvme_program.specs.declared.fault.ScriptFault.TheVariants.{NoMemory as MemoryRefused};
 
+use crate::refusal::{LineReason, Refusal};
 use nvme_fleet::{Fleet, NewFault};
 use nvme_grammar::{Buffers, KeptEvent, Script, parse};
 use nvme_medium::Medium;
-use nvme_program::ScriptFault;
+use nvme_ns::{ConfigReason, refusal_of};
+use nvme_program::{ScriptFault, number_in};
 use nvme_spec::{ConfigFault, Marks};
 use nvme_transcript::{TranscriptLine, write_line};
 use script_text::{Sink, Source, Text, read_text};
@@ -33,13 +35,13 @@ struct Ready {
 }
 
 /// Judges a text, and makes the room that its events work in.
-fn prepare(alloc: Global, text: &[u8]) -> Result<Ready, ScriptFault>
+fn prepare(alloc: Global, text: &[u8]) -> Result<Ready, Refusal<'_>>
     requires short { length text.now ≤ longest }
     ensures script { IfOk result (λ ready. IsReady text.now ready.script) }
     ensures bytes_room { IfOk result (λ ready. HasTextRoom text.now ready.buffers.bytes.items) }
     ensures identifiers_room { IfOk result (λ ready. HasWordsRoom text.now ready.buffers.identifiers.items) }
-    ensures fault { IfErr result (λ fault. (size : ℕ) → IsEarlyFault fault text.now size) }
-    ensures early { IfErr result (λ fault. ¬ IsWrite fault) }
+    ensures fault { IfErr result (λ refusal. (size : ℕ) → IsEarlyFault refusal.fault text.now size) }
+    ensures early { IfErr result (λ refusal. ¬ IsWrite refusal.fault) }
 {
     let mut buffers = Buffers::for_text(alloc, text)?;
     let script = parse(alloc, text, &mut buffers.bytes, &mut buffers.identifiers)?;
@@ -59,6 +61,17 @@ fn refused_at(start: Option<usize>, fault: ConfigFault) -> ScriptFault
         ConfigFault::NoMemory => ScriptFault::NoMemory,
         _ => ScriptFault::Config(start.unwrap_or(0), fault),
     }
+}
+
+/// The line of a text whose configuration is refused over so many blocks, and the rule that it breaks.
+fn broken_rule<'t>(text: &[u8], ready: &mut Ready, blocks: u64) -> Option<LineReason<'t>>
+    requires bytes_room { HasTextRoom text.now ready.old.buffers.bytes.items }
+    requires identifiers_room { HasWordsRoom text.now ready.old.buffers.identifiers.items }
+{
+    let ConfigReason { line, rule } = refusal_of(&ready.script.config, blocks)?;
+    let buffers = &mut ready.buffers;
+    let number = number_in(line, text, &mut buffers.bytes, &mut buffers.identifiers)?;
+    Some(LineReason::Breaks(number, rule))
 }
 
 /// Empties the room for what an event marks, of which a transcript says nothing.
@@ -143,26 +156,30 @@ pub fn run_events<W: Sink, M: Medium>(
 }
 
 /// Runs a script that was judged: opens its configuration over the medium, and lets its events happen.
-fn run_ready<W: Sink, M: Medium>(
+fn run_ready<'t, W: Sink, M: Medium>(
     alloc: Global,
-    text: &[u8],
+    text: &'t [u8],
     ready: &mut Ready,
     writer: &mut W,
     medium: M,
-) -> Result<M, (ScriptFault, M)>
+) -> Result<M, (Refusal<'t>, M)>
     requires script { IsReady text.now ready.old.script }
     requires bytes_room { HasTextRoom text.now ready.old.buffers.bytes.items }
     requires identifiers_room { HasWordsRoom text.now ready.old.buffers.identifiers.items }
     ensures ok { IfOk result (λ after. IsScript text.now (M.size medium)
         × RunsWriting M.step M.tells M.device W.step W.contents text.now medium after writer.old writer.new) }
-    ensures fault { IfErr result (λ e. IsFault M.step M.tells M.device W.step W.contents e.0 text.now
+    ensures fault { IfErr result (λ e. IsFault M.step M.tells M.device W.step W.contents e.0.fault text.now
         (M.size medium) medium e.1 writer.old writer.new) }
-    ensures early { IfErr result (λ e. IsWrite e.0 ⊎ ((e.1 ≡ medium) × (writer.new ≡ writer.old))) }
+    ensures early { IfErr result (λ e. IsWrite e.0.fault ⊎ ((e.1 ≡ medium) × (writer.new ≡ writer.old))) }
 {
     let mut fleet = match Fleet::new(alloc, &ready.script.config, medium) {
         Ok(fleet) => fleet,
         Err(NewFault { fault, medium }) => {
-            return Err((refused_at(ready.script.start, fault), medium));
+            let refusal = Refusal {
+                fault: refused_at(ready.script.start, fault),
+                reason: broken_rule(text, ready, medium.blocks()),
+            };
+            return Err((refusal, medium));
         }
     };
     let outcome = run_events(
@@ -176,7 +193,27 @@ fn run_ready<W: Sink, M: Medium>(
     );
     match outcome {
         Ok(()) => Ok(fleet.into_medium()),
-        Err(_) => Err((ScriptFault::Write, fleet.into_medium())),
+        Err(_) => Err((Refusal::unwritten(), fleet.into_medium())),
+    }
+}
+
+/// Runs a script as `run_text` does; where a line of it is refused, what is at fault there comes with the fault.
+pub(crate) fn run_reasoned<'t, W: Sink, M: Medium>(
+    alloc: Global,
+    text: &'t [u8],
+    writer: &mut W,
+    medium: M,
+) -> Result<M, (Refusal<'t>, M)>
+    requires short { length text.now ≤ longest }
+    ensures ok { IfOk result (λ after. IsScript text.now (M.size medium)
+        × RunsWriting M.step M.tells M.device W.step W.contents text.now medium after writer.old writer.new) }
+    ensures fault { IfErr result (λ e. IsFault M.step M.tells M.device W.step W.contents e.0.fault text.now
+        (M.size medium) medium e.1 writer.old writer.new) }
+    ensures early { IfErr result (λ e. IsWrite e.0.fault ⊎ ((e.1 ≡ medium) × (writer.new ≡ writer.old))) }
+{
+    match prepare(alloc, text) {
+        Ok(mut ready) => run_ready(alloc, text, &mut ready, writer, medium),
+        Err(refusal) => Err((refusal, medium)),
     }
 }
 
@@ -203,9 +240,9 @@ pub fn run_text<W: Sink, M: Medium>(
     // Each fault but one of the writer comes before the first event, and no call is made of the medium.
     ensures early { IfErr result (λ e. IsWrite e.0 ⊎ ((e.1 ≡ medium) × (writer.new ≡ writer.old))) }
 {
-    match prepare(alloc, text) {
-        Ok(mut ready) => run_ready(alloc, text, &mut ready, writer, medium),
-        Err(fault) => Err((fault, medium)),
+    match run_reasoned(alloc, text, writer, medium) {
+        Ok(medium) => Ok(medium),
+        Err((refusal, medium)) => Err((refusal.fault, medium)),
     }
 }
 

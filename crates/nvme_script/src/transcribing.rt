@@ -3,50 +3,50 @@
 ghost use Rattle.std.specs.Prelude.{◌≡◌, ◌≤◌, [], IfOk, IfErr, length};
 ghost use Rattle.script_text.specs.Reading.{longest};
 ghost use Rattle.nvme_script.specs.Faults.{IsScript};
-ghost use Rattle.nvme_script.specs.ProgramRuns.{FailsThrough, RunsText};
-ghost use Rattle.nvme_script.specs.ScriptCalls.{RunsCalling};
+ghost use Rattle.nvme_script.specs.ProgramRuns.{FailsThrough, RunsBuffered, RunsText};
 
 use crate::buffered::Buffered;
 use crate::held::Held;
-use crate::run::run_text;
+use crate::refusal::{LineReason, Refusal};
+use crate::run::run_reasoned;
 use nvme_medium::Medium;
-use nvme_program::{Failure, ScriptFault};
+use nvme_program::Failure;
+use script_text::FlushedSink;
 use std::alloc::Global;
-use std::io::Write;
 
 /// Runs a script whose text was read, and writes its transcript through a buffer that is empty yet, and in the end is
 /// again.
-fn run_buffered<O: Write, M: Medium>(
+fn run_buffered<'t, O: FlushedSink, M: Medium>(
     alloc: Global,
-    text: &[u8],
+    text: &'t [u8],
     buffered: &mut Buffered<'_, '_, O>,
     medium: M,
-) -> Result<M, (ScriptFault, M)>
+) -> Result<M, (Refusal<'t>, M)>
     requires short { length text.now ≤ longest }
     requires empty { buffered.old.held ≡ [] }
     ensures name { buffered.new.name ≡ buffered.old.name }
-    ensures ran { RunsText M.Medium O.contents result text.now medium buffered.old.output buffered.new.output }
+    ensures ran { RunsText M.Medium O.Sink O.flushes result text.now medium buffered.old.output buffered.new.output }
 {
-    match run_text(alloc, text, buffered, medium) {
+    match run_reasoned(alloc, text, buffered, medium) {
         Ok(medium) => match buffered.flush() {
             Ok(()) => Ok(medium),
-            Err(_) => Err((ScriptFault::Write, medium)),
+            Err(_) => Err((Refusal::unwritten(), medium)),
         },
-        Err(fault) => Err(fault),
+        Err(refusal) => Err(refusal),
     }
 }
 
 /// Runs a script whose text was read, and writes its transcript to an output, through an empty buffer.
-fn run_held<O: Write, M: Medium>(
+fn run_held<'t, O: FlushedSink, M: Medium>(
     alloc: Global,
-    text: &[u8],
+    text: &'t [u8],
     held: &mut Held,
     output: &mut O,
     medium: M,
-) -> Result<M, (ScriptFault, M)>
+) -> Result<M, (Refusal<'t>, M)>
     requires short { length text.now ≤ longest }
     requires empty { held.old ≡ [] }
-    ensures { RunsText M.Medium O.contents result text.now medium output.old output.new }
+    ensures { RunsText M.Medium O.Sink O.flushes result text.now medium output.old output.new }
 {
     let mut buffered = Buffered { output, held };
     let ran = run_buffered(alloc, text, &mut buffered, medium);
@@ -64,22 +64,23 @@ fn run_held<O: Write, M: Medium>(
 ///
 /// The faults of the script; and that there is no memory for the buffer, before all else.
 #[tactic(auto, unfolding(crate::specs::ProgramRuns::RunsText))]
-pub(crate) fn run_through<O: Write, M: Medium>(
+pub(crate) fn run_through<'t, O: FlushedSink, M: Medium>(
     alloc: Global,
-    text: &[u8],
+    text: &'t [u8],
     output: &mut O,
     medium: M,
-) -> Result<M, (Failure, M)>
+) -> Result<M, (Failure, Option<LineReason<'t>>, M)>
     requires short { length text.now ≤ longest }
     ensures ok { IfOk result (λ after. IsScript text.now (M.size medium)
-        × RunsCalling M.step M.tells M.device text.now medium after (O.contents output.old) (O.contents output.new)) }
-    ensures fault { IfErr result (λ e. FailsThrough M.Medium O.contents e.0 text.now medium e.1 output.old output.new) }
+        × RunsBuffered M.Medium O.Sink O.flushes text.now medium after output.old output.new) }
+    ensures fault { IfErr result (λ e.
+        FailsThrough M.Medium O.Sink O.flushes e.0 text.now medium e.2 output.old output.new) }
 {
     let Ok(mut held) = Held::new(alloc) else {
-        return Err((Failure::Memory, medium));
+        return Err((Failure::Memory, None, medium));
     };
     match run_held(alloc, text, &mut held, output, medium) {
         Ok(medium) => Ok(medium),
-        Err((fault, medium)) => Err((Failure::Script(fault), medium)),
+        Err((refusal, medium)) => Err((Failure::Script(refusal.fault), refusal.reason, medium)),
     }
 }

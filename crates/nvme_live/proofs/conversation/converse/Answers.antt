@@ -1,7 +1,7 @@
 use Rattle.std.proofs.Common.{length, inl, inr, ap, subst, ◌∙◌, rules, arith}
 use Rattle.nvme_fleet.specs.FleetStates.{layers_of}
 use Rattle.nvme_live.specs.Answers.{Answered}
-use Rattle.nvme_live.specs.Asking.{asked, asked_by_value}
+use Rattle.live_text.specs.Asking.{asked, asked_by_value}
 use Rattle.nvme_subsys.specs.OverMedium.{over}
 use Rattle.nvme_live.specs.AnswerCalls.{AnswersLineBy, TurnOver}
 use Rattle.nvme_live.specs.Standings.{MayLackRoom, Running}

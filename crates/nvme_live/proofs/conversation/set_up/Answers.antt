@@ -1,6 +1,6 @@
 use Rattle.std.proofs.Common.{Ok, length, inl, inr, ap, subst, ◌∙◌, rules, arith}
 use Rattle.nvme_live.specs.SetUps.{set_up_of}
-use Rattle.nvme_live.specs.Asking.{asked, asked_by_value}
+use Rattle.live_text.specs.Asking.{asked, asked_by_value}
 use Rattle.nvme_live.specs.Settling.{Comes}
 use Rattle.nvme_live.specs.Standings.{Setting, TurnOf}
 use Rattle.nvme_live.specs.Streams.{GivesLine, ReadsBy, SendsBy}

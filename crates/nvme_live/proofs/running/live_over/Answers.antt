@@ -1,8 +1,6 @@
-use Rattle.std.proofs.Common.{Bool, ℕ, List, Option, MutBor, Global, ap, ◌∙◌}
+use Rattle.std.proofs.Common.{ℕ, List, Option, MutBor, Global, ap, ◌∙◌}
 use Rattle.std.specs.Io.Buffered.{reader_remaining}
-use Rattle.std.specs.Io.KnownBytes.{Keeps}
 use Rattle.std.specs.declared.io.buffered.BufReader.{BufReader}
-use Rattle.script_text.specs.Streams.{ReadsSome, WritesSome}
 use Rattle.nvme_live.specs.Streams.{ReadsBy, TakesKnown}
 use Rattle.nvme_live.proofs.KnownLines.{fails-reading-known, lives-on-known, nothing-ahead}
 use Rattle.nvme_live.proofs.running.live_over.Goals as goal
@@ -17,7 +15,7 @@ returns-in-Ok-run_live-clause-ok g c =
       known c.run_live.new.reader,
       h.1,
       lives-on-known (ReadsBy (λ u call v. TakesKnown (known u) call (known v)) known) known (λ u call v r. r.1)
-          g.M.Medium.step g.M.Medium.tells g.M.Medium.device (WritesSome g.O.Write.contents) (λ (w : g.row.O.Denot) (done : Bool) (z : g.row.O.Denot). Keeps (g.O.Write.contents w) (g.O.Write.contents z)) g.O.Write.contents
+          g.M.Medium.step g.M.Medium.tells g.M.Medium.device g.O.Sink.step g.O.FlushedSink.flushes g.O.Sink.contents
           (g.M.Medium.size c.args.medium) c.in-Ok.reader c.run_live.new.reader c.args.output.now c.run_live.new.writer c.args.medium c.in-Ok-run_live.medium
           (g.I.Read.remaining c.args.input.now) from h.0 h.2,
     )
@@ -29,7 +27,7 @@ returns-clause-fault g c =
     ∙ ap (λ (s : MutBor g.row.I.Denot). g.I.Read.remaining s.now) c.in-Ok.ensures.inner in (
       known c.run_live.new.reader,
       fails-reading-known (ReadsBy (λ u call v. TakesKnown (known u) call (known v)) known) known (λ u call v r. r.1)
-          g.M.Medium.step g.M.Medium.tells g.M.Medium.device (WritesSome g.O.Write.contents) (λ (w : g.row.O.Denot) (done : Bool) (z : g.row.O.Denot). Keeps (g.O.Write.contents w) (g.O.Write.contents z)) g.O.Write.contents
+          g.M.Medium.step g.M.Medium.tells g.M.Medium.device g.O.Sink.step g.O.FlushedSink.flushes g.O.Sink.contents
           (g.M.Medium.size c.args.medium) c.in-Ok.reader c.run_live.new.reader c.args.output.now c.run_live.new.writer c.args.medium c.in-Err.medium
-          (g.I.Read.remaining c.args.input.now) from (ReadsSome g.T.Read.remaining) g.T.Read.remaining c.args.script.now c.run_live.new.script c.in-Err.fault c.in-Err.ensures.fault,
+          (g.I.Read.remaining c.args.input.now) from g.T.Source.step g.T.Source.remaining c.args.script.now c.run_live.new.script c.in-Err.fault c.in-Err.ensures.fault,
     )

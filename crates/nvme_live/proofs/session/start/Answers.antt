@@ -13,6 +13,6 @@ pub returns-in-Err-clause-fault : goal.returns-in-Err-clause-fault
 returns-in-Err-clause-fault g c =
     let set = set_up_of c.args.config.now c.args.numbers.now in
     let fault = c.in-Err.field-0.fault in
-    let because = c.numbered_reason-reason.ensures ∙ ap (λ b. numbered_reason set b fault) (c.blocks-in-Err.ensures ∙ ap g.M.Medium.size c.in-Err.ensures.kept) in
+    let because = c.numbered_reason-reason.ensures ∙ ap (λ b. numbered_reason set b) (c.blocks-in-Err.ensures ∙ ap g.M.Medium.size c.in-Err.ensures.kept) in
     refused-start (SendsBy g.W.Sink.step g.W.FlushedSink.flushes g.W.Sink.contents) c.refuse_start-answered.result (g.M.Medium.size c.args.medium) (g.M.Medium.device c.args.medium) c.args.number set fault c.numbered_reason-reason.result c.args.writer.now c.refuse_start-answered.new.writer
     c.in-Err.ensures.fault because c.refuse_start-answered.ensures

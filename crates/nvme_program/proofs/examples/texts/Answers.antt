@@ -1,6 +1,6 @@
 use Rattle.std.proofs.Common.{refl}
 use Rattle.std.specs.Fmt.{digits}
-use Rattle.nvme_program.specs.Reasons.{rule_text}
+use Rattle.nvme_program.specs.RuleTexts.{rule_text}
 use Rattle.nvme_program.proofs.examples.texts.Goals as goal
 
 pub returns-clause-controller : goal.returns-clause-controller

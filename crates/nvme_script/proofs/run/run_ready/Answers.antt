@@ -28,6 +28,7 @@ pub returns-in-Err-outcome-clause-fault : goal.returns-in-Err-outcome-clause-fau
 returns-in-Err-outcome-clause-fault g c =
     let ready = c.args.ready.now in
     let events : kept_events c.args.text.now c.as_slice.result.now ≡ events_in c.args.text.now = ap (kept_events c.args.text.now) (search rules) ∙ c.requires.script.events in
-    called_in_part g.M.Medium.step g.M.Medium.tells g.M.Medium.device g.W.Sink.step g.W.Sink.contents c.args.text.now (g.M.Medium.size c.args.medium) c.args.medium c.into_medium-in-Err-outcome.result
+    rw (c.unwritten.ensures)
+    (called_in_part g.M.Medium.step g.M.Medium.tells g.M.Medium.device g.W.Sink.step g.W.Sink.contents c.args.text.now (g.M.Medium.size c.args.medium) c.args.medium c.into_medium-in-Err-outcome.result
     c.args.writer.now c.run_events-outcome.new.writer ready.script c.in-Ok.fleet c.run_events-outcome.new.fleet c.requires.script
-    c.in-Ok.ensures.accepted c.in-Ok.ensures.opened c.in-Ok.ensures.medium c.into_medium-in-Err-outcome.ensures.medium c.into_medium-in-Err-outcome.ensures.device (rw events at c.in-Err-outcome.ensures.err)
+    c.in-Ok.ensures.accepted c.in-Ok.ensures.opened c.in-Ok.ensures.medium c.into_medium-in-Err-outcome.ensures.medium c.into_medium-in-Err-outcome.ensures.device (rw events at c.in-Err-outcome.ensures.err))

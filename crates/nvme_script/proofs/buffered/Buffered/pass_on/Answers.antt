@@ -20,6 +20,6 @@ returns-clause-bytes g c =
     let n = c.write_front-written.result.0 in
     let held = c.as_bytes.result.now in
     let rest : c.remove_front.new.self ≡ drop n held = c.remove_front.ensures ∙ ap (drop n) (sym c.as_bytes.ensures.value) in
-    let moved : Keeps (append_known (g.O.Write.contents c.self.inside.output.now) c.self.inside.held.now) (append_known (g.O.Write.contents c.write_front-written.new.output) c.remove_front.new.self) =
-    append_known-moved _ _ _ _ _ c.write_front-written.ensures.written (sym c.as_bytes.ensures.value ∙ sym (take-append-drop n held) ∙ ap (λ l. take n held ++ l) (sym rest)) in
+    let moved : Keeps (append_known (g.O.Sink.contents c.self.inside.output.now) c.self.inside.held.now) (append_known (g.O.Sink.contents c.write_front-written.new.writer) c.remove_front.new.self) =
+    append_known-moved _ _ _ _ _ c.write_front-written.ensures.bytes (sym c.as_bytes.ensures.value ∙ sym (take-append-drop n held) ∙ ap (λ l. take n held ++ l) (sym rest)) in
     search rules

@@ -1,8 +1,0 @@
-use Rattle.std.proofs.Common.{◌≡◌, [], take, drop}
-use Rattle.nvme_program.specs.declared.configuration.SetupLine.TheVariants.{Namespace}
-use Rattle.nvme_program.specs.Reasons.{first_line, size_breaks}
-use Rattle.nvme_program.proofs.configuration.bad_size.Given as goal
-
--- what is left decides
-abbrev pub invariant-loop-i : goal.invariant-loop-i
-invariant-loop-i l = first_line Namespace size_breaks (take l.i l.namespaces) (drop l.i l.namespaces) ≡ first_line Namespace size_breaks [] l.namespaces
