@@ -1,2 +1,4 @@
+pub mod Bytes
+pub mod CallLaws
 pub mod Lent
 pub mod OwnOrLent

@@ -1,8 +1,11 @@
 -- A medium over blocks of its own, or over bytes that are lent.
-use Rattle.std.specs.Prelude.{◌≡◌, ◌<◌, ◌^◌, ℕ, ◌*◌, List, length, Bool, false, true}
+use Rattle.std.specs.Prelude.{◌≡◌, ◌<◌, ◌^◌, ℕ, ◌*◌, List, length, Option, Some, None, option_map}
+use denote.RawPtr.{Ptr}
 use Rattle.nvme_spec.specs.MediumCalls.{MediumCall}
 use Rattle.nvme_medium.specs.Memory.{memory_bytes, memory_step}
-use Rattle.nvme_lent.specs.Lent.{lent_bytes, lent_step}
+use Rattle.nvme_lent.specs.Bytes.{place}
+use Rattle.nvme_lent.specs.Lent.{bytes_lent, lent_bytes, lent_step, has_whole_blocks}
+use Rattle.nvme_lent.specs.declared.bytes.LentBytes.{LentBytes}
 use Rattle.nvme_lent.specs.declared.either.OwnOrLent.{OwnOrLent}
 use Rattle.nvme_lent.specs.declared.either.OwnOrLent.TheVariants.{Own, Lent}
 
@@ -28,8 +31,13 @@ countable_of (Lent m) = m.countable
 
 abbrev pub whole_of : (m : OwnOrLent) → length (bytes_of m) ≡ 512 * blocks_of m
 whole_of (Own m) = m.whole
-whole_of (Lent m) = m.whole
+whole_of (Lent m) = has_whole_blocks m
 
-abbrev pub is_lent : OwnOrLent → Bool
-is_lent (Own m) = false
-is_lent (Lent m) = true
+-- the bytes that are lent to it, as they are now, if any are
+abbrev pub lent_of : OwnOrLent → Option LentBytes
+lent_of (Own m) = None
+lent_of (Lent m) = Some (bytes_lent m)
+
+-- where they are, and how many
+abbrev pub place_of : OwnOrLent → Option (Ptr × ℕ)
+place_of m = option_map place (lent_of m)

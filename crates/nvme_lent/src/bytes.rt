@@ -6,9 +6,10 @@ ghost use Rattle.std.specs.Ptr.{lies_at};
 ghost use denote.Array.{Array};
 
 use std::marker::Model;
+use std_alloc::vec::{Lodged, lodge};
 
-/// Bytes that C lends: where the first stands, and how many there are. C reads and writes none of them as long as
-/// anything stands on them.
+/// Bytes that C lends: the address of the first, and their number. C reads and writes none of them until it has them
+/// back.
 #[repr(C)]
 #[derive(Drop)]
 pub struct LentBytes {
@@ -23,18 +24,14 @@ impl Model for LentBytes {
 }
 
 impl LentBytes {
-    /// The bytes as a slice.
-    pub fn into_slice<'a>(self) -> &'a mut [u8]
-        ensures { result.now ≡ self.items }
-    {
-        self.lent()
-    }
+    ghost use Rattle.nvme_lent.specs.Bytes.{as_lent};
 
-    /// The bytes where they are. This alone is proved by hand, since a pointer becomes a slice.
-    fn lent<'a>(self) -> &'a mut [u8]
-        ensures { result.now ≡ self.items }
+    /// The bytes at their own address, as the buffer of a `Vec` that takes and frees no memory. It is proved by hand,
+    /// since a pointer becomes a buffer.
+    pub fn into_buffer(self) -> Vec<u8, Lodged>
+        ensures { as_lent result ≡ self }
     {
         let LentBytes { at, len } = self;
-        unsafe { std::slice::from_raw_parts_mut(at, len) }
+        unsafe { lodge(at, len, len) }
     }
 }

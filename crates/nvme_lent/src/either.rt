@@ -1,15 +1,29 @@
 //! Blocks of one's own, or such as are lent.
 
-ghost use Rattle.std.specs.Prelude.{true};
+ghost use Rattle.std.specs.Prelude.{◌≡◌, true};
 
-use crate::LentMedium;
+use crate::{LentMedium, ReturnedBytes};
 use nvme_medium::{Medium, MediumFault, MemMedium};
 
-/// A medium over blocks of its own, or over bytes that are lent to it for good. Its calls never fail.
+/// A medium over blocks of its own, or over bytes that are lent to it. Its calls never fail.
 #[derive(Drop)]
 pub enum OwnOrLent {
     Own(MemMedium),
-    Lent(LentMedium<'static>),
+    Lent(LentMedium),
+}
+
+impl OwnOrLent {
+    ghost use Rattle.nvme_lent.specs.OwnOrLent.{lent_of};
+
+    /// Gives the bytes back that were lent, if any were.
+    pub fn into_returned(self) -> ReturnedBytes
+        ensures { result.bytes ≡ lent_of self }
+    {
+        match self {
+            OwnOrLent::Own(_) => ReturnedBytes::none(),
+            OwnOrLent::Lent(medium) => medium.into_returned(),
+        }
+    }
 }
 
 impl Medium for OwnOrLent {

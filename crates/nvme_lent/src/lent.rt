@@ -1,33 +1,44 @@
 //! A medium over bytes that are lent.
 
-ghost use Rattle.std.specs.Prelude.{◌≡◌, ◌+◌, ◌*◌, ◌<◌, ◌≤◌, ◌^◌, true, length};
+ghost use Rattle.std.specs.Prelude.{◌≡◌, ◌+◌, ◌*◌, ◌/◌, ◌<◌, ◌≤◌, ◌^◌, true, length, Some};
 ghost use Rattle.nvme_spec.specs.Blocks.{block_at, blocks_from};
 ghost use Rattle.nvme_medium.specs.Memory.{whole_blocks};
 
+use crate::{LentBytes, ReturnedBytes};
 use nvme_medium::{Medium, MediumFault};
+use std_alloc::vec::Lodged;
 
-/// A medium over bytes that are lent for as long as it lasts. Its calls never fail.
+/// A medium over bytes that are lent, at their own address. Its calls never fail.
 #[derive(Drop)]
-pub struct LentMedium<'a> {
-    bytes: &'a mut [u8],
+pub struct LentMedium {
+    bytes: Vec<u8, Lodged>,
     blocks: u64,
-    ghost whole: { length bytes.now ≡ 512 * blocks },
+    ghost whole: { blocks ≡ length bytes.items / 512 },
     ghost countable: { blocks < 2 ^ 64 },
 }
 
-impl<'a> LentMedium<'a> {
-    ghost use Rattle.nvme_lent.specs.Lent.{lent_bytes};
+impl LentMedium {
+    ghost use Rattle.nvme_lent.specs.Lent.{bytes_lent, lent_bytes};
 
     /// A medium of the whole blocks of these bytes: as many as 512 goes into their number. Bytes behind the last whole
     /// block are left alone.
-    pub fn of(bytes: &'a mut [u8]) -> LentMedium<'a>
-        ensures { lent_bytes result ≡ whole_blocks bytes.old }
+    pub fn of(bytes: LentBytes) -> LentMedium
+        ensures lent { bytes_lent result ≡ bytes }
+        ensures blocks { lent_bytes result ≡ whole_blocks bytes.items }
     {
+        let bytes = bytes.into_buffer();
         let blocks = bytes.len() / 512;
         LentMedium {
-            bytes: &mut bytes[..512 * blocks],
+            bytes,
             blocks: blocks as u64,
         }
+    }
+
+    /// Gives the bytes back, as the commands have left them.
+    pub fn into_returned(self) -> ReturnedBytes
+        ensures { result.bytes ≡ Some (bytes_lent self) }
+    {
+        ReturnedBytes::of(self.bytes)
     }
 
     /// A block.
@@ -51,8 +62,8 @@ impl<'a> LentMedium<'a> {
     }
 }
 
-impl Medium for LentMedium<'_> {
-    ghost use Rattle.nvme_lent.specs.Lent.{lent_bytes, lent_step};
+impl Medium for LentMedium {
+    ghost use Rattle.nvme_lent.specs.Lent.{lent_bytes, lent_step, has_whole_blocks};
 
     ghost tells = { true };
 
@@ -64,7 +75,7 @@ impl Medium for LentMedium<'_> {
 
     ghost countable = { λ m. m.countable };
 
-    ghost whole = { λ m _. m.whole };
+    ghost whole = { λ m _. has_whole_blocks m };
 
     fn blocks(&self) -> u64 {
         self.blocks

@@ -3,8 +3,11 @@
 
 mod bytes;
 mod either;
+pub mod laws;
 mod lent;
+mod returned;
 
 pub use bytes::LentBytes;
 pub use either::OwnOrLent;
 pub use lent::LentMedium;
+pub use returned::ReturnedBytes;

@@ -1,11 +1,17 @@
 pub mod Access
 pub mod Answers
 pub mod Events
+pub mod Examples
 pub mod Given
 pub mod Holding
+pub mod LentLaws
+pub mod Lines
 pub mod Looking
+pub mod LookingLines
 pub mod Opening
 pub mod Queues
+pub mod Reading
 pub mod Submitting
 pub mod Turns
 pub mod Whole
+pub mod Written

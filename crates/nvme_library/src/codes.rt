@@ -55,6 +55,31 @@ pub const BUSY: u32 = 30;
 pub const NO_NAMESPACE: u32 = 31;
 /// There is no such registrant.
 pub const NO_REGISTRANT: u32 = 32;
+/// The text has more bytes than the buffer.
+pub const NO_ROOM: u32 = 33;
+/// There is no such line.
+pub const NO_LINE: u32 = 34;
+/// A line of the text is outside the grammar.
+pub const BAD_LINE: u32 = 35;
+/// A line of the text is an event, and a configuration has none.
+pub const HAS_EVENT: u32 = 36;
+/// The configuration has no controller.
+pub const EMPTY: u32 = 37;
+/// The text has more bytes than a script may have.
+pub const TOO_LONG: u32 = 38;
+
+/// A host stores bytes in its memory.
+pub const EVENT_STORE: u32 = 1;
+/// A host writes a register.
+pub const EVENT_WRITE32: u32 = 2;
+/// A host reads a register.
+pub const EVENT_READ32: u32 = 3;
+/// A controller fetches a command.
+pub const EVENT_FETCH: u32 = 4;
+/// A controller executes a command.
+pub const EVENT_EXECUTE: u32 = 5;
+/// Power is lost, and comes back.
+pub const EVENT_POWER_CYCLE: u32 = 6;
 
 /// The version of the interface. It changes whenever a program that was built for it would have to change.
-pub const VERSION: u32 = 1;
+pub const VERSION: u32 = 2;

@@ -1,8 +1,8 @@
 //! A configuration as C gives it.
 
-ghost use Rattle.std.specs.Prelude.{◌≡◌, map, IfOk};
+ghost use Rattle.std.specs.Prelude.{◌≡◌, ◌≤◌, ◌++◌, drop, length, map, IfOk};
 ghost use Rattle.nvme_ns.specs.Configured.{configuration};
-ghost use Rattle.nvme_library.specs.Given.{configuration_of, controller_of, namespace_of, pair_of};
+ghost use Rattle.nvme_library.specs.Given.{configuration_of, controller_of, given_controller, given_namespace, given_pair, namespace_of, pair_of};
 
 use nvme_spec::{Config, ControllerConfig, HostId, NsConfig};
 use std::alloc::{AllocError, Global};
@@ -17,6 +17,8 @@ pub struct Controller {
     pub host_high: u64,
     /// The controller identifier: k for the k-th controller of a configuration, from 1.
     pub cntlid: u16,
+    /// Whether its line says `raw`. Nothing but that line hangs on it, since each host is raw here.
+    pub raw: bool,
 }
 
 /// A namespace.
@@ -47,7 +49,7 @@ impl Controller {
         ControllerConfig {
             cntlid: self.cntlid,
             host: high + HostId::from(self.host_low),
-            raw: false,
+            raw: self.raw,
         }
     }
 }
@@ -116,4 +118,55 @@ pub(crate) fn config_of(
         namespaces: namespace_configs(alloc, namespaces)?,
         attached: attached_pairs(alloc, attached)?,
     })
+}
+
+impl Controller {
+    /// A controller of a configuration, as C has it.
+    fn of(config: &ControllerConfig) -> Self
+        ensures { result ≡ given_controller config.now }
+    {
+        Controller {
+            host_low: (config.host % 0x1_0000_0000_0000_0000) as u64,
+            host_high: (config.host / 0x1_0000_0000_0000_0000) as u64,
+            cntlid: config.cntlid,
+            raw: config.raw,
+        }
+    }
+}
+
+/// Puts controllers at the front of an array that has room for them.
+pub(crate) fn put_controllers(configs: &[ControllerConfig], controllers: &mut [Controller])
+    requires { length configs.now ≤ length controllers.old }
+    ensures { controllers.new ≡ map given_controller configs.now ++ drop (length configs.now) controllers.old }
+{
+    for i in 0..configs.len() {
+        controllers[i] = Controller::of(&configs[i]);
+    }
+}
+
+/// Puts namespaces at the front of an array that has room for them.
+pub(crate) fn put_namespaces(configs: &[NsConfig], namespaces: &mut [Namespace])
+    requires { length configs.now ≤ length namespaces.old }
+    ensures { namespaces.new ≡ map given_namespace configs.now ++ drop (length configs.now) namespaces.old }
+{
+    for i in 0..configs.len() {
+        namespaces[i] = Namespace {
+            blocks: configs[i].blocks,
+            nsid: configs[i].nsid,
+            shared: configs[i].shared,
+        };
+    }
+}
+
+/// Puts attachments at the front of an array that has room for them.
+pub(crate) fn put_attached(pairs: &[(u16, u32)], attached: &mut [Attached])
+    requires { length pairs.now ≤ length attached.old }
+    ensures { attached.new ≡ map given_pair pairs.now ++ drop (length pairs.now) attached.old }
+{
+    for i in 0..pairs.len() {
+        attached[i] = Attached {
+            nsid: pairs[i].1,
+            cntlid: pairs[i].0,
+        };
+    }
 }

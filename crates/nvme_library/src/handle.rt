@@ -2,20 +2,24 @@
 
 ghost use Rattle.std.specs.Prelude.{◌≡◌, Some, None, is_some, IfSome, IfNone};
 ghost use Rattle.std.proofs.Props.{props};
+ghost use Rattle.nvme_lent.specs.OwnOrLent.{lent_of};
 ghost use Rattle.nvme_library.specs.Whole.{AreWhole, HoldsWhole};
 
 use crate::held::Held;
 use crate::slot::Slot;
 use box_pointer::BoxPointer;
+use nvme_lent::{OwnOrLent, ReturnedBytes};
 use std::alloc::Global;
 use std::mem;
 
-/// A subsystem that is open, or none: `is_open` says which.
+/// A subsystem that is open, or none: `is_open` says which. And the right to lent bytes that C has back from the call
+/// that returns, which takes no room: C takes it from there before its next call.
 #[repr(C)]
 #[derive(Drop)]
 pub struct Handle {
     pub(crate) slot: Slot,
     is_open: bool,
+    pub(crate) returned: ReturnedBytes,
     ghost told: { is_some slot.value ≡ is_open },
     ghost whole: { HoldsWhole slot.value } by { Prim.hlevel props },
 }
@@ -29,11 +33,13 @@ impl Handle {
     /// None.
     #[inline(always)]
     pub(crate) fn closed(alloc: Global) -> Handle
-        ensures { result.slot.value ≡ None }
+        ensures closed { result.slot.value ≡ None }
+        ensures returned { result.returned.bytes ≡ None }
     {
         Handle {
             slot: Slot::empty(alloc),
             is_open: false,
+            returned: ReturnedBytes::none(),
         }
     }
 
@@ -41,11 +47,13 @@ impl Handle {
     #[inline(always)]
     pub(crate) fn of(subsystem: Box<Held>) -> Handle
         requires { AreWhole subsystem.value.state }
-        ensures { result.slot.value ≡ Some subsystem.entry.value }
+        ensures open { result.slot.value ≡ Some subsystem.value }
+        ensures returned { result.returned.bytes ≡ None }
     {
         Handle {
             slot: Slot::of(BoxPointer::of(subsystem)),
             is_open: true,
+            returned: ReturnedBytes::none(),
         }
     }
 
@@ -61,15 +69,24 @@ impl Handle {
     #[inline(always)]
     pub(crate) fn take(&mut self, alloc: Global) -> Option<Box<Held>>
         ensures emptied { self.new.slot.value ≡ None }
+        ensures returned { self.new.returned.bytes ≡ None }
         ensures some { IfSome result (λ subsystem. self.old.slot.value ≡ Some subsystem.value) }
         ensures whole { IfSome result (λ subsystem. AreWhole subsystem.value.state) }
         ensures none { IfNone result (self.old.slot.value ≡ None) }
     {
-        let Handle { slot, is_open } = mem::replace(self, Handle::closed(alloc));
+        let Handle { slot, is_open, .. } = mem::replace(self, Handle::closed(alloc));
         if is_open {
             Some(slot.into_pointer().into_box())
         } else {
             None
         }
+    }
+
+    /// Gives the bytes back that were lent to this medium, if any were.
+    pub(crate) fn give_back(&mut self, medium: OwnOrLent)
+        ensures kept { self.new.slot ≡ self.old.slot }
+        ensures returned { self.new.returned.bytes ≡ lent_of medium }
+    {
+        self.returned = medium.into_returned();
     }
 }

@@ -2,7 +2,7 @@
 
 ghost use Rattle.std.specs.Prelude.{◌≡◌, ◌%◌, ◌/◌, true, length, None, Some, IfNone, IfSome};
 ghost use Rattle.nvme_spec.specs.World.{namespace_of};
-ghost use Rattle.nvme_lent.specs.OwnOrLent.{step_of};
+ghost use Rattle.nvme_lent.specs.OwnOrLent.{bytes_of, step_of};
 ghost use Rattle.nvme_machine.specs.Bare.{seen_of};
 ghost use Rattle.nvme_machine.specs.EventCalls.{ExecutesNothing};
 ghost use Rattle.nvme_machine.specs.Subsystems.{Step, controller_at};
@@ -43,7 +43,7 @@ impl Model for Held {
 impl Held {
     /// This subsystem.
     pub(crate) fn of(subsystem: Subsystem<OwnOrLent>) -> Held
-        ensures { result ≡ subsystem.entry }
+        ensures { result ≡ subsystem }
     {
         Held {
             subsystem,
@@ -105,5 +105,13 @@ impl Held {
             (length buffer.old / 512) buffer.old buffer.new self.old.medium result self.new.medium }
     {
         self.subsystem.read_blocks(nsid, slba, buffer)
+    }
+
+    /// The medium, as the commands have left it.
+    pub(crate) fn into_medium(self) -> OwnOrLent
+        ensures medium { result ≡ self.medium }
+        ensures content { bytes_of result ≡ self.state.device.content }
+    {
+        self.subsystem.into_medium()
     }
 }

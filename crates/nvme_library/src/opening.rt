@@ -1,10 +1,10 @@
 //! A subsystem is opened and closed.
 
-ghost use Rattle.std.specs.Prelude.{◌≡◌, ◌/◌, length, None, true, false, IfOk, IfErr};
-ghost use Rattle.nvme_medium.specs.Memory.{whole_blocks};
-ghost use Rattle.nvme_lent.specs.OwnOrLent.{bytes_of, blocks_of, is_lent};
+ghost use Rattle.std.specs.Prelude.{◌≡◌, None, Some, IfOk, IfErr};
+ghost use Rattle.nvme_spec.specs.declared.config.ConfigFault.TheVariants.{NoMemory};
+ghost use Rattle.nvme_lent.specs.OwnOrLent.{bytes_of, blocks_of, lent_of};
 ghost use Rattle.nvme_library.specs.Given.{configuration_of};
-ghost use Rattle.nvme_library.specs.Opening.{Opens, OpensOver, IsFault, fault_number};
+ghost use Rattle.nvme_library.specs.Opening.{Opens, OpensOver, IsFault, fault_number, returned_by, lent_by, HasLastState};
 
 use crate::codes;
 use crate::configuration::{Attached, Controller, Namespace, config_of};
@@ -13,7 +13,7 @@ use crate::held::Held;
 use nvme_lent::{LentBytes, LentMedium, OwnOrLent};
 use nvme_medium::MemMedium;
 use nvme_spec::ConfigFault;
-use nvme_subsys::Subsystem;
+use nvme_subsys::{NewFault, Subsystem};
 use std::alloc::Global;
 
 /// Opens a subsystem over a copy of the whole blocks of these bytes.
@@ -31,7 +31,7 @@ pub extern "C" fn nvmesim_open(
     bytes: &[u8],
 ) -> u32
     ensures { Opens version sim.old.slot.value (configuration_of controllers.now namespaces.now attached.now) bytes.now
-        false result sim.new.slot.value }
+        None result sim.new.slot.value }
 {
     if version != codes::VERSION {
         return codes::BAD_VERSION;
@@ -48,12 +48,12 @@ pub extern "C" fn nvmesim_open(
             *sim = Handle::of(subsystem);
             codes::OK
         }
-        Err(fault) => number_of(fault),
+        Err(refused) => number_of(refused.fault),
     }
 }
 
-/// Opens a subsystem over the whole blocks of these bytes themselves, which C lends until it is closed. Where none is
-/// opened, C has the bytes back at once.
+/// Opens a subsystem over the whole blocks of these bytes themselves, at their own address, which C lends until it is
+/// closed. Where none is opened, C has all of them back at once, as they were.
 ///
 /// It answers as `nvmesim_open` does.
 #[unsafe(no_mangle)]
@@ -66,37 +66,48 @@ pub extern "C" fn nvmesim_open_lent(
     attached: &[Attached],
     bytes: LentBytes,
 ) -> u32
-    ensures { Opens version sim.old.slot.value (configuration_of controllers.now namespaces.now attached.now)
-        bytes.items true result sim.new.slot.value }
+    ensures opens { Opens version sim.old.slot.value (configuration_of controllers.now namespaces.now attached.now)
+        bytes.items (Some bytes) result sim.new.slot.value }
+    ensures returned { sim.new.returned.bytes ≡ returned_by result bytes }
 {
+    let medium = OwnOrLent::Lent(LentMedium::of(bytes));
     if version != codes::VERSION {
+        sim.give_back(medium);
         return codes::BAD_VERSION;
     }
     if sim.is_open() {
+        sim.give_back(medium);
         return codes::ALREADY_OPEN;
     }
-    let medium = OwnOrLent::Lent(LentMedium::of(bytes.into_slice()));
     match opened(alloc, controllers, namespaces, attached, medium) {
         Ok(subsystem) => {
             *sim = Handle::of(subsystem);
             codes::OK
         }
-        Err(fault) => number_of(fault),
+        Err(refused) => {
+            sim.give_back(refused.medium);
+            number_of(refused.fault)
+        }
     }
 }
 
-/// Closes a subsystem, if one is open, and gives its memory back. From then on C may use again the bytes that it lent.
+/// Closes a subsystem, if one is open, and gives its memory back. C has the bytes back that it lent, as the commands
+/// have left them.
 #[unsafe(no_mangle)]
 pub extern "C" fn nvmesim_close(alloc: Global, sim: &mut Handle)
-    ensures { sim.new.slot.value ≡ None }
+    ensures closed { sim.new.slot.value ≡ None }
+    ensures returned { sim.new.returned.bytes ≡ lent_by sim.old.slot.value }
+    ensures last { HasLastState sim.old.slot.value sim.new.returned.bytes }
 {
-    let _ = sim.take(alloc);
+    if let Some(subsystem) = sim.take(alloc) {
+        sim.give_back(Box::into_inner(subsystem).into_medium());
+    }
 }
 
 /// The version of the interface, which `nvmesim_open` asks for.
 #[unsafe(no_mangle)]
 pub extern "C" fn nvmesim_version() -> u32
-    ensures { result ≡ 1 }
+    ensures { result ≡ 2 }
 {
     codes::VERSION
 }
@@ -108,27 +119,37 @@ fn opened(
     namespaces: &[Namespace],
     attached: &[Attached],
     medium: OwnOrLent,
-) -> Result<Box<Held>, ConfigFault>
+) -> Result<Box<Held>, NewFault<OwnOrLent>>
     ensures opened { IfOk result
-        (λ subsystem. OpensOver (configuration_of controllers.now namespaces.now attached.now) (bytes_of medium.entry)
-        (blocks_of medium.entry) (is_lent medium.entry) subsystem.value) }
+        (λ subsystem. OpensOver (configuration_of controllers.now namespaces.now attached.now) (bytes_of medium)
+        (blocks_of medium) (lent_of medium) subsystem.value) }
     ensures fault { IfErr result
-        (λ fault. IsFault (configuration_of controllers.now namespaces.now attached.now) (blocks_of medium.entry) fault) }
+        (λ refused. IsFault (configuration_of controllers.now namespaces.now attached.now) (blocks_of medium)
+        refused.fault) }
+    ensures kept { IfErr result (λ refused. refused.medium ≡ medium) }
 {
     let Ok(config) = config_of(alloc, controllers, namespaces, attached) else {
-        return Err(ConfigFault::NoMemory);
+        return Err(without_memory(medium));
     };
-    match Subsystem::new(alloc, &config, medium) {
-        Ok(subsystem) => match Box::new(alloc, Held::of(subsystem)) {
-            Ok(boxed) => Ok(boxed),
-            Err(_) => Err(ConfigFault::NoMemory),
-        },
-        Err(refused) => Err(refused.fault),
+    let subsystem = Subsystem::new(alloc, &config, medium)?;
+    match Box::new(alloc, Held::of(subsystem)) {
+        Ok(boxed) => Ok(boxed),
+        Err(refused) => Err(without_memory(refused.value.into_medium())),
+    }
+}
+
+/// Memory was refused, and the medium is as it was.
+fn without_memory(medium: OwnOrLent) -> NewFault<OwnOrLent>
+    ensures { result ≡ record { fault = NoMemory; medium = medium } }
+{
+    NewFault {
+        fault: ConfigFault::NoMemory,
+        medium,
     }
 }
 
 /// The number of a fault.
-fn number_of(fault: ConfigFault) -> u32
+pub(crate) fn number_of(fault: ConfigFault) -> u32
     ensures { result ≡ fault_number fault }
 {
     match fault {

@@ -28,7 +28,7 @@ unsafe impl Send for Slot {}
 impl Slot {
     /// The place of this one.
     pub(crate) fn of(pointer: BoxPointer<Held, Global>) -> Slot
-        ensures { result.value ≡ Some pointer.entry.value }
+        ensures { result.value ≡ Some pointer.value }
     {
         let BoxPointer { at, alloc } = pointer;
         Slot {

@@ -1,0 +1,21 @@
+use Rattle.std.proofs.Common.{◌≡◌, ◌≤◌, ◌+◌, length}
+use Rattle.std.specs.Prelude.{IfSome}
+use Rattle.script_text.specs.Lines.{lines_left, longest_line, text_lines}
+use Rattle.nvme_grammar.specs.Room.{HasTextRoom, HasWordsRoom}
+use Rattle.nvme_program.proofs.Left.{left_length, IsWithin}
+use Rattle.library_text.specs.Reading.{first_event}
+use Rattle.library_text.proofs.reading.first_event.Given as goal
+
+-- what is left decides, of the lines from this number on
+abbrev pub invariant-loop-rest : goal.invariant-loop-rest
+invariant-loop-rest l = record {
+  within : IsWithin l.rest (length l.text);
+  longest : IfSome l.rest (λ rest. longest_line rest.now ≤ longest_line l.text);
+  bytes : HasTextRoom l.text l.bytes;
+  identifiers : HasWordsRoom l.text l.identifiers;
+  decides : first_event l.number (lines_left l.rest) ≡ first_event 1 (text_lines l.text);
+  counted : l.number + left_length l.rest ≤ length l.text + 2;
+}
+
+abbrev pub decreases-loop-rest : goal.decreases-loop-rest
+decreases-loop-rest l = left_length l.rest

@@ -1,0 +1,10 @@
+pub use Rattle.nvme_spec.specs.Configuration
+pub use Rattle.nvme_program.specs.FailureTexts
+pub use Rattle.nvme_grammar.specs.Script
+pub use Rattle.script_text.specs.Pages
+pub mod AnswerLines
+pub mod ConfigLines
+pub mod EventLines
+pub mod Putting
+pub mod Reading
+pub mod Refusals

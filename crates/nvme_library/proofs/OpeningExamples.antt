@@ -1,0 +1,32 @@
+-- Examples of openings, by computing.
+use Rattle.std.proofs.Common.{◌≡◌, ℕ, [], refl, sym, ap, ◌∙◌, Option, None, Some, replicate}
+use Rattle.nvme_spec.specs.declared.config.ConfigFault.{ConfigFault}
+use Rattle.nvme_spec.specs.declared.config.ConfigFault.TheVariants.{BadId, DoesNotFit}
+use Rattle.nvme_spec.specs.Configuration.{first_config_fault}
+use Rattle.std.proofs.lemmas.Option.{none-some}
+use Rattle.nvme_lent.specs.OwnOrLent.{lent_of}
+use Rattle.nvme_library.specs.Examples.{one_block, OneBlockOpens, NoBlockDoesNotOpen, HostlessDoesNotOpen, CopyIsNotLent}
+
+accepted : first_config_fault (one_block 5) 1 ≡ None
+unfolding first_config_fault
+accepted = refl
+
+too-large : first_config_fault (one_block 5) 0 ≡ Some DoesNotFit
+unfolding first_config_fault
+too-large = refl
+
+hostless : first_config_fault (one_block 0) 1 ≡ Some BadId
+unfolding first_config_fault
+hostless = refl
+
+pub one_block_opens : OneBlockOpens
+one_block_opens m is = record { accepted = accepted; state = refl; bytes = is; over = refl }
+
+pub no_block_does_not_open : NoBlockDoesNotOpen
+no_block_does_not_open lent new h = none-some _ (sym h.accepted ∙ too-large)
+
+pub hostless_does_not_open : HostlessDoesNotOpen
+hostless_does_not_open lent new h = none-some _ (sym h.accepted ∙ hostless)
+
+pub copy_is_not_lent : CopyIsNotLent
+copy_is_not_lent c bytes new copy is h = none-some _ (sym (ap lent_of is) ∙ h.over)

@@ -1,0 +1,41 @@
+-- Configurations of which examples speak, and what the examples say.
+use Rattle.std.specs.Prelude.{◌≡◌, ℕ, [], ◌∷◌, replicate, false, Option, Some}
+use Rattle.nvme_spec.specs.Configuration.{Configuration}
+use Rattle.nvme_medium.specs.declared.memory.MemMedium.{MemMedium}
+use Rattle.nvme_lent.specs.OwnOrLent.{bytes_of, lent_of}
+use Rattle.nvme_lent.specs.declared.bytes.LentBytes.{LentBytes}
+use Rattle.nvme_lent.specs.declared.either.OwnOrLent.{OwnOrLent}
+use Rattle.nvme_lent.specs.declared.either.OwnOrLent.TheVariants.{Own}
+use Rattle.nvme_machine.specs.Subsystems.{opening}
+use Rattle.nvme_subsys.specs.OverMedium.{over}
+use Rattle.nvme_library.specs.Holding.{Inside}
+use Rattle.nvme_library.specs.Opening.{OpensOver}
+
+-- a controller of this host, and a namespace of one block
+abbrev pub one_block : ℕ → Configuration
+one_block host = record {
+  controllers = record { cntlid = 1; host = host; raw = false } ∷ [];
+  namespaces = record { nsid = 1; blocks = 1; shared = false } ∷ [];
+  attached = [];
+}
+
+-- The controller of host 5 opens over any medium of one block.
+abbrev pub OneBlockOpens : Type 0
+OneBlockOpens =
+    (m : OwnOrLent) → bytes_of m ≡ replicate 512 7
+    → OpensOver (one_block 5) (replicate 512 7) 1 (lent_of m)
+    (over (opening (one_block 5) (record { content = replicate 512 7; failures = 0 })) m)
+
+-- It does not over a medium of none, nor does a controller of no host.
+abbrev pub NoBlockDoesNotOpen : Type 0
+NoBlockDoesNotOpen = (lent : Option LentBytes) → (new : Inside) → OpensOver (one_block 5) [] 0 lent new → ⊥
+
+abbrev pub HostlessDoesNotOpen : Type 0
+HostlessDoesNotOpen =
+    (lent : Option LentBytes) → (new : Inside) → OpensOver (one_block 0) (replicate 512 7) 1 lent new → ⊥
+
+-- A copy of lent bytes is not a medium over them, whatever the configuration; and one over none that were lent is its own.
+abbrev pub CopyIsNotLent : Type 0
+CopyIsNotLent =
+    (c : Configuration) → (bytes : LentBytes) → (new : Inside) → (copy : MemMedium) → new.medium ≡ Own copy
+    → OpensOver c bytes.items 1 (Some bytes) new → ⊥

@@ -1,0 +1,13 @@
+//! Worked examples of the definitions. The function does nothing: its contract is proved by computing.
+
+ghost use Rattle.nvme_library.specs.Examples.{OneBlockOpens, NoBlockDoesNotOpen, HostlessDoesNotOpen, CopyIsNotLent};
+
+/// A controller of host 5 and a namespace of one block open over any medium of one block, and over none of no block. A
+/// controller of no host does not open. A copy of lent bytes is not a medium over them.
+#[tactic(auto, using(crate::proofs::OpeningExamples::one_block_opens, crate::proofs::OpeningExamples::no_block_does_not_open, crate::proofs::OpeningExamples::hostless_does_not_open, crate::proofs::OpeningExamples::copy_is_not_lent))]
+pub fn one_block_is_opened()
+    ensures opens { OneBlockOpens }
+    ensures no_block { NoBlockDoesNotOpen }
+    ensures hostless { HostlessDoesNotOpen }
+    ensures copy { CopyIsNotLent }
+{}
