@@ -4,6 +4,7 @@ A line says who speaks: `N > COUNT` that the host of connection N sends so many 
 `N .` that the host closes the connection. The bytes stand in the lines behind it, in hexadecimal, blanks between words;
 `0*COUNT` is so many zeros.
 """
+import contextlib
 import re
 import socket
 import threading
@@ -13,6 +14,8 @@ from typing import Iterator, List, Tuple
 # What happens: the connection, the direction, and the bytes.
 Event = Tuple[int, str, bytes]
 WIDTH = 110
+# What the recorded target has in the file `identity` of its state folder.
+IDENTITY = "00112233445566778899aabbccddeeff\n"
 ZEROS = re.compile(rb"\0{16,}")
 
 
@@ -89,6 +92,9 @@ class Recorder:
         if direction == ">":
             self.add(number, ".", b"")
         for side in (source, sink):
+            # The other thread may wait for its bytes, and would keep it open.
+            with contextlib.suppress(OSError):
+                side.shutdown(socket.SHUT_RDWR)
             side.close()
 
     def add(self, number: int, direction: str, data: bytes) -> None:

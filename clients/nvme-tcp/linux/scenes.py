@@ -7,7 +7,7 @@ from pathlib import Path
 from typing import Callable, Dict, Iterator
 
 from linux.machines import ADDRESS, Guest, say
-from linux.record import Recorder
+from linux.record import IDENTITY, Recorder
 from tests.targets import BLOCKS, LIVE, Target
 
 BLOCK = 512
@@ -39,16 +39,26 @@ def free_port() -> int:
 class Stage:
     """A target over an image, with what has to hold at the end."""
 
-    def __init__(self, built: Path, folder: Path, blocks: int, *hosts: str, state: bool = False) -> None:
+    def __init__(self, built: Path, folder: Path, blocks: int, *hosts: str, state: bool = False,
+                 keys: str = "") -> None:
         self.built, self.folder, self.blocks, self.kept = built, folder, blocks, []
         self.guests: list = []
         self.faults: list = []
         self.port = free_port()
         self.options = ["--advertise", f"{ADDRESS}:{self.port}"]
         self.options += ["--state", str(folder / "state")] if state else []
+        if keys:
+            self.write_keys(keys)
+            self.options += ["--keys", str(folder / "keys")]
         self.image_before = folder / "before.img"
         self.image_before.write_bytes(bytes(BLOCK * blocks))
         self.target = Target(folder, config(blocks, *hosts), blocks, self.script(), self.port)
+
+    def write_keys(self, text: str) -> None:
+        """Writes the file of keys, which the target reads at its start and at SIGHUP."""
+        file = self.folder / "keys"
+        file.touch(0o600)
+        file.write_text(text)
 
     def script(self) -> list:
         """The options of the next target, which keeps a script of its own."""
@@ -352,9 +362,76 @@ def verify(built: Path, folder: Path) -> None:
         it.wants("fio verifies at b2: nothing of a1 lands any more", "rc 0" in text)
 
 
+def discard(built: Path, folder: Path) -> None:
+    """blkdiscard and fstrim; and a discard of a fenced host."""
+    with stage(built, folder, 65536, "a1", "b2") as it:
+        a, b = it.connected("a1"), it.connected("b2")
+        text = a.run("cd /sys/block/nvme0n1/queue; cat discard_max_bytes write_zeroes_max_bytes; cd /")
+        it.wants("Linux may discard and zero 32 MiB at a time", text.split().count("33554432") == 2)
+        a.run("dd if=/dev/urandom of=/dev/nvme0n1 bs=64k count=64 oflag=direct 2>/dev/null")
+        text = a.run("blkdiscard -o 1048576 -l 2097152 /dev/nvme0n1 && "
+                     "dd if=/dev/nvme0n1 bs=64k skip=16 count=32 iflag=direct 2>/dev/null | tr -d '\\0' | wc -c")
+        it.wants("what was discarded reads as zeros", text.split("\n")[1:2] == ["0"])
+        a.run("mkfs.ext4 -q -b 1024 /dev/nvme0n1 && mount -t ext4 /dev/nvme0n1 /disk && cp /bin/busybox /disk && sync")
+        text = a.run("rm /disk/busybox; sync; fstrim -v /disk; umount /disk; e2fsck -f -n /dev/nvme0n1; echo rc $?")
+        it.wants("fstrim trims the file system", "bytes) trimmed" in text and "rc 0" in text)
+        a.run(write("written by a1"))
+        a.run("pr register /dev/nvme0n1 0 0xa; pr reserve /dev/nvme0n1 0xa 1")
+        text = b.run("blkdiscard -f /dev/nvme0n1; echo rc $?")
+        it.wants("a fenced host's discard is refused", "rc 1" in text)
+        it.wants("and changes nothing", "written by a1" in a.run(READ))
+
+
+# What nvme-cli asks a controller and a namespace.
+ASKED = ("smart-log /dev/nvme0", "error-log /dev/nvme0 -e 4", "fw-log /dev/nvme0", "changed-ns-list-log /dev/nvme0",
+         "effects-log /dev/nvme0 -c 0", "ana-log /dev/nvme0", "supported-log-pages /dev/nvme0",
+         "fid-support-effects-log /dev/nvme0", "id-ctrl /dev/nvme0", "nvm-id-ctrl /dev/nvme0", "list-ns /dev/nvme0",
+         "list-ns /dev/nvme0 --all", "list-ctrl /dev/nvme0", "list-ctrl /dev/nvme0 -n 1",
+         "id-ns /dev/nvme0 -n 1 --force", "id-ns /dev/nvme0n1", "ns-descs /dev/nvme0n1", "cmdset-ind-id-ns /dev/nvme0n1 -n 1", "nvm-id-ns /dev/nvme0n1",
+         "get-feature /dev/nvme0 -f 1", "get-feature /dev/nvme0 -f 2", "get-feature /dev/nvme0 -f 4",
+         "get-feature /dev/nvme0n1 -f 5", "get-feature /dev/nvme0 -f 6", "get-feature /dev/nvme0 -f 7",
+         "get-feature /dev/nvme0 -f 10", "get-feature /dev/nvme0 -f 11", "get-feature /dev/nvme0 -f 15",
+         "get-feature /dev/nvme0 -f 15 -s 3 -H", "set-feature /dev/nvme0 -f 15 -v 7000",
+         "set-feature /dev/nvme0 -f 6 -v 0", "dsm /dev/nvme0n1 -n 1 --ad -s 0 -b 8",
+         "write-zeroes /dev/nvme0n1 -s 0 -c 7", "admin-passthru /dev/nvme0 -o 8", "resv-report /dev/nvme0n1 --eds", "list-subsys")
+REFUSED = (("get-log /dev/nvme0 -i 0x0d -l 512", "INVALID_LOG_PAGE"),
+           ("get-feature /dev/nvme0 -f 0xc", "INVALID_FIELD"))
+
+
+def nvme_cli(built: Path, folder: Path) -> None:
+    """What nvme-cli asks for: each of these commands succeeds."""
+    with stage(built, folder, 2048, "a1") as it:
+        a = it.connected("a1")
+        for words in ASKED:
+            it.wants(f"nvme {words}", "rc 0" in a.run(f"nvme {words}; echo rc $?"))
+        for words, reason in REFUSED:
+            it.wants(f"nvme {words} is refused", reason in a.run(f"nvme {words} 2>&1").replace(" ", "_").upper())
+
+
+def paths(built: Path, folder: Path) -> None:
+    """Two paths of one host, of which ctl takes one away: Linux goes on by the other."""
+    with stage(built, folder, 2048, "a1", "a1") as it:
+        a = it.connected("a1")
+        a.run(f"echo transport=tcp,traddr={ADDRESS},trsvcid={it.port},nqn=$nqn,hostnqn=nqn.2024-01.example:a1,"
+              "hostid=a1000000-0000-0000-0000-000000000000,duplicate_connect >/dev/nvme-fabrics; sleep 2")
+        states = "grep . /sys/block/nvme0c*n1/ana_state"
+        it.wants("both are optimized", a.run(states).count(":optimized") == 2)
+        for cntlid in (1, 2):
+            it.ask(f"ana {cntlid} inaccessible")
+            text = a.run(f"sleep 1; {states}")
+            it.wants("Linux knows of it", text.count(":inaccessible") == 1 and text.count(":optimized") == 1)
+            it.wants("it writes", "512 bytes" in a.run(write(f"written without {cntlid}")))
+            it.wants("and reads", f"written without {cntlid}" in a.run(READ))
+            it.ask(f"ana {cntlid} non-optimized")
+            it.wants("it is a path again", a.run(f"sleep 1; {states}").count(":non-optimized") >= 1)
+            it.ask(f"ana {cntlid} optimized")
+
+
 def recorded(built: Path, folder: Path, path: Path) -> None:
     """Two hosts connect, read, write, are fenced and leave. What they and the target say is written down."""
-    with stage(built, folder, BLOCKS, "a1", "b2") as it:
+    with stage(built, folder, BLOCKS, "a1", "b2", state=True) as it:
+        (folder / "state/identity").write_text(IDENTITY)
+        it.restart()
         recorder = Recorder(it.target.port)
         it.port = recorder.port
         a, b = it.connected("a1", "--hdr-digest --data-digest"), it.connected("b2", "")
@@ -375,4 +452,5 @@ def recorded(built: Path, folder: Path, path: Path) -> None:
 
 SCENES: Dict[str, Callable[[Path, Path], None]] = {
     "disk": disk, "fencing": fencing, "failover": failover, "in-flight": in_flight, "retried": retried,
-    "one-guest": one_guest, "quorum": quorum, "restart": restart, "verify": verify}
+    "one-guest": one_guest, "quorum": quorum, "restart": restart, "verify": verify,
+    "discard": discard, "nvme-cli": nvme_cli, "paths": paths}

@@ -1,60 +1,47 @@
-//! Admin commands: those that Fabrics or Linux need and the subsystem leaves out, each in one place. All others are the
+//! Admin commands: those that Fabrics, Linux or nvme-cli need and the subsystem leaves out. All others are the
 //! subsystem's.
 
 use crate::answer::Answer;
-use crate::bytes::{u16_at, u32_at, u64_at};
-use crate::controller::{Data, ENTRY};
-use crate::events::CHANGED_NAMESPACES;
+use crate::bytes::{u16_at, u32_at};
+use crate::controller::Data;
 use crate::fault::Outcome;
-use crate::identify::{self, NAMESPACE_NOTICE};
-use crate::status::{EVENT_LIMIT, INVALID_NAMESPACE, INVALID_OPCODE, SUCCESS};
-use crate::target::{Effect, Target, GET_LOG_PAGE, IDENTIFY, KEEP_ALIVE, NAMESPACE_ATTACHMENT};
+use crate::nvme::{
+    ABORT, ASYNCHRONOUS_EVENT_REQUEST, CREATE_COMPLETION_QUEUE, CREATE_SUBMISSION_QUEUE, DELETE_COMPLETION_QUEUE,
+    DELETE_SUBMISSION_QUEUE, ENTRY, GET_FEATURES, GET_LOG_PAGE, IDENTIFY, KEEP_ALIVE, NAMESPACE_ATTACHMENT,
+    SET_FEATURES,
+};
+use crate::status::{EVENT_LIMIT, INVALID_OPCODE, SUCCESS};
+use crate::target::{Effect, Target};
 
-/// Opcodes of admin commands.
-const DELETE_SUBMISSION: u8 = 0x00;
-const CREATE_SUBMISSION: u8 = 0x01;
-const DELETE_COMPLETION: u8 = 0x04;
-const CREATE_COMPLETION: u8 = 0x05;
-const SET_FEATURES: u8 = 0x09;
-const GET_FEATURES: u8 = 0x0a;
-const ASYNCHRONOUS_EVENT_REQUEST: u8 = 0x0c;
-/// The feature Asynchronous Event Configuration.
-const EVENT_CONFIGURATION: u8 = 0x0b;
-/// Get Log Page: Retain Asynchronous Event.
-const RETAIN: u32 = 1 << 15;
+/// Double word 0 of an Abort that has aborted nothing.
+const NOT_ABORTED: u32 = 1;
 
 impl Target<'_> {
     /// Carries out an admin command. It has no answer yet where it waits for an event.
     pub fn admin(&mut self, index: usize, entry: &[u8; ENTRY], data: Data<'_>) -> Outcome<Option<Answer>> {
-        let (dw10, length) = (u32_at(entry, 40), asked(data));
-        let answer = match (entry[0], dw10 as u8) {
+        let answer = match entry[0] {
             // Fabrics has Connect and Disconnect in their place.
-            (DELETE_SUBMISSION | CREATE_SUBMISSION | DELETE_COMPLETION | CREATE_COMPLETION, _) => {
+            DELETE_SUBMISSION_QUEUE | CREATE_SUBMISSION_QUEUE | DELETE_COMPLETION_QUEUE | CREATE_COMPLETION_QUEUE => {
                 Answer::of(INVALID_OPCODE)
             }
-            (KEEP_ALIVE, _) => {
+            KEEP_ALIVE => {
                 self.associations[index].iter_mut().for_each(|it| it.hear());
                 Answer::of(SUCCESS)
             }
-            (ASYNCHRONOUS_EVENT_REQUEST, _) => return self.request_event(index, u16_at(entry, 2)),
-            (IDENTIFY, identify::CONTROLLER) => self.identify_controller(index, entry, length)?,
-            (IDENTIFY, identify::DESCRIPTORS) => self.identify_descriptors(index, entry, length)?,
-            (GET_LOG_PAGE, CHANGED_NAMESPACES) => self.changed_namespaces(index, entry, length),
-            (SET_FEATURES, EVENT_CONFIGURATION) if dw10 == u32::from(EVENT_CONFIGURATION) => {
-                self.associations[index].iter_mut().for_each(|it| it.events.configuration = u32_at(entry, 44));
-                Answer::of(SUCCESS)
-            }
-            (GET_FEATURES, EVENT_CONFIGURATION) if dw10 == u32::from(EVENT_CONFIGURATION) => {
-                let set = self.associations[index].as_ref().map_or(0, |it| it.events.configuration);
-                Answer { dw0: set, ..Answer::of(SUCCESS) }
-            }
+            ASYNCHRONOUS_EVENT_REQUEST => return self.request_event(index, u16_at(entry, 2)),
+            // Commands end before the next one is heard of, but for those that wait for an event, or are held.
+            ABORT => Answer { dw0: NOT_ABORTED, ..Answer::of(SUCCESS) },
+            IDENTIFY => self.identify(index, entry, data)?,
+            GET_LOG_PAGE => self.get_log_page(index, entry, asked(data))?,
+            SET_FEATURES => self.set_features(index, entry, data)?,
+            GET_FEATURES => self.get_features(index, entry, data)?,
             _ => self.plain(index, entry, data)?,
         };
         Ok(Some(answer))
     }
 
     /// An admin command that is the subsystem's.
-    fn plain(&mut self, index: usize, entry: &[u8; ENTRY], data: Data<'_>) -> Outcome<Answer> {
+    pub fn plain(&mut self, index: usize, entry: &[u8; ENTRY], data: Data<'_>) -> Outcome<Answer> {
         let completed = self.controllers[index].run(&mut self.machine, 0, entry, data)?;
         if completed.status == SUCCESS {
             self.follow(index, 0, entry, data, true)?;
@@ -63,45 +50,6 @@ impl Target<'_> {
             }
         }
         Ok(Answer::completed(completed, self.controllers[index].cntlid, asked(data)))
-    }
-
-    /// Identify Controller, with what Fabrics needs.
-    fn identify_controller(&mut self, index: usize, entry: &[u8; ENTRY], length: usize) -> Outcome<Answer> {
-        let has_image = self.image.is_some();
-        let completed = self.controllers[index].run(&mut self.machine, 0, entry, Data::FromController(length))?;
-        if completed.status != SUCCESS {
-            return Ok(Answer::of(completed.status));
-        }
-        let mut told = vec![0; length.max(identify::BYTES)];
-        self.machine.load(self.controllers[index].cntlid, completed.data, &mut told[..length])?;
-        identify::controller(&mut told, &self.settings.name, has_image);
-        Ok(Answer::with(told, length))
-    }
-
-    /// Identify 03h, the descriptors of a namespace. The subsystem is asked Identify 00h in its place: whether the
-    /// namespace is attached.
-    fn identify_descriptors(&mut self, index: usize, entry: &[u8; ENTRY], length: usize) -> Outcome<Answer> {
-        let mut asking = *entry;
-        asking[40] = identify::NAMESPACE;
-        let data = Data::FromController(identify::BYTES);
-        let completed = self.controllers[index].run(&mut self.machine, 0, &asking, data)?;
-        if completed.status != SUCCESS {
-            return Ok(Answer::of(completed.status));
-        }
-        let mut told = vec![0; identify::BYTES];
-        self.machine.load(self.controllers[index].cntlid, completed.data, &mut told)?;
-        if told.iter().all(|byte| *byte == 0) {
-            return Ok(Answer::of(INVALID_NAMESPACE));
-        }
-        Ok(Answer::with(identify::descriptors(&self.settings.name, u32_at(entry, 4)), length))
-    }
-
-    /// Get Log Page 04h. It has what was told of this association.
-    fn changed_namespaces(&mut self, index: usize, entry: &[u8; ENTRY], length: usize) -> Answer {
-        let retains = u32_at(entry, 40) & RETAIN != 0;
-        let page = self.associations[index].as_mut().map(|it| it.events.log_page(retains)).unwrap_or_default();
-        let offset = u64_at(entry, 48).min(page.len() as u64) as usize;
-        Answer::with(page[offset..].to_vec(), length)
     }
 
     fn request_event(&mut self, index: usize, cid: u16) -> Outcome<Option<Answer>> {
@@ -125,11 +73,13 @@ impl Target<'_> {
         }
     }
 
-    /// Answers a request that waits for an event, if there is one.
-    fn tell_events(&mut self, index: usize) {
+    /// Answers requests that wait for an event, as many as have one.
+    pub fn tell_events(&mut self, index: usize) {
         if let Some(association) = &mut self.associations[index] {
-            if let (Some((cid, dw0)), Some(admin)) = (association.events.due(NAMESPACE_NOTICE), association.queues[0]) {
-                self.effects.push_back(Effect::Answer(admin, cid, Answer { dw0, ..Answer::of(SUCCESS) }));
+            let admin = association.queues[0];
+            while let (Some((cid, dw0)), Some(admin)) = (association.events.due(), admin) {
+                let answer = Answer { dw0, ..Answer::of(SUCCESS) };
+                self.effects.push_back(Effect::Answer(admin, request_entry(cid), answer));
             }
         }
     }
@@ -138,6 +88,14 @@ impl Target<'_> {
     pub fn waits(&self, index: usize, cid: u16) -> bool {
         self.associations[index].as_ref().map_or(false, |it| it.events.has(cid))
     }
+}
+
+/// The entry of an Asynchronous Event Request.
+fn request_entry(cid: u16) -> [u8; ENTRY] {
+    let mut entry = [0; ENTRY];
+    entry[0] = ASYNCHRONOUS_EVENT_REQUEST;
+    entry[2..4].copy_from_slice(&cid.to_le_bytes());
+    entry
 }
 
 /// How many bytes a command's host has room for.

@@ -5,7 +5,6 @@
 use crate::system::reserve;
 use std::fs::File;
 use std::io::{self, ErrorKind, IoSlice, Write};
-use std::path::Path;
 
 /// Room is reserved for as many bytes as a file has, but for these at most; and for none where it has fewer than those.
 const MOST: u64 = 64 << 20;
@@ -23,9 +22,8 @@ pub struct Appended {
 }
 
 impl Appended {
-    /// Begins a file anew.
-    pub fn create(path: &Path) -> io::Result<Appended> {
-        let file = File::create(path)?;
+    /// A file that is empty, or is a stream.
+    pub fn new(file: File) -> io::Result<Appended> {
         let takes_room = file.metadata()?.is_file();
         Ok(Appended { file, length: 0, reserved: 0, takes_room })
     }
@@ -53,6 +51,15 @@ impl Appended {
         self.file.write_all(&then[done.saturating_sub(first.len())..])?;
         self.length += count as u64;
         Ok(())
+    }
+
+    /// Gives back room, and has the disk hold all bytes. A pipe has no disk.
+    pub fn sync(&mut self) -> io::Result<()> {
+        self.give_back();
+        match self.file.sync_all() {
+            Err(error) if error.kind() == ErrorKind::InvalidInput => Ok(()),
+            result => result,
+        }
     }
 
     /// How many bytes it has.
@@ -126,7 +133,7 @@ mod tests {
     #[test]
     fn room_that_is_left_over_is_given_back() {
         let path = std::env::temp_dir().join(format!("nvmetcp-appended-{}", std::process::id()));
-        let mut file = Appended::create(&path).unwrap();
+        let mut file = Appended::new(File::create(&path).unwrap()).unwrap();
         for count in [LEAST, 1, LEAST] {
             file.append(&vec![7; count as usize]).unwrap();
             file.give_back();
@@ -140,7 +147,7 @@ mod tests {
 
     #[test]
     fn what_is_no_file_gets_no_room() {
-        let mut file = Appended::create(Path::new("/dev/null")).unwrap();
+        let mut file = Appended::new(File::create("/dev/null").unwrap()).unwrap();
         for _ in 0..3 {
             file.append(&vec![7; LEAST as usize]).unwrap();
         }

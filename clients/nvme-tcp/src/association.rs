@@ -2,8 +2,10 @@
 
 use crate::discovery::Discovery;
 use crate::events::Events;
-use crate::window::MOST_QUEUE;
-use std::net::{IpAddr, SocketAddr};
+use crate::features::Features;
+use crate::nvme::QUEUES;
+use crate::proving::Proof;
+use std::net::SocketAddr;
 use std::time::{Duration, Instant};
 
 /// The name of a connection, which is never used again.
@@ -14,6 +16,8 @@ pub type ConnectionId = u64;
 pub enum Session {
     /// Nothing: it has not been connected.
     None,
+    /// Nothing yet: its host has to prove who it is.
+    Unproved,
     /// A queue of a controller, which is one of the target's by its place.
     Controller { index: usize, qid: u16 },
     /// The queue of a discovery controller.
@@ -24,22 +28,25 @@ pub enum Session {
 pub struct HostQueue {
     pub connection: ConnectionId,
     /// The addresses of the host and of the target.
-    pub host: IpAddr,
+    pub peer: SocketAddr,
     pub local: SocketAddr,
     pub session: Session,
     /// How many entries it has, and how many of them were taken, modulo that.
     pub entries: u16,
     head: u16,
     pub has_flow_control: bool,
+    /// How its host proves who it is, if hosts have to.
+    pub proof: Option<Box<Proof>>,
     /// Whether Disconnect has ended it.
     pub is_over: bool,
 }
 
 impl HostQueue {
     /// A connection that has sent nothing.
-    pub fn new(connection: ConnectionId, host: IpAddr, local: SocketAddr) -> HostQueue {
+    pub fn new(connection: ConnectionId, peer: SocketAddr, local: SocketAddr) -> HostQueue {
         let (session, entries, head) = (Session::None, 1, 0);
-        HostQueue { connection, host, local, session, entries, head, has_flow_control: true, is_over: false }
+        let (has_flow_control, proof, is_over) = (true, None, false);
+        HostQueue { connection, peer, local, session, entries, head, has_flow_control, proof, is_over }
     }
 
     /// Takes a command.
@@ -69,33 +76,53 @@ impl HostQueue {
 pub struct Association {
     pub host_id: [u8; 16],
     pub host_name: Vec<u8>,
-    pub address: IpAddr,
+    /// The addresses of its admin queue: the host's, and the target's.
+    pub peer: SocketAddr,
+    pub local: SocketAddr,
     /// The connection of each queue, that of the admin queue first.
-    pub queues: [Option<ConnectionId>; MOST_QUEUE as usize + 1],
+    pub queues: [Option<ConnectionId>; QUEUES],
     pub admin_entries: u16,
-    /// How long it lives without a Keep Alive; for ever where this is nothing.
-    patience: Option<Duration>,
+    /// How long it lives without a Keep Alive, in seconds; for ever where this is 0.
+    keep_alive_seconds: u32,
     heard: Instant,
     pub events: Events,
+    pub features: Features,
 }
 
 impl Association {
-    /// The association that an admin queue makes, whose host asks for this Keep Alive Timeout in milliseconds.
-    pub fn new(queue: &HostQueue, data: &ConnectData<'_>, entries: u16, keep_alive: u32) -> Association {
-        // The timer has a second more than was asked for, since it is looked at now and then.
-        let patience = Duration::from_millis(keep_alive.into()) + Duration::from_secs(1);
-        let mut queues = [None; MOST_QUEUE as usize + 1];
+    /// The association that an admin queue makes. Its Keep Alive Timer begins now.
+    pub fn new(queue: &HostQueue, data: &ConnectData) -> Association {
+        let mut queues = [None; QUEUES];
         queues[0] = Some(queue.connection);
         Association {
             host_id: data.host_id,
-            host_name: data.host_name.to_vec(),
-            address: queue.host,
+            host_name: data.host_name.clone(),
+            peer: queue.peer,
+            local: queue.local,
             queues,
-            admin_entries: entries,
-            patience: if keep_alive == 0 { None } else { Some(patience) },
+            admin_entries: data.entries,
+            keep_alive_seconds: whole_seconds(data.keep_alive),
             heard: Instant::now(),
             events: Events::default(),
+            features: Features::default(),
         }
+    }
+
+    /// Keep Alive Timeout, in milliseconds.
+    pub fn keep_alive(&self) -> u32 {
+        self.keep_alive_seconds.saturating_mul(1000)
+    }
+
+    /// The host asks for another Keep Alive Timeout, in milliseconds.
+    pub fn set_keep_alive(&mut self, keep_alive: u32) {
+        self.keep_alive_seconds = whole_seconds(keep_alive);
+        self.hear();
+    }
+
+    /// The controller is reset: nothing of what its host has set is left.
+    pub fn reset(&mut self) {
+        self.events = Events::default();
+        self.features = Features::default();
     }
 
     /// Its host is alive.
@@ -104,13 +131,25 @@ impl Association {
     }
 
     pub fn is_expired(&self, now: Instant) -> bool {
-        self.patience.map_or(false, |patience| now.saturating_duration_since(self.heard) > patience)
+        // The timer has a second more than was asked for, since it is looked at now and then.
+        let patience = Duration::from_secs(u64::from(self.keep_alive_seconds) + 1);
+        self.keep_alive_seconds != 0 && now.saturating_duration_since(self.heard) > patience
     }
 }
 
-/// The data of Connect.
-pub struct ConnectData<'d> {
+/// A Keep Alive Timeout in milliseconds, in units of KAS, which are seconds.
+fn whole_seconds(milliseconds: u32) -> u32 {
+    milliseconds / 1000 + u32::from(milliseconds % 1000 != 0)
+}
+
+/// What Connect has said.
+#[derive(Clone)]
+pub struct ConnectData {
     pub host_id: [u8; 16],
     pub cntlid: u16,
-    pub host_name: &'d [u8],
+    pub host_name: Vec<u8>,
+    pub qid: u16,
+    pub entries: u16,
+    /// The Keep Alive Timeout in milliseconds.
+    pub keep_alive: u32,
 }

@@ -1,16 +1,19 @@
 //! Numbers in bytes, lowest byte first, as NVMe has them.
 
 /// The two bytes at a place.
+#[inline]
 pub fn u16_at(bytes: &[u8], at: usize) -> u16 {
     u16::from_le_bytes([bytes[at], bytes[at + 1]])
 }
 
 /// The four bytes at a place.
+#[inline]
 pub fn u32_at(bytes: &[u8], at: usize) -> u32 {
     u32::from_le_bytes([bytes[at], bytes[at + 1], bytes[at + 2], bytes[at + 3]])
 }
 
 /// The eight bytes at a place.
+#[inline]
 pub fn u64_at(bytes: &[u8], at: usize) -> u64 {
     u64::from(u32_at(bytes, at)) | u64::from(u32_at(bytes, at + 4)) << 32
 }
@@ -42,19 +45,6 @@ pub fn put_hex(room: &mut [u8], bytes: &[u8]) {
     }
 }
 
-/// A number in decimal digits, which stand at the end of the room.
-pub fn digits_of(number: u64, room: &mut [u8; 20]) -> &[u8] {
-    let (mut at, mut rest) = (room.len(), number);
-    loop {
-        at -= 1;
-        room[at] = b'0' + (rest % 10) as u8;
-        rest /= 10;
-        if rest == 0 {
-            return &room[at..];
-        }
-    }
-}
-
 #[cfg(test)]
 mod tests {
     use super::*;
@@ -67,13 +57,6 @@ mod tests {
             put_hex(&mut text, &all[..count]);
             let wanted: String = all[..count].iter().map(|byte| format!("{byte:02x}")).collect();
             assert_eq!(String::from_utf8(text).unwrap(), wanted);
-        }
-    }
-
-    #[test]
-    fn numbers_have_their_digits() {
-        for number in [0, 9, 10, 4095, 4_194_303, u64::MAX] {
-            assert_eq!(digits_of(number, &mut [0; 20]), number.to_string().as_bytes());
         }
     }
 }

@@ -1,94 +1,85 @@
-//! CONFIG: the lines of a script before its `start`, which describe the subsystem.
+//! CONFIG: the lines of a script before its `start`, which describe the subsystem. The library reads them, and judges
+//! them as it does for the programs that run scripts.
 
-use nvmesim::{Attachment, Config, Controller, Namespace};
+use crate::nvme::{BLOCK, MOST_NAMESPACES};
+use crate::options::host_id;
+use nvmesim::{read_configuration, Config, ConfigError, Controller};
 use std::fmt::Write;
+use std::fs::File;
+use std::io::{self, Read};
+use std::path::Path;
 
-/// The size of a block.
-pub const BLOCK: u64 = 512;
+/// The most bytes of a text, and one, which the library refuses.
+const MOST_TEXT: u64 = (4 << 20) + 1;
 
-/// A subsystem as CONFIG describes it. `config` is what the library takes, `hosts` the host of each controller.
+/// A subsystem as CONFIG describes it. Its hosts have no drivers, since Linux is theirs.
 #[derive(Debug, PartialEq, Eq)]
 pub struct Configuration {
     pub config: Config,
-    pub hosts: Vec<u128>,
+    /// The lines of a script that describe the same.
+    pub lines: String,
+}
+
+/// The text of a file, as far as a configuration may be long.
+pub fn text_of(path: &Path) -> io::Result<Vec<u8>> {
+    let mut text = Vec::new();
+    File::open(path)?.take(MOST_TEXT).read_to_end(&mut text)?;
+    Ok(text)
 }
 
 impl Configuration {
-    /// Reads a text. The error names the line that is not understood.
-    pub fn read(text: &str) -> Result<Configuration, String> {
-        let mut read = Configuration { config: Config::default(), hosts: Vec::new() };
-        let lines = text.lines().map(str::trim).enumerate();
-        for (number, line) in lines.filter(|(_, line)| !line.is_empty() && !line.starts_with('#')) {
-            if line == "start" {
-                break;
-            }
-            let words: Vec<&str> = line.split_whitespace().collect();
-            read.take(&words).ok_or_else(|| format!("line {}: not understood: {line}", number + 1))?;
-        }
-        if read.hosts.is_empty() {
-            return Err("it has no controller".to_owned());
-        }
-        Ok(read)
+    /// Reads a text, and judges it for an image of so many blocks. The error begins with the line and the column.
+    pub fn read(text: &[u8], blocks: u64) -> Result<Configuration, String> {
+        let mut config = read_configuration(text, blocks).map_err(|error| told(text, &error))?;
+        config.controllers.iter_mut().for_each(|it| it.raw = true);
+        let lines = config.lines().map_err(|error| format!(" {error}"))?;
+        Ok(Configuration { config, lines })
     }
 
-    fn take(&mut self, words: &[&str]) -> Option<()> {
-        match *words {
-            ["controller", cntlid, "host", host] | ["controller", cntlid, "host", host, "raw"] => {
-                let host = number(host)?;
-                self.config.controllers.push(Controller::new(number(cntlid)?.try_into().ok()?, host));
-                self.hosts.push(host);
-            }
-            ["namespace", nsid, "blocks", blocks, kind] => {
-                let shared = ["private", "shared"].iter().position(|it| *it == kind)? == 1;
-                let (nsid, blocks) = (number(nsid)?.try_into().ok()?, number(blocks)?.try_into().ok()?);
-                self.config.namespaces.push(Namespace { blocks, nsid, shared });
-            }
-            ["attached", cntlid, nsid] => {
-                let (cntlid, nsid) = (number(cntlid)?.try_into().ok()?, number(nsid)?.try_into().ok()?);
-                self.config.attached.push(Attachment { nsid, cntlid });
-            }
-            _ => return None,
-        }
-        Some(())
-    }
-
-    /// The lines of a script that describe the same. Its hosts have no drivers, since Linux is theirs.
-    pub fn lines(&self) -> String {
-        let mut text = String::new();
-        for (host, cntlid) in self.hosts.iter().zip(1..) {
-            let _ = writeln!(text, "controller {cntlid} host {host:#x} raw");
-        }
-        for it in &self.config.namespaces {
-            let kind = if it.shared { "shared" } else { "private" };
-            let _ = writeln!(text, "namespace {} blocks {} {kind}", it.nsid, it.blocks);
-        }
-        for it in &self.config.attached {
-            let _ = writeln!(text, "attached {} {}", it.cntlid, it.nsid);
-        }
-        text
+    /// The host of each controller.
+    pub fn hosts(&self) -> Vec<u128> {
+        self.config.controllers.iter().map(Controller::host).collect()
     }
 
     /// How many bytes all namespaces have.
     pub fn bytes(&self) -> u64 {
-        self.config.namespaces.iter().map(|it| it.blocks.saturating_mul(BLOCK)).fold(0, u64::saturating_add)
+        BLOCK * self.config.namespaces.iter().map(|it| it.blocks).sum::<u64>()
+    }
+
+    /// The place of a namespace in the list of all.
+    #[inline]
+    pub fn place(&self, nsid: u32) -> Option<usize> {
+        self.config.namespaces.iter().position(|it| it.nsid == nsid)
+    }
+
+    /// How many blocks a namespace has, 0 where there is none.
+    pub fn blocks(&self, nsid: u32) -> u64 {
+        self.place(nsid).map_or(0, |at| self.config.namespaces[at].blocks)
+    }
+
+    /// Whether a namespace may have this identifier.
+    pub fn may_be(&self, nsid: u32) -> bool {
+        (1..=MOST_NAMESPACES).contains(&nsid)
     }
 
     /// Where a namespace begins, in blocks: they lie one after the other. Nothing where there is none.
+    #[inline]
     pub fn first_block(&self, nsid: u32) -> Option<u64> {
-        let at = self.config.namespaces.iter().position(|it| it.nsid == nsid)?;
+        let at = self.place(nsid)?;
         Some(self.config.namespaces[..at].iter().map(|it| it.blocks).sum())
     }
 }
 
-/// A number in decimal digits, or in hexadecimal ones behind `0x`.
-pub fn number(word: &str) -> Option<u128> {
-    let (digits, base) = word.strip_prefix("0x").map_or((word, 10), |digits| (digits, 16));
-    let is_plain = digits.bytes().all(|byte| byte.is_ascii_hexdigit());
-    if is_plain {
-        u128::from_str_radix(digits, base).ok()
-    } else {
-        None
+/// Why a text is refused. Where a host is written as a UUID, the number that is wanted in its place helps.
+fn told(text: &[u8], error: &ConfigError) -> String {
+    let mut told = if error.reason.is_empty() { format!(" {:?}", error.name) } else { error.reason.clone() };
+    let line = text.split(|byte| *byte == b'\n').nth(error.line.wrapping_sub(1)).unwrap_or_default();
+    let rest = line.get(error.column.wrapping_sub(1)..).unwrap_or_default();
+    let word = rest.split(u8::is_ascii_whitespace).next().unwrap_or_default();
+    if let Some(bytes) = std::str::from_utf8(word).ok().and_then(host_id) {
+        let _ = write!(told, "; the host with this HOSTID is {:#034x}", u128::from_le_bytes(bytes));
     }
+    told
 }
 
 #[cfg(test)]
@@ -97,19 +88,12 @@ mod tests {
 
     #[test]
     fn lines_describe_the_same() {
-        let text = "# hosts\ncontroller 1 host 0xa1\ncontroller 2 host 178 raw\nnamespace 1 blocks 64 shared\n\
-                    namespace 3 blocks 0x8 private\nattached 2 1\nstart\n";
-        let read = Configuration::read(text).unwrap();
-        assert_eq!(Configuration::read(&read.lines()).as_ref(), Ok(&read));
+        let text = b"# hosts \xff\ncontroller 1 host 0xa1\ncontroller 2 host 178 raw\nnamespace 1 blocks 64 shared\n\
+                     namespace 3 blocks 0x8 private\nattached 2 1\nstart\n";
+        let read = Configuration::read(text, 72).unwrap();
+        assert_eq!(Configuration::read(read.lines.as_bytes(), 72).as_ref(), Ok(&read));
+        assert!(read.lines.starts_with("controller 1 host 0xa1 raw\ncontroller 2 host 0xb2 raw\n"), "{}", read.lines);
         assert_eq!((read.bytes(), read.first_block(3), read.first_block(2)), (72 * 512, Some(64), None));
-    }
-
-    #[test]
-    fn what_is_not_understood() {
-        for line in ["controller 1", "controller 65536 host 1", "namespace 1 blocks 4 public", "attached +1 1", "x"] {
-            let told = Configuration::read(&format!("controller 1 host 1\n{line}\n"));
-            assert_eq!(told, Err(format!("line 2: not understood: {line}")));
-        }
-        assert!(Configuration::read("").is_err());
+        assert!(Configuration::read(text, 71).unwrap_err().starts_with("5:1: namespace 3 ends behind the 71 blocks"));
     }
 }

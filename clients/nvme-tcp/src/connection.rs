@@ -2,15 +2,21 @@
 
 use crate::answer::{Answer, Payload};
 use crate::association::{HostQueue, Session};
+use crate::authentication::Done;
 use crate::bytes::{put, u16_at};
-use crate::controller::{Data, ENTRY};
+use crate::controller::Data;
+use crate::counters::Closing;
 use crate::fabrics;
 use crate::fault::{Fault, Outcome};
 use crate::input::{Input, Rooms};
+use crate::nvme::ENTRY;
 use crate::output::Output;
 use crate::pdu::{self, Agreed, Fatal, Layout, COMMON};
 use crate::pointer::Pointer;
-use crate::status::{Status, COMMAND_ID_CONFLICT, COMMAND_SEQUENCE, SUCCESS, TRANSIENT_TRANSPORT};
+use crate::proving::goes_before_proof;
+use crate::status::{
+    Status, AUTHENTICATION_REQUIRED, COMMAND_ID_CONFLICT, COMMAND_SEQUENCE, SUCCESS, TRANSIENT_TRANSPORT,
+};
 use crate::target::Target;
 use crate::transfers::{Part, Transfers};
 use std::io::{self, Read, Write};
@@ -20,6 +26,8 @@ use std::time::{Duration, Instant};
 
 /// How long a connection may take until its Connect has succeeded.
 const BEFORE_CONNECT: Duration = Duration::from_secs(5);
+/// Time from Connect to the host's proof. Linux 6.12 takes up to 21 seconds until it has tested a large DH group.
+const BEFORE_PROOF: Duration = Duration::from_secs(120);
 /// How long a discovery controller waits for a command.
 const DISCOVERY_IDLE: Duration = Duration::from_secs(120);
 /// How long a connection that has ended waits for its host to close it.
@@ -79,6 +87,8 @@ pub struct Connection {
     deadline: Option<Instant>,
     /// Whether it is gone.
     pub is_closed: bool,
+    /// Why it ends, where the target ends it.
+    pub closing: Option<Closing>,
 }
 
 impl Connection {
@@ -94,6 +104,7 @@ impl Connection {
             waits: false,
             deadline: Some(Instant::now() + BEFORE_CONNECT),
             is_closed: false,
+            closing: None,
         }
     }
 
@@ -204,19 +215,18 @@ impl Connection {
     fn capsule(&mut self, target: &mut Target<'_>, layout: &Layout, unit: &[u8]) -> Result<(), Stop> {
         let mut entry = [0; ENTRY];
         entry.copy_from_slice(&unit[COMMON..COMMON + ENTRY]);
-        let cid = u16_at(&entry, 2);
         self.queue.advance();
         if self.transfers.count() >= usize::from(self.queue.entries) {
             return Err(pdu::OUT_OF_SEQUENCE.into());
         }
         if let Some(status) = self.refusal(target, &entry, layout, unit) {
-            return Ok(self.answer(target, cid, Answer::of(status))?);
+            return Ok(self.answer(target, &entry, Answer::of(status))?);
         }
         let data = layout.data_in(unit);
         match Pointer::of(&entry, data.len()) {
-            Err(status) => self.answer(target, cid, Answer::of(status))?,
+            Err(status) => self.answer(target, &entry, Answer::of(status))?,
             Ok(Pointer::OnRequest(_)) if self.is_pending() => {
-                self.answer(target, cid, Answer::of(COMMAND_SEQUENCE))?;
+                self.answer(target, &entry, Answer::of(COMMAND_SEQUENCE))?;
             }
             Ok(Pointer::OnRequest(length)) => {
                 self.transfers.begin(entry, length);
@@ -233,12 +243,13 @@ impl Connection {
         let cid = u16_at(entry, 2);
         let waits = match self.queue.session {
             Session::None if !fabrics::is_connect(entry) => return Some(COMMAND_SEQUENCE),
+            Session::Unproved if !goes_before_proof(entry) => return Some(AUTHENTICATION_REQUIRED),
             Session::Controller { index, qid: 0 } => target.waits(index, cid),
             _ => false,
         };
         if !layout.has_right_data(unit) {
             Some(TRANSIENT_TRANSPORT)
-        } else if waits || self.transfers.has(cid) {
+        } else if waits || self.transfers.has(cid) || self.queue.proof.as_ref().map_or(false, |it| it.waits(cid)) {
             Some(COMMAND_ID_CONFLICT)
         } else {
             None
@@ -264,7 +275,7 @@ impl Connection {
             if transfer.is_sound {
                 self.carry_out(target, &transfer.entry, Data::ToController(transfer.data(&part)))?;
             } else {
-                self.answer(target, cid, Answer::of(TRANSIENT_TRANSPORT))?;
+                self.answer(target, &transfer.entry, Answer::of(TRANSIENT_TRANSPORT))?;
             }
             self.transfers.end(transfer);
             self.request_data();
@@ -273,14 +284,31 @@ impl Connection {
     }
 
     fn carry_out(&mut self, target: &mut Target<'_>, entry: &[u8; ENTRY], data: Data<'_>) -> Outcome<()> {
+        let before = self.queue.session;
         let answer = target.carry_out(&mut self.queue, entry, data)?;
-        self.deadline = match self.queue.session {
-            Session::None => self.deadline,
-            Session::Discovery(_) => Some(Instant::now() + DISCOVERY_IDLE),
-            Session::Controller { .. } => None,
-        };
-        if let Some(answer) = answer {
-            self.answer(target, u16_at(entry, 2), answer)?;
+        self.follow(target, before, answer.map(|answer| (*entry, answer)))
+    }
+
+    /// Takes what came of work that the proof of its host needs.
+    pub fn finish_work(&mut self, target: &mut Target<'_>, done: Done) -> Outcome<()> {
+        if self.phase == Phase::Ending {
+            return Ok(());
+        }
+        let before = self.queue.session;
+        let answer = target.finish_work(&mut self.queue, done)?;
+        self.follow(target, before, answer)
+    }
+
+    /// Answers a command, if it has an answer, and follows what has become of the queue, which was this before.
+    fn follow(
+        &mut self,
+        target: &mut Target<'_>,
+        before: Session,
+        answer: Option<([u8; ENTRY], Answer)>,
+    ) -> Outcome<()> {
+        self.set_deadline(before, Instant::now());
+        if let Some((entry, answer)) = answer {
+            self.answer(target, &entry, answer)?;
         }
         if self.queue.is_over {
             self.end();
@@ -288,10 +316,22 @@ impl Connection {
         Ok(())
     }
 
+    /// Sets the deadline after a command on a queue that was this before. Nothing extends the time of a proof.
+    fn set_deadline(&mut self, before: Session, now: Instant) {
+        self.deadline = match self.queue.session {
+            Session::Unproved if before == Session::None => Some(now + BEFORE_PROOF),
+            Session::None | Session::Unproved => self.deadline,
+            Session::Discovery(_) => Some(now + DISCOVERY_IDLE),
+            Session::Controller { .. } => None,
+        };
+    }
+
     /// Answers a command: its data, and then its completion.
-    pub fn answer(&mut self, target: &mut Target<'_>, cid: u16, answer: Answer) -> Outcome<()> {
+    pub fn answer(&mut self, target: &mut Target<'_>, entry: &[u8; ENTRY], answer: Answer) -> Outcome<()> {
+        let cid = u16_at(entry, 2);
+        target.count(&self.queue, entry, answer.status);
         if answer.status != SUCCESS {
-            target.say(format_args!("command {cid} has status {:x}:{:02x}", answer.status.sct, answer.status.sc));
+            target.say(format_args!("command {cid} has status {}", answer.status));
         }
         let (out, agreed) = (&mut self.output, self.agreed);
         match answer.data {
@@ -317,6 +357,7 @@ impl Connection {
     /// Tells the host what it has done, and ends.
     fn terminate(&mut self, target: &Target<'_>, fatal: Fatal, bytes: &[u8]) {
         target.say(format_args!("a connection is ended: {fatal:?}"));
+        self.closing = Some(Closing::Protocol);
         // What goes before it is answers to commands, which may be on their way in part.
         pdu::termination(&mut self.output, fatal, &bytes[..bytes.len().min(pdu::IC)]);
         self.end();
@@ -324,7 +365,7 @@ impl Connection {
 
     /// Sends what is to be sent, hears nothing more, and waits for a moment that the host closes the connection: if the
     /// target did so while bytes of the host are on their way, what it has said last would be lost.
-    fn end(&mut self) {
+    pub fn end(&mut self) {
         self.phase = Phase::Ending;
         self.deadline = Some(Instant::now() + BEFORE_CLOSE);
     }
@@ -346,6 +387,32 @@ impl Connection {
 }
 
 /// Whether an error of a socket says no more than that nothing can be done now.
-fn is_passing(error: &io::Error) -> bool {
+pub fn is_passing(error: &io::Error) -> bool {
     matches!(error.kind(), io::ErrorKind::WouldBlock | io::ErrorKind::Interrupted)
+}
+
+#[cfg(test)]
+mod tests {
+    use super::*;
+    use std::net::TcpListener;
+
+    #[test]
+    fn a_proof_has_two_minutes() {
+        let listener = TcpListener::bind("127.0.0.1:0").unwrap();
+        let address = listener.local_addr().unwrap();
+        let queue = HostQueue::new(1, address, address);
+        let mut it = Connection::new(TcpStream::connect(address).unwrap(), queue);
+        let start = Instant::now();
+        let at = |seconds| start + Duration::from_secs(seconds);
+        it.queue.session = Session::Unproved;
+        it.set_deadline(Session::None, start);
+        for seconds in [1, 60, 119] {
+            it.set_deadline(Session::Unproved, at(seconds));
+            assert!(!it.is_late(at(seconds)));
+        }
+        assert!(!it.is_late(at(120)) && it.is_late(at(121)));
+        it.queue.session = Session::Controller { index: 0, qid: 0 };
+        it.set_deadline(Session::Unproved, at(119));
+        assert!(!it.is_late(at(1_000_000)));
+    }
 }

@@ -3,12 +3,13 @@
 use crate::bytes::{put, u16_at};
 use crate::fault::Outcome;
 use crate::machine::Machine;
+use crate::nvme::{
+    BLOCK, CREATE_COMPLETION_QUEUE, CREATE_SUBMISSION_QUEUE, DELETE_COMPLETION_QUEUE, DELETE_SUBMISSION_QUEUE, ENTRY,
+    MOST_QUEUE, QUEUES, READ,
+};
 use crate::status::{Status, COMMAND_SEQUENCE, SUCCESS};
 use crate::window::{self, Room};
 use nvmesim::{Executed, Fetched};
-
-/// The size of a submission queue entry.
-pub const ENTRY: usize = 64;
 
 /// Offsets of registers.
 pub const CAP: u64 = 0x00;
@@ -21,12 +22,6 @@ const ACQ: u64 = 0x30;
 const DOORBELLS: u64 = 0x1000;
 /// CC.EN.
 pub const ENABLE: u32 = 1;
-
-/// Opcodes of admin commands that make and end queues.
-const DELETE_SUBMISSION: u8 = 0x00;
-const CREATE_SUBMISSION: u8 = 0x01;
-const DELETE_COMPLETION: u8 = 0x04;
-const CREATE_COMPLETION: u8 = 0x05;
 
 /// Where a command's data go.
 #[derive(Clone, Copy)]
@@ -77,7 +72,7 @@ struct Pair {
 pub struct Controller {
     pub cntlid: u16,
     pub host: u128,
-    queues: [Option<Pair>; window::MOST_QUEUE as usize + 1],
+    queues: [Option<Pair>; QUEUES],
     /// The queues of the commands that were fetched and wait to be executed, in the order of their fetches.
     held: Vec<u16>,
     /// How many commands went through its queues.
@@ -86,7 +81,7 @@ pub struct Controller {
 
 impl Controller {
     pub fn new(cntlid: u16, host: u128) -> Controller {
-        Controller { cntlid, host, queues: [None; 5], held: Vec::new(), commands: 0 }
+        Controller { cntlid, host, queues: [None; QUEUES], held: Vec::new(), commands: 0 }
     }
 
     pub fn has_queue(&self, qid: u16) -> bool {
@@ -100,7 +95,7 @@ impl Controller {
 
     /// What is forgotten when the controller is reset or power is lost: queues, and what was fetched.
     pub fn forget(&mut self) {
-        self.queues = [None; 5];
+        self.queues = [None; QUEUES];
         self.held.clear();
     }
 
@@ -138,16 +133,16 @@ impl Controller {
     /// Create I/O Completion Queue and Create I/O Submission Queue, by the admin queue: the first status that is not
     /// success, or success.
     pub fn create_queues(&mut self, machine: &mut Machine<'_>, qid: u16, entries: u16) -> Outcome<Status> {
-        let place = qid.min(window::MOST_QUEUE + 1);
+        let place = qid.min(MOST_QUEUE + 1);
         let size = (u32::from(entries) - 1) << 16 | u32::from(qid);
         machine.store(self.cntlid, window::completion_queue(place), &[0; window::PAGE as usize])?;
-        let completion = own_entry(CREATE_COMPLETION, window::completion_queue(place), size, 1);
+        let completion = own_entry(CREATE_COMPLETION_QUEUE, window::completion_queue(place), size, 1);
         let made = self.run(machine, 0, &completion, Data::None)?.status;
         if made != SUCCESS {
             return Ok(made);
         }
         let link = u32::from(qid) << 16 | 1;
-        let submission = own_entry(CREATE_SUBMISSION, window::submission_queue(place), size, link);
+        let submission = own_entry(CREATE_SUBMISSION_QUEUE, window::submission_queue(place), size, link);
         let made = self.run(machine, 0, &submission, Data::None)?.status;
         if made == SUCCESS {
             self.queues[usize::from(qid)] = Some(Pair { size: entries, tail: 0, head: 0 });
@@ -161,14 +156,15 @@ impl Controller {
             return Ok(());
         }
         self.queues[usize::from(qid)] = None;
-        self.run(machine, 0, &own_entry(DELETE_SUBMISSION, 0, u32::from(qid), 0), Data::None)?;
+        self.run(machine, 0, &own_entry(DELETE_SUBMISSION_QUEUE, 0, u32::from(qid), 0), Data::None)?;
         // What was fetched from it counts until then, in the places of commands.
         self.held.retain(|queue| *queue != qid);
-        self.run(machine, 0, &own_entry(DELETE_COMPLETION, 0, u32::from(qid), 0), Data::None)?;
+        self.run(machine, 0, &own_entry(DELETE_COMPLETION_QUEUE, 0, u32::from(qid), 0), Data::None)?;
         Ok(())
     }
 
     /// Has a command carried out: stores it, rings, has it fetched and executed, and takes its completion.
+    #[inline]
     pub fn run(
         &mut self,
         machine: &mut Machine<'_>,
@@ -272,8 +268,7 @@ fn placed(entry: &[u8; ENTRY], data: Data<'_>, room: Room) -> [u8; ENTRY] {
 /// Whether a command, where it succeeds, writes all of these bytes: a Read of just so many blocks. Elsewhere zeros
 /// stand there before it, so that its host gets nothing of commands before.
 fn fills(entry: &[u8; ENTRY], qid: u16, length: usize) -> bool {
-    const READ: u8 = 0x02;
-    qid != 0 && entry[0] == READ && length == 512 * (usize::from(u16_at(entry, 48)) + 1)
+    qid != 0 && entry[0] == READ && length == BLOCK as usize * (usize::from(u16_at(entry, 48)) + 1)
 }
 
 /// An entry of the target's own.

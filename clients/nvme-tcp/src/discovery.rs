@@ -2,12 +2,13 @@
 
 use crate::answer::Answer;
 use crate::association::{ConnectionId, HostQueue};
-use crate::bytes::{put, u16_at, u32_at, u64_at};
-use crate::controller::{Data, CAP, CC, CSTS, ENABLE, ENTRY, VS};
+use crate::bytes::put;
+use crate::controller::{Data, CAP, CC, CSTS, ENABLE, VS};
 use crate::identify;
+use crate::nvme::{ENTRY, GET_LOG_PAGE, IDENTIFY, KEEP_ALIVE, MOST_ENTRIES};
+use crate::pages;
 use crate::status::{Status, COMMAND_SEQUENCE, INVALID_FIELD, INVALID_LOG_PAGE, INVALID_OPCODE, SUCCESS};
-use crate::target::{Target, GET_LOG_PAGE, IDENTIFY, KEEP_ALIVE};
-use crate::window::MOST_ENTRIES;
+use crate::target::Target;
 use std::net::SocketAddr;
 
 /// The name of every discovery subsystem.
@@ -73,10 +74,12 @@ impl Target<'_> {
         match entry[0] {
             KEEP_ALIVE => Answer::of(SUCCESS),
             IDENTIFY if entry[40] == identify::CONTROLLER => {
-                Answer::with(identify::discovery(discovery.cntlid, NAME), length)
+                Answer::with(identify::discovery(discovery.cntlid, NAME, self.identity), length)
             }
             IDENTIFY => Answer::of(INVALID_FIELD),
-            GET_LOG_PAGE if entry[40] == LOG_PAGE => log_page(&self.log(queue), entry, length),
+            GET_LOG_PAGE if entry[40] == LOG_PAGE => {
+                pages::part(&self.log(queue), entry, length).unwrap_or_else(Answer::of)
+            }
             GET_LOG_PAGE => Answer::of(INVALID_LOG_PAGE),
             _ => Answer::of(INVALID_OPCODE),
         }
@@ -111,16 +114,4 @@ fn fill(entry: &mut [u8], address: SocketAddr, name: &str) {
     put(entry, 256, name.as_bytes());
     entry[512..768].fill(b' ');
     put(entry, 512, address.ip().to_string().as_bytes());
-}
-
-/// The part of a log page that Get Log Page asks for.
-fn log_page(page: &[u8], entry: &[u8; ENTRY], length: usize) -> Answer {
-    let asked = (u64::from(u16_at(entry, 42)) | u64::from(u32_at(entry, 44) & 0xffff) << 16) * 4 + 4;
-    let offset = u64_at(entry, 48);
-    if offset % 4 != 0 || offset > page.len() as u64 {
-        return Answer::of(INVALID_FIELD);
-    }
-    let rest = &page[offset as usize..];
-    let count = rest.len().min(asked.min(length as u64) as usize);
-    Answer::with(rest[..count].to_vec(), length)
 }

@@ -1,15 +1,26 @@
-//! Asynchronous events: requests that are held, and the notice that a controller's namespaces have changed.
+//! Asynchronous events: requests that are held, and the notices that a controller's namespaces, or how they are reached,
+//! have changed.
 
 use crate::bytes::put;
+use crate::nvme::{CHANGED_NAMESPACES, NAMESPACE_ACCESS};
 use std::collections::{BTreeSet, VecDeque};
 
 /// How many Asynchronous Event Requests of a controller are held at most: Identify Controller's AERL and one.
 pub const MOST_EVENTS: usize = 4;
-/// The log page of namespaces that have changed, and its size.
-pub const CHANGED_NAMESPACES: u8 = 0x04;
+/// The size of the log page of namespaces that have changed.
 const LIST: usize = 4096;
-/// Double word 0 of the notice: the log page, information 00h, type 2h.
-const NOTICE: u32 = (CHANGED_NAMESPACES as u32) << 16 | 2;
+
+/// A notice: its bit in OAES and in Asynchronous Event Configuration, and double word 0 of its answer, which has the log
+/// page, the information, and type 2h.
+#[derive(Clone, Copy, Debug, PartialEq, Eq)]
+pub struct Notice {
+    pub mask: u32,
+    dw0: u32,
+}
+
+/// The namespace attribute notice, and that of a change of Asymmetric Namespace Access.
+pub const NAMESPACE_NOTICE: Notice = Notice { mask: 1 << 8, dw0: (CHANGED_NAMESPACES as u32) << 16 | 2 };
+pub const ACCESS_NOTICE: Notice = Notice { mask: 1 << 11, dw0: (NAMESPACE_ACCESS as u32) << 16 | 3 << 8 | 2 };
 
 /// The events of an association.
 #[derive(Default)]
@@ -18,8 +29,9 @@ pub struct Events {
     /// Asynchronous Event Configuration, as its host has set it.
     pub configuration: u32,
     changed: BTreeSet<u32>,
-    /// Whether the host was told since it last read the log page.
-    is_told: bool,
+    has_new_access: bool,
+    /// The masks of the notices that the host was told since it last read their log pages.
+    told: u32,
 }
 
 impl Events {
@@ -42,27 +54,45 @@ impl Events {
         self.changed.insert(nsid);
     }
 
-    /// The request that is to be answered now, and double word 0 of the answer.
-    pub fn due(&mut self, mask: u32) -> Option<(u16, u32)> {
-        if self.is_told || self.changed.is_empty() || self.configuration & mask == 0 {
-            return None;
-        }
-        let cid = self.requests.pop_front()?;
-        self.is_told = true;
-        Some((cid, NOTICE))
+    /// Namespaces are reached in another way.
+    pub fn change_access(&mut self) {
+        self.has_new_access = true;
     }
 
-    /// The log page. Unless events are to be retained, it is empty from then on, and the next change is told.
-    pub fn log_page(&mut self, retains: bool) -> Vec<u8> {
+    /// The request that is to be answered now, and double word 0 of the answer.
+    pub fn due(&mut self) -> Option<(u16, u32)> {
+        let pending = [(NAMESPACE_NOTICE, !self.changed.is_empty()), (ACCESS_NOTICE, self.has_new_access)];
+        let is_due = |(notice, has_changed): &(Notice, bool)| {
+            *has_changed && self.told & notice.mask == 0 && self.configuration & notice.mask != 0
+        };
+        let (notice, _) = pending.into_iter().find(is_due)?;
+        let cid = self.requests.pop_front()?;
+        self.told |= notice.mask;
+        Some((cid, notice.dw0))
+    }
+
+    /// The log page of namespaces that have changed.
+    pub fn changed_page(&self) -> Vec<u8> {
         let mut page = vec![0; LIST];
         for (place, nsid) in self.changed.iter().enumerate() {
             put(&mut page, 4 * place, &nsid.to_le_bytes());
         }
-        if !retains {
-            self.changed.clear();
-            self.is_told = false;
-        }
         page
+    }
+
+    /// A log page was read, and its event is not to be retained: the next change is told.
+    pub fn was_read(&mut self, page: u8) {
+        match page {
+            CHANGED_NAMESPACES => {
+                self.changed.clear();
+                self.told &= !NAMESPACE_NOTICE.mask;
+            }
+            NAMESPACE_ACCESS => {
+                self.has_new_access = false;
+                self.told &= !ACCESS_NOTICE.mask;
+            }
+            _ => (),
+        }
     }
 }
 
@@ -72,17 +102,28 @@ mod tests {
 
     #[test]
     fn a_change_is_told_once_until_it_is_read() {
-        let mut events = Events { configuration: 0x100, ..Events::default() };
+        let mut events = Events { configuration: 0x900, ..Events::default() };
         (0..MOST_EVENTS as u16).for_each(|cid| assert!(events.hold(cid)));
         assert!(!events.hold(9));
-        assert_eq!(events.due(0x100), None);
+        assert_eq!(events.due(), None);
         events.change(3);
-        assert_eq!(events.due(0x200), None);
-        assert_eq!(events.due(0x100), Some((0, 0x0004_0002)));
+        events.configuration = 0x800;
+        assert_eq!(events.due(), None);
+        events.configuration = 0x900;
+        assert_eq!(events.due(), Some((0, 0x0004_0002)));
         events.change(1);
-        assert_eq!(events.due(0x100), None);
-        assert_eq!(events.log_page(false)[..12], [1, 0, 0, 0, 3, 0, 0, 0, 0, 0, 0, 0]);
+        assert_eq!(events.due(), None);
+        events.change_access();
+        assert_eq!(events.due(), Some((1, 0x000c_0302)));
+        assert_eq!(events.changed_page()[..12], [1, 0, 0, 0, 3, 0, 0, 0, 0, 0, 0, 0]);
+        events.was_read(CHANGED_NAMESPACES);
+        assert_eq!(events.changed_page(), [0; LIST]);
         events.change(2);
-        assert_eq!(events.due(0x100), Some((1, 0x0004_0002)));
+        events.change_access();
+        assert_eq!(events.due(), Some((2, 0x0004_0002)));
+        assert_eq!(events.due(), None);
+        events.was_read(NAMESPACE_ACCESS);
+        events.change_access();
+        assert_eq!(events.due(), Some((3, 0x000c_0302)));
     }
 }

@@ -3,22 +3,16 @@
 use crate::answer::Answer;
 use crate::association::{Association, ConnectData, HostQueue, Session};
 use crate::bytes::{text_of, u16_at, u32_at, u64_at};
-use crate::controller::{Data, CAP, CC, CSTS, ENABLE, ENTRY, VS};
+use crate::controller::{Data, CAP, CC, CSTS, ENABLE, VS};
 use crate::discovery::{self, Discovery};
 use crate::fault::Outcome;
+use crate::nvme::{AUTHENTICATION_SEND, CONNECT, DISCONNECT, ENTRY, FABRICS, MOST_ENTRIES, PROPERTY_GET, PROPERTY_SET};
+use crate::proving::PROOF_REQUIRED;
 use crate::status::{
-    COMMAND_SEQUENCE, CONNECT_HOST, CONNECT_PARAMETERS, CONTROLLER_BUSY, INCOMPATIBLE_FORMAT, INVALID_FIELD,
-    INVALID_OPCODE, INVALID_QUEUE, INVALID_QUEUE_SIZE, INVALID_QUEUE_TYPE, SGL_LENGTH, SUCCESS,
+    AUTHENTICATION_REQUIRED, COMMAND_SEQUENCE, CONNECT_HOST, CONNECT_PARAMETERS, CONTROLLER_BUSY, INCOMPATIBLE_FORMAT,
+    INVALID_FIELD, INVALID_OPCODE, INVALID_QUEUE, INVALID_QUEUE_SIZE, INVALID_QUEUE_TYPE, SGL_LENGTH, SUCCESS,
 };
 use crate::target::Target;
-use crate::window::MOST_ENTRIES;
-
-/// The opcode of all of them; the fifth byte of an entry says which it is.
-pub const OPCODE: u8 = 0x7f;
-const PROPERTY_SET: u8 = 0x00;
-const CONNECT: u8 = 0x01;
-const PROPERTY_GET: u8 = 0x04;
-const DISCONNECT: u8 = 0x08;
 
 /// The size of Connect's data.
 const CONNECT_DATA: usize = 1024;
@@ -29,7 +23,7 @@ const NO_FLOW_CONTROL: u8 = 1 << 2;
 
 /// Whether an entry is a Connect, which is the first command of each queue.
 pub fn is_connect(entry: &[u8; ENTRY]) -> bool {
-    entry[0] == OPCODE && entry[4] == CONNECT
+    entry[0] == FABRICS && entry[4] == CONNECT
 }
 
 /// A parameter of Connect that is wrong: where it stands in the entry, or in the data.
@@ -65,8 +59,18 @@ impl Target<'_> {
     /// Carries out a command of Fabrics.
     pub fn fabrics(&mut self, queue: &mut HostQueue, entry: &[u8; ENTRY], data: Data<'_>) -> Outcome<Answer> {
         match (entry[4], queue.session) {
-            (CONNECT, Session::None) => self.connect(queue, entry, data),
+            (CONNECT, Session::None) => {
+                let answer = self.connect(queue, entry, data)?;
+                self.log_connect(queue, data, &answer);
+                Ok(answer)
+            }
             (CONNECT, _) | (_, Session::None) => Ok(Answer::of(COMMAND_SEQUENCE)),
+            (AUTHENTICATION_SEND, _) => self.take_message(queue, entry, data),
+            (DISCONNECT, Session::Unproved) => {
+                queue.is_over = true;
+                Ok(Answer::of(SUCCESS))
+            }
+            (_, Session::Unproved) => Ok(Answer::of(AUTHENTICATION_REQUIRED)),
             (PROPERTY_GET, session) => self.get_property(session, entry),
             (PROPERTY_SET, Session::Discovery(mut discovery)) => {
                 let status = discovery.set_property(property(entry), u64_at(entry, 48));
@@ -90,8 +94,7 @@ impl Target<'_> {
         };
         let mut host_id = [0; 16];
         host_id.copy_from_slice(&bytes[..16]);
-        let (subsystem, host_name) = (text_of(&bytes[256..512]), text_of(&bytes[512..768]));
-        let data = ConnectData { host_id, cntlid: u16_at(bytes, 16), host_name };
+        let (subsystem, host_name) = (text_of(&bytes[256..512]), text_of(&bytes[512..768]).to_vec());
         if host_name.is_empty() || host_name.len() == 256 {
             return Ok(HOSTNQN.into());
         }
@@ -100,84 +103,121 @@ impl Target<'_> {
             return Ok(SQSIZE.into());
         }
         self.say(format_args!("connect: queue {qid} of {entries}, host {:032x}", u128::from_be_bytes(host_id)));
-        let answer = if subsystem == discovery::NAME.as_bytes() {
-            self.connect_discovery(queue, qid, entries)
-        } else if subsystem != self.settings.name.as_bytes() {
-            SUBNQN.into()
-        } else if !self.settings.allows(&data, queue.host) {
-            Answer::of(CONNECT_HOST)
-        } else if qid == 0 {
-            self.connect_admin(queue, &data, entries, u32_at(entry, 48))?
-        } else {
-            self.connect_io(queue, &data, qid, entries)?
+        let (cntlid, keep_alive) = (u16_at(bytes, 16), u32_at(entry, 48));
+        let data = ConnectData { host_id, cntlid, host_name, qid, entries, keep_alive };
+        let place = match self.place(queue, subsystem, &data) {
+            Ok(place) => place,
+            Err(answer) => return Ok(answer),
         };
-        queue.has_flow_control = entry[46] & NO_FLOW_CONTROL == 0;
-        Ok(answer)
+        let mut dw0 = self.cntlid(place).into();
+        let session = if let Some(proof) = self.proof_of(&data, place) {
+            dw0 |= PROOF_REQUIRED;
+            queue.proof = Some(Box::new(proof));
+            Session::Unproved
+        } else if let Err(answer) = self.take_place(queue, &data, place)? {
+            return Ok(answer);
+        } else {
+            place
+        };
+        queue.connect(session, entries, entry[46] & NO_FLOW_CONTROL == 0);
+        Ok(Answer { dw0, ..Answer::of(SUCCESS) })
     }
 
-    fn connect_discovery(&mut self, queue: &mut HostQueue, qid: u16, entries: u16) -> Answer {
-        if qid != 0 {
-            return QID.into();
+    /// What a Connect makes its queue be of. Nothing is changed yet.
+    fn place(&self, queue: &HostQueue, subsystem: &[u8], data: &ConnectData) -> Result<Session, Answer> {
+        let is_discovery = subsystem == discovery::NAME.as_bytes();
+        if !is_discovery && subsystem != self.settings.name.as_bytes() {
+            return Err(SUBNQN.into());
         }
-        let discovery = Discovery::of(queue.connection);
-        queue.connect(Session::Discovery(discovery), entries, true);
-        Answer { dw0: discovery.cntlid.into(), ..Answer::of(SUCCESS) }
+        if !self.knows(data) || !is_discovery && !self.settings.admission.allows(&data.host_id, queue.peer.ip()) {
+            return Err(Answer::of(CONNECT_HOST));
+        }
+        match data.qid {
+            0 if is_discovery => Ok(Session::Discovery(Discovery::of(queue.connection))),
+            _ if is_discovery => Err(QID.into()),
+            0 => self.free_controller(data).map(|index| Session::Controller { index, qid: 0 }),
+            qid => self.check_io(data).map(|index| Session::Controller { index, qid }),
+        }
     }
 
-    /// The first controller of the host that is free becomes its own.
-    fn connect_admin(
-        &mut self,
-        queue: &mut HostQueue,
-        data: &ConnectData<'_>,
-        entries: u16,
-        keep_alive: u32,
-    ) -> Outcome<Answer> {
+    fn cntlid(&self, place: Session) -> u16 {
+        match place {
+            Session::Controller { index, .. } => self.controllers[index].cntlid,
+            Session::Discovery(discovery) => discovery.cntlid,
+            Session::None | Session::Unproved => 0,
+        }
+    }
+
+    /// Makes a queue what its Connect wants, unless that can't be any more.
+    pub fn take_place(&mut self, queue: &HostQueue, data: &ConnectData, place: Session) -> Outcome<Result<(), Answer>> {
+        match place {
+            Session::Controller { index, qid: 0 } if self.associations[index].is_some() => {
+                return Ok(Err(Answer::of(CONTROLLER_BUSY)));
+            }
+            Session::Controller { index, qid: 0 } => {
+                self.controllers[index].reset(&mut self.machine)?;
+                self.associations[index] = Some(Association::new(queue, data));
+            }
+            Session::Controller { .. } => return self.make_queues(queue, data),
+            Session::None | Session::Unproved | Session::Discovery(_) => (),
+        }
+        Ok(Ok(()))
+    }
+
+    /// The first controller of the host that is free. Those come last for which other hosts' proofs are under way.
+    fn free_controller(&self, data: &ConnectData) -> Result<usize, Answer> {
         let host = u128::from_le_bytes(data.host_id);
         if self.controllers.iter().all(|it| it.host != host) {
-            return Ok(Answer::of(CONNECT_HOST));
+            return Err(Answer::of(CONNECT_HOST));
         }
         let is_wanted = |cntlid| data.cntlid == ANY_CONTROLLER || data.cntlid == cntlid;
         if !self.controllers.iter().any(|it| it.host == host && is_wanted(it.cntlid)) {
-            return Ok(CNTLID.into());
+            return Err(CNTLID.into());
         }
-        let mut places = self.controllers.iter().zip(&self.associations);
-        let free = places.position(|(it, other)| it.host == host && is_wanted(it.cntlid) && other.is_none());
-        let index = match free {
-            Some(index) => index,
-            None => return Ok(Answer::of(CONTROLLER_BUSY)),
+        let is_free = |index: &usize| {
+            let it = &self.controllers[*index];
+            it.host == host && is_wanted(it.cntlid) && self.associations[*index].is_none()
         };
-        self.controllers[index].reset(&mut self.machine)?;
-        self.associations[index] = Some(Association::new(queue, data, entries, keep_alive));
-        queue.connect(Session::Controller { index, qid: 0 }, entries, true);
-        Ok(Answer { dw0: self.controllers[index].cntlid.into(), ..Answer::of(SUCCESS) })
+        let free = (0..self.controllers.len()).filter(is_free).min_by_key(|index| self.proofs_for(*index));
+        free.ok_or_else(|| Answer::of(CONTROLLER_BUSY))
+    }
+
+    /// The controller of a pair of I/O queues that a host may have.
+    fn check_io(&self, data: &ConnectData) -> Result<usize, Answer> {
+        let index = usize::from(data.cntlid).wrapping_sub(1);
+        let association = match self.associations.get(index) {
+            Some(Some(association)) => association,
+            _ => return Err(CNTLID.into()),
+        };
+        if association.host_id != data.host_id {
+            return Err(HOSTID.into());
+        }
+        if association.host_name != data.host_name {
+            return Err(HOSTNQN.into());
+        }
+        let is_there = matches!(association.queues.get(usize::from(data.qid)), Some(Some(_)));
+        if is_there || !self.controllers[index].has_queue(0) {
+            return Err(Answer::of(COMMAND_SEQUENCE));
+        }
+        Ok(index)
     }
 
     /// A pair of I/O queues is made by the commands that make queues, and their status is that of Connect.
-    fn connect_io(&mut self, queue: &mut HostQueue, data: &ConnectData<'_>, qid: u16, entries: u16) -> Outcome<Answer> {
-        let index = usize::from(data.cntlid).wrapping_sub(1);
-        let association = match self.associations.get_mut(index) {
-            Some(Some(association)) => association,
-            _ => return Ok(CNTLID.into()),
+    fn make_queues(&mut self, queue: &HostQueue, data: &ConnectData) -> Outcome<Result<(), Answer>> {
+        let index = match self.check_io(data) {
+            Ok(index) => index,
+            Err(answer) => return Ok(Err(answer)),
         };
-        if association.host_id != data.host_id {
-            return Ok(HOSTID.into());
-        }
-        if association.host_name != data.host_name {
-            return Ok(HOSTNQN.into());
-        }
-        let is_there = matches!(association.queues.get(usize::from(qid)), Some(Some(_)));
-        if is_there || !self.controllers[index].has_queue(0) {
-            return Ok(Answer::of(COMMAND_SEQUENCE));
-        }
-        match self.controllers[index].create_queues(&mut self.machine, qid, entries)? {
+        match self.controllers[index].create_queues(&mut self.machine, data.qid, data.entries)? {
             SUCCESS => (),
-            INVALID_QUEUE => return Ok(QID.into()),
-            INVALID_QUEUE_SIZE => return Ok(SQSIZE.into()),
-            status => return Ok(Answer::of(status)),
+            INVALID_QUEUE => return Ok(Err(QID.into())),
+            INVALID_QUEUE_SIZE => return Ok(Err(SQSIZE.into())),
+            status => return Ok(Err(Answer::of(status))),
         }
-        association.queues[usize::from(qid)] = Some(queue.connection);
-        queue.connect(Session::Controller { index, qid }, entries, true);
-        Ok(Answer { dw0: data.cntlid.into(), ..Answer::of(SUCCESS) })
+        if let Some(association) = &mut self.associations[index] {
+            association.queues[usize::from(data.qid)] = Some(queue.connection);
+        }
+        Ok(Ok(()))
     }
 
     fn disconnect(&mut self, queue: &mut HostQueue, index: usize, qid: u16, entry: &[u8; ENTRY]) -> Outcome<Answer> {

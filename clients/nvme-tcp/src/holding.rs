@@ -2,9 +2,11 @@
 
 use crate::answer::Answer;
 use crate::association::ConnectionId;
-use crate::bytes::u16_at;
-use crate::controller::{Data, ENTRY};
+use crate::bytes::u32_at;
+use crate::controller::Data;
+use crate::deallocating::only_zeroing;
 use crate::fault::Outcome;
+use crate::nvme::{DATASET_MANAGEMENT, ENTRY};
 use crate::status::SUCCESS;
 use crate::target::{Effect, Target};
 use crate::window::{Room, MOST_HELD, MOST_HELD_DATA};
@@ -13,7 +15,9 @@ use crate::window::{Room, MOST_HELD, MOST_HELD_DATA};
 pub struct Held {
     connection: ConnectionId,
     pub qid: u16,
+    /// What was fetched, and the opcode that its host has sent.
     entry: [u8; ENTRY],
+    opcode: u8,
     /// The data that it has, or how many bytes come from the controller; and where they lie.
     data: Vec<u8>,
     length: usize,
@@ -23,7 +27,8 @@ pub struct Held {
 }
 
 impl Target<'_> {
-    /// Holds a command behind its fetch; whether it does. Only a few with little data have room.
+    /// Holds a command behind its fetch; whether it does. Only a few with little data have room, and of Dataset Management
+    /// those with one range.
     pub fn hold(
         &mut self,
         connection: ConnectionId,
@@ -32,6 +37,15 @@ impl Target<'_> {
         entry: &[u8; ENTRY],
         data: Data<'_>,
     ) -> Outcome<bool> {
+        let zeroing = match entry[0] {
+            DATASET_MANAGEMENT => match only_zeroing(entry, data, self.configuration.blocks(u32_at(entry, 4))) {
+                None => return Ok(false),
+                zeroing => zeroing,
+            },
+            _ => None,
+        };
+        let (opcode, data) = (entry[0], if zeroing.is_some() { Data::FromController(0) } else { data });
+        let entry = zeroing.as_ref().unwrap_or(entry);
         let (length, bytes) = match data {
             Data::FromController(length) => (length, &[][..]),
             Data::ToController(bytes) => (0, bytes),
@@ -46,7 +60,7 @@ impl Target<'_> {
         let is_held = self.controllers[index].hold(&mut self.machine, qid, entry, data, room)?;
         if is_held {
             let (entry, data, place) = (*entry, bytes.to_vec(), room.start(size));
-            self.held[index].push_back(Held { connection, qid, entry, data, length, place, room: number });
+            self.held[index].push_back(Held { connection, qid, entry, opcode, data, length, place, room: number });
         }
         Ok(is_held)
     }
@@ -62,7 +76,9 @@ impl Target<'_> {
             }
             let cntlid = self.controllers[index].cntlid;
             let answer = self.kept(Answer::completed(completed, cntlid, held.length))?;
-            self.effects.push_back(Effect::Answer(held.connection, u16_at(&held.entry, 2), answer));
+            let mut entry = held.entry;
+            entry[0] = held.opcode;
+            self.effects.push_back(Effect::Answer(held.connection, entry, answer));
         }
         Ok(())
     }

@@ -1,23 +1,41 @@
 //! What Fabrics and Linux need in Identify, and the subsystem's own data leave out.
 
-use crate::bytes::{put, u32_at};
-use crate::events::MOST_EVENTS;
+use crate::access;
+use crate::bytes::{put, u16_at, u32_at};
+use crate::events::{ACCESS_NOTICE, MOST_EVENTS, NAMESPACE_NOTICE};
+use crate::health::MOST_ERRORS;
+use crate::identity::Identity;
+use crate::nvme::{MOST_BLOCKS, MOST_ENTRIES, MOST_NAMESPACES};
 use crate::pdu::IN_CAPSULE;
-use crate::window::MOST_ENTRIES;
+use nvmesim::Namespace;
 
 /// The size of a data structure of Identify.
 pub const BYTES: usize = 4096;
 /// Values of CNS.
 pub const NAMESPACE: u8 = 0x00;
 pub const CONTROLLER: u8 = 0x01;
+pub const NAMESPACES: u8 = 0x02;
 pub const DESCRIPTORS: u8 = 0x03;
+/// Those of the NVM Command Set, of a namespace of any command set, of all that are configured, and of controllers.
+pub const NVM_NAMESPACE: u8 = 0x05;
+pub const NVM_CONTROLLER: u8 = 0x06;
+pub const NVM_NAMESPACES: u8 = 0x07;
+pub const ANY_NAMESPACE: u8 = 0x08;
+pub const ALLOCATED_NAMESPACES: u8 = 0x10;
+pub const ALLOCATED_NAMESPACE: u8 = 0x11;
+pub const ATTACHED_CONTROLLERS: u8 = 0x12;
+pub const CONTROLLERS: u8 = 0x13;
 
 /// The size of a name, NQN, with its zeros.
 pub const NAME: usize = 256;
+/// SN, the serial number.
+const SERIAL_AT: usize = 4;
 /// CNTRLTYPE of a discovery controller.
 const DISCOVERY: u8 = 2;
-/// The namespace attribute notice, of OAES and of Asynchronous Event Configuration.
-pub const NAMESPACE_NOTICE: u32 = 1 << 8;
+/// ONCS: Dataset Management, and the Save and Select fields of features.
+const COMMANDS: u16 = 1 << 2 | 1 << 4;
+/// The limit of Write Zeroes, as a power of two of pages: 65,536 blocks.
+const ZEROES_LIMIT: u8 = 13;
 
 /// What every controller of Fabrics tells.
 fn fabrics(told: &mut [u8], name: &str) {
@@ -35,11 +53,27 @@ fn fabrics(told: &mut [u8], name: &str) {
 }
 
 /// Completes what the subsystem has told of a controller.
-pub fn controller(told: &mut [u8], name: &str, has_image: bool) {
+pub fn controller(told: &mut [u8], name: &str, identity: Identity, has_image: bool) {
     fabrics(told, name);
-    let events = u32_at(told, 92) | NAMESPACE_NOTICE;
+    put(told, SERIAL_AT, &identity.serial());
+    let events = u32_at(told, 92) | NAMESPACE_NOTICE.mask | ACCESS_NOTICE.mask;
     put(told, 92, &events.to_le_bytes());
+    // ACL: an Abort is answered at once, so four at a time are none too many; AERL.
+    told[258] = 3;
     told[259] = MOST_EVENTS as u8 - 1;
+    // FRMW: one slot, which is read-only. LPA: Log Page 05h, and offsets into pages. ELPE.
+    told[260] = 1 << 1 | 1;
+    told[261] = 1 << 2 | 1 << 1;
+    told[262] = MOST_ERRORS as u8 - 1;
+    let commands = u16_at(told, 520) | COMMANDS;
+    put(told, 520, &commands.to_le_bytes());
+    // CMIC, ANATT, ANACAP, ANAGRPMAX, NANAGRPID and MNAN: Asymmetric Namespace Access, with one group.
+    told[76] |= 1 << 3;
+    told[342] = access::TRANSITION_SECONDS;
+    told[343] = access::CAPABILITIES;
+    put(told, 344, &access::GROUP.to_le_bytes());
+    put(told, 348, &access::GROUP.to_le_bytes());
+    put(told, 540, &MOST_NAMESPACES.to_le_bytes());
     // OFCS: Disconnect.
     put(told, 1804, &1u16.to_le_bytes());
     // VWC: an image lies in the page cache of this machine until it is synced, so hosts have to flush.
@@ -47,10 +81,9 @@ pub fn controller(told: &mut [u8], name: &str, has_image: bool) {
 }
 
 /// A discovery controller.
-pub fn discovery(cntlid: u16, name: &str) -> Vec<u8> {
+pub fn discovery(cntlid: u16, name: &str, identity: Identity) -> Vec<u8> {
     let mut told = vec![0; BYTES];
-    told[4..24].fill(b' ');
-    put(&mut told, 4, b"NVMESIM");
+    put(&mut told, SERIAL_AT, &identity.serial());
     told[24..64].fill(b' ');
     put(&mut told, 24, b"Multi-Host Subsystem");
     put(&mut told, 64, b"1.0     ");
@@ -64,34 +97,51 @@ pub fn discovery(cntlid: u16, name: &str) -> Vec<u8> {
     told
 }
 
-/// The descriptors of a namespace: a UUID made of the subsystem's name and the namespace's identifier.
-pub fn descriptors(name: &str, nsid: u32) -> Vec<u8> {
-    const UUID: u8 = 3;
+/// Completes what the subsystem has told of a namespace.
+pub fn namespace(told: &mut [u8]) {
+    // DLFEAT: blocks that are deallocated read as zeros.
+    told[33] = 1;
+    // ANAGRPID.
+    put(told, 92, &access::GROUP.to_le_bytes());
+}
+
+/// A namespace that is configured, whether or not it is attached: the same as the subsystem tells of one that is.
+pub fn allocated(it: &Namespace, is_protected: bool) -> Vec<u8> {
     let mut told = vec![0; BYTES];
-    put(&mut told, 0, &[UUID, 16]);
-    put(&mut told, 4, &uuid(format!("{name}/{nsid}").as_bytes()));
+    // NSZE, NCAP, NUSE; NMIC, RESCAP, NSATTR; LBADS.
+    [0, 8, 16].into_iter().for_each(|place| put(&mut told, place, &it.blocks.to_le_bytes()));
+    put(&mut told, 30, &[it.shared.into(), 0xff]);
+    told[99] = is_protected.into();
+    told[130] = 9;
+    namespace(&mut told);
     told
 }
 
-/// A UUID of version 8 that stands for a text: two FNV-1a sums of it.
-fn uuid(text: &[u8]) -> [u8; 16] {
-    let sum = |seed: u64| text.iter().fold(seed, |sum, byte| (sum ^ u64::from(*byte)).wrapping_mul(0x0100_0000_01b3));
-    let mut uuid = [0; 16];
-    put(&mut uuid, 0, &sum(0xcbf2_9ce4_8422_2325).to_be_bytes());
-    put(&mut uuid, 8, &sum(0x8422_2325_cbf2_9ce4).to_be_bytes());
-    uuid[6] = uuid[6] & 0x0f | 0x80;
-    uuid[8] = uuid[8] & 0x3f | 0x80;
-    uuid
+/// What does not depend on the command set, of what is told of a namespace.
+pub fn independent(told: &[u8]) -> Vec<u8> {
+    let mut structure = vec![0; BYTES];
+    // NSFEAT, NMIC, RESCAP, FPI, ANAGRPID, NSATTR, and NSTAT: it is ready.
+    put(&mut structure, 0, &[0, told[30], told[31], told[32]]);
+    put(&mut structure, 4, &told[92..96]);
+    put(&mut structure, 8, &[told[99]]);
+    structure[14] = 1;
+    structure
 }
 
-#[cfg(test)]
-mod tests {
-    use super::*;
+/// The limits of commands of the NVM Command Set: WZSL, DMRSL and DMSL. A Dataset Management may have all 256 ranges.
+pub fn limits() -> Vec<u8> {
+    let mut told = vec![0; BYTES];
+    told[1] = ZEROES_LIMIT;
+    put(&mut told, 4, &(MOST_BLOCKS as u32).to_le_bytes());
+    put(&mut told, 8, &MOST_BLOCKS.to_le_bytes());
+    told
+}
 
-    #[test]
-    fn namespaces_have_identifiers_of_their_own() {
-        let (one, two) = (descriptors("nqn.a", 1), descriptors("nqn.a", 2));
-        assert_ne!(one, two);
-        assert_eq!((one[10] & 0xf0, one[12] & 0xc0), (0x80, 0x80));
-    }
+/// The descriptors of a namespace: its UUID.
+pub fn descriptors(identity: Identity, nsid: u32) -> Vec<u8> {
+    const UUID: u8 = 3;
+    let mut told = vec![0; BYTES];
+    put(&mut told, 0, &[UUID, 16]);
+    put(&mut told, 4, &identity.uuid(nsid));
+    told
 }

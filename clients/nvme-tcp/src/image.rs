@@ -8,20 +8,19 @@
 
 use crate::behind::{Behind, Piece};
 use crate::bytes::{u16_at, u32_at, u64_at};
-use crate::configuration::{Configuration, BLOCK};
-use crate::controller::{Data, ENTRY};
+use crate::configuration::Configuration;
+use crate::controller::Data;
 use crate::fault::{Fault, Outcome};
+use crate::locking::{open_regular, Lock};
 use crate::machine::Machine;
-use std::fs::{File, OpenOptions};
+use crate::nvme::{BLOCK, ENTRY, FLUSH, WRITE, WRITE_ZEROES};
+use crate::watched::{changed, Watched};
+use std::fs::{self, File, OpenOptions};
 use std::io::{self, Read};
 use std::mem;
 use std::os::unix::fs::FileExt;
 use std::path::Path;
 
-/// Opcodes of I/O commands.
-const FLUSH: u8 = 0x00;
-pub const WRITE: u8 = 0x01;
-const WRITE_ZEROES: u8 = 0x08;
 /// Force Unit Access, in double word 12.
 const FORCE_UNIT_ACCESS: u32 = 1 << 30;
 
@@ -52,8 +51,22 @@ impl Blocks {
     }
 }
 
+/// The file of an image, and how long it is at least.
+struct Whole {
+    file: File,
+    length: u64,
+}
+
+/// An error if an image has become shorter. A write behind its end would make it as long again, with zeros in it.
+fn check_length(found: u64, length: u64) -> io::Result<()> {
+    if found < length {
+        return Err(changed(format!("it was cut to {found} bytes, of {length}")));
+    }
+    Ok(())
+}
+
 impl Piece for Blocks {
-    type Files = File;
+    type Files = Whole;
     type Made = ();
 
     fn size(&self) -> usize {
@@ -62,10 +75,11 @@ impl Piece for Blocks {
 
     fn make(&self, (): &mut ()) {}
 
-    fn write(&mut self, (): &(), _: Option<&()>, file: &mut File) -> io::Result<()> {
+    fn write(&mut self, (): &(), _: Option<&()>, whole: &mut Whole) -> io::Result<()> {
+        check_length(whole.file.metadata()?.len(), whole.length)?;
         let mut begin = 0;
         for (place, end) in self.runs.drain(..) {
-            file.write_all_at(&self.bytes[begin..end], place)?;
+            whole.file.write_all_at(&self.bytes[begin..end], place)?;
             begin = end;
         }
         self.bytes.clear();
@@ -76,6 +90,8 @@ impl Piece for Blocks {
 /// A file whose blocks are those of the namespaces.
 pub struct Image {
     file: Behind<Blocks>,
+    watched: Watched,
+    length: u64,
     /// Blocks that are not handed to the system yet.
     waiting: Blocks,
     /// Room for blocks that are read from the medium.
@@ -87,29 +103,50 @@ pub struct Image {
 pub struct Done<'d> {
     pub entry: &'d [u8; ENTRY],
     pub data: Data<'d>,
+    /// Whether its blocks are synced, whatever the command says: its host has no write cache.
+    pub is_synced: bool,
 }
 
-/// Opens an image, and reads its blocks.
-pub fn open(path: &Path, blocks: &mut [u8]) -> io::Result<Image> {
-    let mut file = OpenOptions::new().read(true).write(true).open(path)?;
-    if !file.metadata()?.is_file() {
-        return Err(io::Error::new(io::ErrorKind::InvalidInput, "it is no regular file"));
+/// EROFS.
+const READ_ONLY_FILE_SYSTEM: i32 = 30;
+
+/// Whether a file can't be written: nobody has the permission, or this process has not, or its file system is read-only.
+pub fn is_read_only(path: &Path) -> bool {
+    if fs::metadata(path).map_or(false, |it| it.permissions().readonly()) {
+        return true;
     }
-    file.read_exact(blocks).map_err(|error| match error.kind() {
-        io::ErrorKind::UnexpectedEof => io::Error::new(error.kind(), "the namespaces have more blocks than it"),
-        _ => error,
-    })?;
-    Ok(Image { file: Behind::new("image", 1, file)?, waiting: Blocks::default(), room: Vec::new() })
+    match open_regular(path, OpenOptions::new().write(true)) {
+        Ok(_) => false,
+        Err(error) => {
+            error.kind() == io::ErrorKind::PermissionDenied || error.raw_os_error() == Some(READ_ONLY_FILE_SYSTEM)
+        }
+    }
+}
+
+/// Opens an image and locks it, before anything of it is read. It is written unless the lock is shared.
+pub fn open(path: &Path, lock: Lock) -> io::Result<File> {
+    lock.open(path, OpenOptions::new().read(true).write(!lock.is_shared))
 }
 
 impl Image {
+    /// Reads the blocks of an image that is locked.
+    pub fn read(path: &Path, mut file: File, blocks: &mut [u8]) -> io::Result<Image> {
+        let (watched, length) = (Watched::new(path, &file)?, file.metadata()?.len());
+        file.read_exact(blocks).map_err(|error| match error.kind() {
+            io::ErrorKind::UnexpectedEof => io::Error::new(error.kind(), "the namespaces have more blocks than it"),
+            _ => error,
+        })?;
+        let file = Behind::new("image", 1, Whole { file, length })?;
+        Ok(Image { file, watched, length, waiting: Blocks::default(), room: Vec::new() })
+    }
+
     /// Has the file follow an I/O command that was carried out: its blocks are to be written, and are synced where the
     /// command asks for that.
     pub fn follow(&mut self, machine: &mut Machine<'_>, configuration: &Configuration, done: Done<'_>) -> Outcome<()> {
         match done.entry[0] {
             WRITE | WRITE_ZEROES => {
                 self.take(machine, configuration, done)?;
-                if u32_at(done.entry, 48) & FORCE_UNIT_ACCESS != 0 {
+                if done.is_synced || u32_at(done.entry, 48) & FORCE_UNIT_ACCESS != 0 {
                     self.sync()?;
                 }
             }
@@ -173,9 +210,15 @@ impl Image {
     }
 
     /// Has the disk hold all blocks.
-    fn sync(&mut self) -> Outcome<()> {
+    pub fn sync(&mut self) -> Outcome<()> {
         let begun = self.begin(true)?;
         self.wait_for(begun)?;
-        self.file.with_files(|file| file.sync_data()).map_err(Fault::Image)
+        self.file.with_files(|whole| whole.file.sync_data()).map_err(Fault::Image)?;
+        self.check()
+    }
+
+    /// An error if the file was cut, replaced, renamed or removed.
+    pub fn check(&self) -> Outcome<()> {
+        self.watched.length().and_then(|found| check_length(found, self.length)).map_err(Fault::Image)
     }
 }

@@ -1,141 +1,120 @@
-//! The journal: the commands that changed reservations, write protection or attachments, and the power cycles, so that
-//! a target that is started again has what persists.
+//! The journal: the commands that changed reservations, write protection or attachments, the power cycles and the
+//! starts of targets, so that a target that is started again has what persists.
 //!
 //! It begins with the configuration. A record is synced before the completion of its command goes out. So of a record
-//! that is there in part nobody was told, and it is left out; any other fault refuses the journal.
+//! that is there in part nobody was told, and it is left out; any other fault refuses the journal. A target that finds
+//! records of another after its own has been taken over: it ends without an answer.
 
-use crate::bytes::{u16_at, u32_at};
 use crate::configuration::Configuration;
-use crate::control;
-use crate::controller::{Data, ENTRY};
-use crate::digest::crc32c;
+use crate::controller::Data;
 use crate::fault::{Fault, Outcome};
-use crate::window::MOST_DATA;
-use std::fs::{self, File, OpenOptions};
-use std::io::{self, Read, Write};
-use std::os::unix::net::UnixListener;
-use std::path::Path;
+use crate::identity::Identity;
+use crate::locking::open_regular;
+use crate::nvme::{
+    ENTRY, NAMESPACE_ATTACHMENT, RESERVATION_ACQUIRE, RESERVATION_NOTIFICATION, RESERVATION_REGISTER,
+    RESERVATION_RELEASE, SET_FEATURES, WRITE_PROTECTION,
+};
+use crate::record::{current, heads, newest, records_of, Current, Event, Record};
+use crate::state::{self, Folder};
+use crate::watched::{changed, Watched};
+use std::fs::{File, OpenOptions};
+use std::io::{self, ErrorKind, Read, Seek, SeekFrom, Write};
+use std::os::unix::fs::FileExt;
 
-/// What a journal begins with.
-const MAGIC: &[u8] = b"nvmetcp journal 1\n";
-/// A record has its length, a digest of that, a digest of its content, and its content.
-const HEAD: usize = 12;
-/// A content that is a command has its kind, its controller, its queue, its entry and its data.
-const COMMAND: u8 = 1;
-const CYCLE: u8 = 2;
-const BEFORE_DATA: usize = 5 + ENTRY;
-const MOST_RECORD: usize = HEAD + BEFORE_DATA + MOST_DATA;
-
-/// Opcodes: Reservation Register, Acquire and Release; Set Features and Namespace Attachment.
-const REGISTER: u8 = 0x0d;
-const ACQUIRE: u8 = 0x11;
-const RELEASE: u8 = 0x15;
-const SET_FEATURES: u8 = 0x09;
-const NAMESPACE_ATTACHMENT: u8 = 0x15;
 /// Features: Reservation Notification Mask, Reservation Persistence and Namespace Write Protection.
-const LASTING_FEATURES: std::ops::RangeInclusive<u8> = 0x82..=0x84;
-
-/// What a record says.
-#[derive(Clone, Debug, PartialEq, Eq)]
-pub enum Record {
-    /// A command that has succeeded, of a controller's queue, with its data.
-    Command { cntlid: u16, qid: u16, entry: [u8; ENTRY], data: Vec<u8> },
-    /// Power was lost.
-    Cycle,
-}
-
-impl Record {
-    fn of(content: &[u8]) -> Option<Record> {
-        match content.first() {
-            Some(&COMMAND) if content.len() >= BEFORE_DATA => {
-                let mut entry = [0; ENTRY];
-                entry.copy_from_slice(&content[5..BEFORE_DATA]);
-                let (cntlid, qid) = (u16_at(content, 1), u16_at(content, 3));
-                Some(Record::Command { cntlid, qid, entry, data: content[BEFORE_DATA..].to_vec() })
-            }
-            Some(&CYCLE) if content.len() == 1 => Some(Record::Cycle),
-            _ => None,
-        }
-    }
-}
+const LASTING_FEATURES: std::ops::RangeInclusive<u8> = RESERVATION_NOTIFICATION..=WRITE_PROTECTION;
+/// The most bytes that are read of what another target has appended.
+const MOST_OF_OTHERS: u64 = 64 << 10;
+/// Why a journal that isn't whole is refused.
+const WAS_USED: &str = "a target has used this folder, and what it kept is lost: put the journal back from a copy, or \
+                        begin anew with another folder";
 
 /// A journal that is kept.
 pub struct Journal {
     file: File,
-    /// A socket beside it: while that answers, no other target takes the folder.
-    _in_use: UnixListener,
+    watched: Watched,
+    /// How long the file is, unless another target writes to it.
+    length: u64,
+    pub epoch: u64,
+    pub identity: Identity,
+    /// No other target has its folder.
+    _folder: Folder,
 }
 
-/// What stands in a journal that was opened.
+/// The content of a journal that was opened.
 pub struct Found {
-    pub records: Vec<Record>,
+    pub current: Current,
     /// How many bytes at its end were a part of a record, and are left out.
     pub torn: usize,
 }
 
-/// Opens the journal of a folder, which is made where it is not there.
-pub fn open(folder: &Path, configuration: &Configuration) -> io::Result<(Journal, Found)> {
-    fs::create_dir_all(folder)?;
-    let in_use = control::bind(&folder.join("in-use"))?;
-    let mut file = OpenOptions::new().read(true).append(true).create(true).open(folder.join("journal"))?;
-    let mut bytes = Vec::new();
-    file.read_to_end(&mut bytes)?;
-    let mut head = MAGIC.to_vec();
-    push_record(&mut head, configuration.lines().as_bytes());
-    if head.starts_with(&bytes) && bytes.len() < head.len() {
-        // It was made just now, or its target was killed when it made it.
-        file.set_len(0)?;
-        file.write_all(&head)?;
-        file.sync_all()?;
-        File::open(folder)?.sync_all()?;
-        return Ok((Journal { file, _in_use: in_use }, Found { records: Vec::new(), torn: 0 }));
+/// Opens the journal of a folder, and appends that a target has started. It is created if no target has used the
+/// folder.
+pub fn open(mut folder: Folder, configuration: &Configuration) -> io::Result<(Journal, Found)> {
+    let path = folder.path.join(state::JOURNAL);
+    let mut options = OpenOptions::new();
+    options.read(true).append(true).create(folder.identity.is_none());
+    let mut file = open_regular(&path, &options).map_err(|error| match error.kind() {
+        ErrorKind::NotFound => changed(format!("there is no journal: {WAS_USED}")),
+        kind => io::Error::new(kind, format!("the journal: {error}")),
+    })?;
+    let (bytes, begin) = read_or_begin(&mut file, &folder, configuration)?;
+    let (mut records, end) = records_of(&bytes, begin)?;
+    let torn = bytes.len() - end;
+    let epoch = newest_of(&records)?.saturating_add(1);
+    let identity = folder.use_it()?;
+    if torn != 0 {
+        file.set_len(end as u64)?;
     }
-    if !bytes.starts_with(&head) {
-        return Err(io::Error::new(io::ErrorKind::InvalidData, "the journal is of another configuration"));
-    }
-    let (records, end) = records_of(&bytes, head.len())?;
-    file.set_len(end as u64)?;
+    file.write_all(&Record { epoch, event: Event::Start }.bytes())?;
     file.sync_all()?;
-    Ok((Journal { file, _in_use: in_use }, Found { records, torn: bytes.len() - end }))
+    let length = join(&mut records, &read_from(&mut file, end as u64)?, epoch)?;
+    let (watched, length) = (Watched::new(&path, &file)?, (end + length) as u64);
+    Ok((Journal { file, watched, length, epoch, identity, _folder: folder }, Found { current: current(records), torn }))
 }
 
-/// The records from a place on, and where the last of them ends.
-fn records_of(bytes: &[u8], begin: usize) -> io::Result<(Vec<Record>, usize)> {
-    let (mut records, mut at) = (Vec::new(), begin);
-    while let Some(content) = content_at(bytes, at) {
-        let wrong = || io::Error::new(io::ErrorKind::InvalidData, format!("what stands at byte {at} is no record"));
-        records.push(Record::of(content).ok_or_else(wrong)?);
-        at += HEAD + content.len();
+/// Adds what is in a journal from the start of this target on, and before it what a target that has not ended appended
+/// meanwhile: that counts, since its hosts were answered. How many bytes these are. An error if another target has
+/// started too.
+fn join(records: &mut Vec<Record>, bytes: &[u8], epoch: u64) -> io::Result<usize> {
+    let (newer, length) = records_of(bytes, 0)?;
+    records.extend(newer);
+    if length != bytes.len() || records.iter().filter(|it| it.epoch >= epoch).count() != 1 {
+        return Err(changed("another target has started over this folder at the same time".to_owned()));
     }
-    let rest = bytes.len() - at;
-    if rest > MOST_RECORD || (at + 1..bytes.len()).any(|place| content_at(bytes, place).is_some()) {
-        let text = format!("the record at byte {at} is damaged, and others stand behind it");
-        return Err(io::Error::new(io::ErrorKind::InvalidData, text));
-    }
-    Ok((records, at))
+    newest_of(records)?;
+    Ok(length)
 }
 
-/// The content of the record at a place, if one is there whole.
-fn content_at(bytes: &[u8], at: usize) -> Option<&[u8]> {
-    let head = bytes.get(at..at + HEAD)?;
-    let length = u32_at(head, 0) as usize;
-    if length == 0 || crc32c(&head[..4]) != u32_at(head, 4) {
-        return None;
+/// The bytes of a journal, and the place of its first record. If no target has used the folder, a journal shorter than
+/// its head is begun anew.
+fn read_or_begin(file: &mut File, folder: &Folder, configuration: &Configuration) -> io::Result<(Vec<u8>, usize)> {
+    let (bytes, heads) = (read_from(file, 0)?, heads(&configuration.lines));
+    if let Some(head) = heads.iter().find(|head| bytes.starts_with(head)) {
+        return Ok((bytes, head.len()));
     }
-    let content = bytes.get(at + HEAD..at + HEAD + length)?;
-    if crc32c(content) == u32_at(head, 8) {
-        Some(content)
-    } else {
-        None
+    if !heads.iter().any(|head| head.starts_with(&bytes)) {
+        return Err(changed("the journal is of another configuration".to_owned()));
     }
+    if folder.identity.is_some() {
+        return Err(changed(format!("the journal has {} bytes, fewer than its head: {WAS_USED}", bytes.len())));
+    }
+    file.set_len(0)?;
+    file.write_all(&heads[0])?;
+    file.sync_all()?;
+    File::open(&folder.path)?.sync_all()?;
+    Ok((heads[0].clone(), heads[0].len()))
 }
 
-fn push_record(out: &mut Vec<u8>, content: &[u8]) {
-    let length = (content.len() as u32).to_le_bytes();
-    out.extend(length);
-    out.extend(crc32c(&length).to_le_bytes());
-    out.extend(crc32c(content).to_le_bytes());
-    out.extend(content);
+fn read_from(file: &mut File, place: u64) -> io::Result<Vec<u8>> {
+    let mut bytes = Vec::new();
+    file.seek(SeekFrom::Start(place))?;
+    file.read_to_end(&mut bytes)?;
+    Ok(bytes)
+}
+
+fn newest_of(records: &[Record]) -> io::Result<u64> {
+    newest(records).map_err(|number| changed(format!("record {number} is of an epoch that no target has started")))
 }
 
 /// Whether a command changes what is to last.
@@ -143,35 +122,62 @@ fn lasts(qid: u16, entry: &[u8; ENTRY]) -> bool {
     match (qid, entry[0]) {
         (0, SET_FEATURES) => LASTING_FEATURES.contains(&entry[40]),
         (0, opcode) => opcode == NAMESPACE_ATTACHMENT,
-        (_, opcode) => matches!(opcode, REGISTER | ACQUIRE | RELEASE),
+        (_, opcode) => matches!(opcode, RESERVATION_REGISTER | RESERVATION_ACQUIRE | RESERVATION_RELEASE),
     }
 }
 
 impl Journal {
-    /// Takes down a command that has succeeded, where it changes what is to last.
+    /// Appends a command that has succeeded, if it changes what is to last.
     pub fn follow(&mut self, cntlid: u16, qid: u16, entry: &[u8; ENTRY], data: Data<'_>) -> Outcome<()> {
         if !lasts(qid, entry) {
             return Ok(());
         }
-        let mut content = vec![COMMAND];
-        content.extend(cntlid.to_le_bytes());
-        content.extend(qid.to_le_bytes());
-        content.extend(entry);
-        if let Data::ToController(bytes) = data {
-            content.extend(bytes);
-        }
-        self.append(&content)
+        let data = if let Data::ToController(bytes) = data { bytes.to_vec() } else { Vec::new() };
+        self.append(Event::Command { cntlid, qid, entry: *entry, data })
     }
 
-    /// Takes down a power cycle.
+    /// Appends a power cycle.
     pub fn cycle(&mut self) -> Outcome<()> {
-        self.append(&[CYCLE])
+        self.append(Event::Cycle)
     }
 
-    fn append(&mut self, content: &[u8]) -> Outcome<()> {
-        let mut record = Vec::new();
-        push_record(&mut record, content);
-        self.file.write_all(&record).and_then(|()| self.file.sync_data()).map_err(Fault::Journal)
+    /// Appends a record, unless another target has taken the folder over. If one does so meanwhile, that is an error
+    /// too: it may not have read the record.
+    fn append(&mut self, event: Event) -> Outcome<()> {
+        self.check()?;
+        let record = Record { epoch: self.epoch, event }.bytes();
+        self.file.write_all(&record).and_then(|()| self.file.sync_data()).map_err(Fault::Journal)?;
+        self.length += record.len() as u64;
+        self.check()
+    }
+
+    /// An error if the file is not as this target has left it.
+    pub fn check(&self) -> Outcome<()> {
+        self.watched.length().and_then(|found| self.check_length(found)).map_err(Fault::Journal)
+    }
+
+    /// An error if another target has started over it. That is quick: it is called before anything is served.
+    pub fn check_epoch(&self) -> Outcome<()> {
+        let found = self.file.metadata().map(|it| it.len());
+        found.and_then(|found| self.check_length(found)).map_err(Fault::Journal)
+    }
+
+    fn check_length(&self, found: u64) -> io::Result<()> {
+        if found == self.length {
+            return Ok(());
+        }
+        if found < self.length {
+            return Err(changed(format!("it was cut to {found} bytes, of {}", self.length)));
+        }
+        let mut bytes = vec![0; (found - self.length).min(MOST_OF_OTHERS) as usize];
+        self.file.read_exact_at(&mut bytes, self.length)?;
+        let records = records_of(&bytes, 0).map_or(Vec::new(), |(records, _)| records);
+        let newest = records.iter().map(|it| it.epoch).max().unwrap_or(0);
+        Err(changed(if newest < self.epoch {
+            "another program has written to it".to_owned()
+        } else {
+            format!("another target has taken its folder over: it began epoch {newest}, this one {}", self.epoch)
+        }))
     }
 }
 
@@ -179,37 +185,26 @@ impl Journal {
 mod tests {
     use super::*;
 
-    fn journal(count: u16) -> Vec<u8> {
-        let mut bytes = Vec::new();
-        for cntlid in 0..count {
-            let content = [&[COMMAND, cntlid as u8, 0, 1, 0], &[7; ENTRY][..], &[9; 16]].concat();
-            push_record(&mut bytes, &content);
-        }
-        bytes
-    }
-
     #[test]
-    fn a_journal_that_is_cut_has_the_records_before_the_cut() {
-        let bytes = journal(3);
-        let size = bytes.len() / 3;
-        for cut in 0..=bytes.len() {
-            let (records, end) = records_of(&bytes[..cut], 0).unwrap();
-            assert_eq!((records.len(), end), (cut / size, cut / size * size));
-        }
-    }
-
-    #[test]
-    fn a_journal_that_is_damaged_is_refused() {
-        let bytes = journal(3);
-        let size = bytes.len() / 3;
-        for at in 0..bytes.len() {
-            let mut damaged = bytes.clone();
-            damaged[at] ^= 1;
-            let read = records_of(&damaged, 0);
-            if at < 2 * size {
-                assert!(read.is_err(), "byte {at}");
-            } else {
-                assert_eq!(read.unwrap().1, 2 * size);
+    fn what_another_target_appends_at_a_start() {
+        let [start, cycle] =
+            [Event::Start, Event::Cycle].map(|event| move |epoch| Record { epoch, event: event.clone() });
+        for (appended, counted) in [
+            (vec![start(2)], Some(2)),
+            (vec![cycle(1), start(2)], Some(3)),
+            (vec![start(2), cycle(1)], Some(2)),
+            (vec![start(2), start(2)], None),
+            (vec![start(2), cycle(2)], None),
+            (vec![start(3), start(2)], None),
+            (vec![], None),
+        ] {
+            let bytes: Vec<u8> = appended.iter().flat_map(Record::bytes).collect();
+            let mut records = vec![start(1)];
+            let length = join(&mut records, &bytes, 2).ok();
+            assert_eq!(length, counted.map(|_| bytes.len()), "{appended:?}");
+            if let Some(count) = counted {
+                assert_eq!(current(records).events.len(), count);
+                assert!(join(&mut vec![start(1)], &[&bytes[..], &[7]].concat(), 2).is_err());
             }
         }
     }
@@ -218,11 +213,11 @@ mod tests {
     fn what_lasts() {
         let mut entry = [0; ENTRY];
         for (qid, opcode, dw10, wanted) in [
-            (1, REGISTER, 0, true),
+            (1, RESERVATION_REGISTER, 0, true),
             (1, 0x01, 0, false),
-            (0, SET_FEATURES, 0x84, true),
+            (0, SET_FEATURES, WRITE_PROTECTION, true),
             (0, SET_FEATURES, 0x07, false),
-            (0, REGISTER, 0, false),
+            (0, RESERVATION_REGISTER, 0, false),
         ] {
             entry[0] = opcode;
             entry[40] = dw10;

@@ -3,8 +3,8 @@
 //! as such a place, and then the others with the first of the next lines, if these are there by then.
 
 use crate::appended::Appended;
+use std::fs::File;
 use std::io;
-use std::path::Path;
 
 /// The multiples at which bytes begin and end well.
 const WELL: u64 = 64 << 10;
@@ -22,11 +22,9 @@ pub struct Kept {
 }
 
 impl Kept {
-    /// Begins both files, the script with these lines. The transcript stands beside it, with `.out` at its end.
-    pub fn create(path: &Path, lines: &[u8]) -> io::Result<Kept> {
-        let mut beside = path.as_os_str().to_owned();
-        beside.push(".out");
-        let (mut script, transcript) = (Appended::create(path)?, Appended::create(Path::new(&beside))?);
+    /// Begins both files, which are empty: the script with these lines, and the transcript.
+    pub fn new([script, transcript]: [File; 2], lines: &[u8]) -> io::Result<Kept> {
+        let (mut script, transcript) = (Appended::new(script)?, Appended::new(transcript)?);
         script.append(lines)?;
         Ok(Kept { script, transcript, ahead: 0, gave: Vec::new() })
     }
@@ -71,6 +69,12 @@ impl Kept {
         Ok(())
     }
 
+    /// Has the disk hold both files.
+    pub fn sync(&mut self) -> io::Result<()> {
+        self.script.sync()?;
+        self.transcript.sync()
+    }
+
     /// Gives back the room that is left over.
     pub fn give_back(&mut self) {
         self.script.give_back();
@@ -89,14 +93,15 @@ impl Drop for Kept {
 mod tests {
     use super::*;
     use std::fs;
-    use std::path::PathBuf;
+    use std::path::{Path, PathBuf};
 
     /// A script with no lines, in files of this name, and how many bytes they have.
     fn created(name: &str) -> (Kept, PathBuf, impl Fn() -> [u64; 2]) {
         let path = std::env::temp_dir().join(format!("nvmetcp-{name}-{}", std::process::id()));
-        let files = [path.clone(), path.with_extension("out")];
-        let lengths = move || [0, 1].map(|it| fs::metadata(&files[it]).unwrap().len());
-        (Kept::create(&path, b"").unwrap(), path, lengths)
+        let paths = [path.clone(), path.with_extension("out")];
+        let files = [0, 1].map(|it: usize| File::create(&paths[it]).unwrap());
+        let lengths = move || [0, 1].map(|it: usize| fs::metadata(&paths[it]).unwrap().len());
+        (Kept::new(files, b"").unwrap(), path, lengths)
     }
 
     /// So many bytes, which are others for each number.

@@ -2,7 +2,7 @@
 
 use crate::fault::Outcome;
 use crate::script::Script;
-use nvmesim::{Command, Executed, Fetched, Queue, Reservation, Subsystem};
+use nvmesim::{Executed, Fetched, LineError, Reservation, Subsystem};
 
 /// The subsystem of this process.
 pub struct Machine<'a> {
@@ -74,19 +74,14 @@ impl<'a> Machine<'a> {
         self.subsystem.read_blocks(nsid, slba, bytes).is_ok()
     }
 
-    /// The commands that a controller has fetched and not executed; nothing where there is no such controller.
-    pub fn fetched(&mut self, cntlid: u16) -> Option<Vec<Command>> {
-        self.subsystem.fetched(cntlid).ok()
-    }
-
-    /// The submission and the completion queue of a controller with this identifier, those that there are.
-    pub fn queues(&mut self, cntlid: u16, qid: u16) -> (Option<Queue>, Option<Queue>) {
-        (self.subsystem.submission_queue(cntlid, qid).ok(), self.subsystem.completion_queue(cntlid, qid).ok())
-    }
-
-    /// The reservation of a namespace; nothing where there is no such namespace.
+    /// The reservation and the write protection of a namespace; nothing if there is no such namespace.
     pub fn reservation(&mut self, nsid: u32) -> Option<Reservation> {
         self.subsystem.reservation(nsid).ok()
+    }
+
+    /// Answers the looking line with this number, by the text of a session.
+    pub fn look(&mut self, number: u64, line: &str) -> Result<String, LineError> {
+        self.subsystem.look(number, line)
     }
 
     pub fn is_attached(&mut self, cntlid: u16, nsid: u32) -> bool {
@@ -109,6 +104,11 @@ impl<'a> Machine<'a> {
     /// Is called ten times a second: a script to which nothing is added gives back the room that it has ahead.
     pub fn rest_script(&mut self) -> Outcome<()> {
         self.script.as_mut().map_or(Ok(()), Script::rest)
+    }
+
+    /// Has the disk hold the script.
+    pub fn sync_script(&mut self) -> Outcome<()> {
+        self.script.as_mut().map_or(Ok(()), Script::sync)
     }
 
     /// How many pieces of the script are done.

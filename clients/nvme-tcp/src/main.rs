@@ -4,57 +4,99 @@
 //! thread owns the subsystem and serves all connections.
 #![deny(unsafe_code)]
 
+mod access;
 mod admin;
+mod admission;
 mod answer;
 mod appended;
 mod association;
+mod authentication;
 mod behind;
 mod bytes;
 mod configuration;
 mod connection;
 mod control;
 mod controller;
+mod counters;
+mod crypto;
+mod deallocating;
 mod digest;
 mod discovery;
 mod events;
 mod fabrics;
 mod fault;
+mod features;
+mod groups;
+mod health;
 mod holding;
+mod host_log;
 mod identify;
+mod identity;
 mod image;
 mod input;
+mod inventory;
 mod journal;
 mod kept;
-mod looking;
+mod keys;
+#[cfg_attr(feature = "authentication", allow(unsafe_code))]
+#[cfg_attr(not(feature = "authentication"), path = "no_libcrypto.rs")]
+mod libcrypto;
+mod listening;
+mod locking;
+mod log;
 mod machine;
+mod messages;
+mod metrics;
+mod names;
+mod nvme;
 mod options;
 mod output;
+mod outputs;
+mod pages;
 mod pdu;
 mod pointer;
+mod proving;
+mod record;
 mod restoring;
 mod script;
+mod secret;
 mod server;
+mod state;
 mod status;
 #[allow(unsafe_code)]
 mod system;
 mod target;
 mod transfers;
+mod watched;
 mod window;
+mod worker;
 
 use configuration::Configuration;
+use identity::Identity;
+use image::Image;
+use journal::{Found, Journal};
+use keys::Keys;
+use listening::plain;
+use locking::Lock;
+use log::{warn, Form};
 use machine::Machine;
+use nvme::BLOCK;
 use nvmesim::Subsystem;
 use options::Options;
+use proving::Prover;
+use record::Event;
 use script::Script;
 use server::Server;
+use state::Folder;
+use std::env;
 use std::ffi::OsString;
 use std::fmt::Display;
+use std::fs::File;
 use std::io::{self, Write};
-use std::net::TcpListener;
-use std::path::Path;
+use std::net::{SocketAddr, TcpListener};
+use std::path::{Path, PathBuf};
 use std::process::ExitCode;
-use std::{env, fs};
-use target::{tell, Target};
+use target::Target;
 
 /// Exit statuses: the configuration is refused, a file or the system failed, the command line is wrong.
 const REFUSED: u8 = 1;
@@ -64,6 +106,8 @@ const BAD_COMMAND_LINE: u8 = 3;
 /// Where the blocks begin in their memory. They don't lie in pages as the memory of hosts does: where both do alike, the
 /// C library copies from the end, which is slower.
 const BLOCKS_AT: usize = 2048;
+/// In the place of how many blocks an image has: there are as many as CONFIG wants.
+const ANY_BLOCKS: u64 = u64::MAX;
 
 /// Why it ends: the exit status, and what it says.
 struct End {
@@ -80,14 +124,16 @@ fn main() -> ExitCode {
     let words: Vec<OsString> = env::args_os().skip(1).collect();
     let done = match words.first().and_then(|word| word.to_str()) {
         Some("--help" | "-h") => print(options::HELP),
-        Some("--version") => print(concat!("nvmetcp ", env!("CARGO_PKG_VERSION"), "\n")),
+        Some("--version") => print(&version()),
+        Some("--where") => print_where(),
+        Some("--check") => check(&words[1..]),
         Some("ctl") => control_line(&words[1..]),
         _ => serve(words),
     };
     match done {
         Ok(()) => ExitCode::SUCCESS,
         Err(End { status, text }) => {
-            tell(format_args!("{text}"));
+            log::fault(&text);
             ExitCode::from(status)
         }
     }
@@ -95,6 +141,36 @@ fn main() -> ExitCode {
 
 fn print(text: &str) -> Result<(), End> {
     io::stdout().write_all(text.as_bytes()).map_err(end(FAILED, "standard output"))
+}
+
+/// The version, and how the library was built, which the build says.
+fn version() -> String {
+    let made = option_env!("NVMETCP_LIBRARY").unwrap_or("in a way that this build was not told");
+    let proofs = if libcrypto::IS_THERE { "with --keys" } else { "without --keys: there was no libcrypto" };
+    format!("nvmetcp {}\nover libnvmesim built {made}\nbuilt {proofs}\n", env!("CARGO_PKG_VERSION"))
+}
+
+/// `--where`: the path of this program.
+fn print_where() -> Result<(), End> {
+    let path = env::current_exe().map_err(end(FAILED, "the path of this program"))?;
+    print(&format!("{}\n", path.display()))
+}
+
+/// `--check CONFIG`: whether it would be refused.
+fn check(words: &[OsString]) -> Result<(), End> {
+    let path = match words {
+        [path] => Path::new(path),
+        _ => return Err(End { status: BAD_COMMAND_LINE, text: "--check CONFIG is wanted".to_owned() }),
+    };
+    let text = configuration::text_of(path).map_err(end(FAILED, path.display()))?;
+    judge(path, &text, ANY_BLOCKS)?;
+    print(&format!("{}: not refused\n", path.display()))
+}
+
+/// The configuration in a text of a file, for an image of so many blocks.
+fn judge(path: &Path, text: &[u8], blocks: u64) -> Result<Configuration, End> {
+    Configuration::read(text, blocks)
+        .map_err(|reason| End { status: REFUSED, text: format!("{}:{reason}", path.display()) })
 }
 
 /// `ctl SOCKET LINE`.
@@ -113,56 +189,161 @@ fn control_line(words: &[OsString]) -> Result<(), End> {
 
 /// Serves until something ends it.
 fn serve(words: Vec<OsString>) -> Result<(), End> {
-    let options = Options::read(words.into_iter())
+    let mut options = Options::read(words.into_iter())
         .map_err(|text| End { status: BAD_COMMAND_LINE, text: format!("{text}; --help says more") })?;
-    let config = options.config.display();
-    let text = fs::read_to_string(&options.config).map_err(end(FAILED, &config))?;
-    let configuration = Configuration::read(&text).map_err(end(REFUSED, &config))?;
-    let mut bytes = vec![0; BLOCKS_AT + configuration.bytes() as usize];
-    let blocks = &mut bytes[BLOCKS_AT..];
-    let image = match &options.image {
-        None => None,
-        Some(path) => Some(image::open(path, blocks).map_err(end(FAILED, path.display()))?),
-    };
-    let subsystem = Subsystem::open_lent(&configuration.config, blocks).map_err(end(REFUSED, &config))?;
-    let script = match &options.script {
-        None => None,
-        Some(path) => Some(Script::new(path, &configuration).map_err(end(FAILED, path.display()))?),
-    };
-    let listener = TcpListener::bind(options.listen).map_err(end(FAILED, options.listen))?;
-    let control = match &options.control {
-        None => None,
-        Some(path) => Some(control::listen(path).map_err(end(FAILED, path.display()))?),
-    };
-    let mut target = Target::new(Machine::new(subsystem, script), configuration, options.settings, image);
-    if let Some(folder) = &options.state {
-        restore(&mut target, folder)?;
+    if options.settings.log == Form::Json {
+        log::begin(Form::Json);
     }
-    announce(&target, &listener);
-    let mut server = Server::new(target, listener, control).map_err(end(FAILED, "the system"))?;
-    Err(End { status: FAILED, text: server.run().to_string() })
+    let keys = read_keys(&options)?;
+    let config = options.config.as_path();
+    let text = configuration::text_of(config).map_err(end(FAILED, config.display()))?;
+    let configuration = judge(config, &text, ANY_BLOCKS)?;
+    let bad = |text| End { status: BAD_COMMAND_LINE, text };
+    options.settings.admission.check(&configuration.hosts(), &options.listen).map_err(bad)?;
+    outputs::check(&options).map_err(|text| End { status: FAILED, text })?;
+    options.settings.is_read_only |= tells_read_only(&options);
+    serve_over(options, configuration, &text, keys)
 }
 
-/// Has a target begin with what persists of those that kept their state in a folder before.
-fn restore(target: &mut Target<'_>, folder: &Path) -> Result<(), End> {
-    let what = folder.display();
-    let (journal, found) = journal::open(folder, &target.configuration).map_err(end(FAILED, &what))?;
-    if found.torn != 0 {
-        tell(format_args!("{what}: the last {} bytes are a part of a record, which nobody was told of", found.torn));
+/// Reads the keys, if there are to be any. From here on the memory of this process is nobody else's.
+fn read_keys(options: &Options) -> Result<Option<Keys>, End> {
+    let path = match &options.keys {
+        Some(path) => path,
+        None => return Ok(None),
+    };
+    if !libcrypto::IS_THERE {
+        let text = "--keys: this build has no authentication; install libssl-dev, and build it again";
+        return Err(End { status: BAD_COMMAND_LINE, text: text.to_owned() });
     }
-    if let Some(number) = target.restore(&found.records).map_err(end(FAILED, &what))? {
-        return Err(End { status: FAILED, text: format!("{what}: record {number} does not succeed again") });
+    system::hide_memory().map_err(end(FAILED, "the system can't keep the keys secret"))?;
+    Keys::read(path).map(Some).map_err(|text| End { status: REFUSED, text })
+}
+
+/// Serves what a text describes until something ends it.
+fn serve_over(options: Options, configuration: Configuration, text: &[u8], keys: Option<Keys>) -> Result<(), End> {
+    // The locks and the port come first: what is read behind them stays as it is.
+    let image = open_image(&options, text)?;
+    let folder = optional(&options.state, |path| state::open(path, options.waits))?;
+    let listeners = listen(&options)?;
+    let identity = image.as_ref().map_or_else(Identity::random, |file| file.metadata().map(Identity::of_file));
+    let identity = identity.map_err(end(FAILED, "the identity"))?;
+    let mut bytes = vec![0; BLOCKS_AT + configuration.bytes() as usize];
+    let blocks = &mut bytes[BLOCKS_AT..];
+    let image = match (&options.image, image) {
+        (Some(path), Some(file)) => Some(Image::read(path, file, blocks).map_err(end(FAILED, path.display()))?),
+        _ => None,
+    };
+    let subsystem = Subsystem::open_lent(&configuration.config, blocks);
+    let subsystem = subsystem.map_err(end(REFUSED, options.config.display()))?;
+    let control =
+        optional(&options.control, |path| locking::bind(path.display(), options.waits, || control::listen(path)))?;
+    let journal = folder.map(|it| open_journal(it, &configuration)).transpose()?;
+    // It comes last, so that a start that fails leaves none.
+    let script = optional(&options.script, |path| {
+        outputs::create_script(path, &options).and_then(|files| Script::new(files, &configuration))
+    })?;
+    let machine = Machine::new(subsystem, script);
+    let mut target = Target::new(machine, configuration, options.settings, identity, image);
+    begin(&mut target, journal)?;
+    target.begin_counting();
+    system::note_signals();
+    if let (Some(path), Some(keys)) = (&options.keys, keys) {
+        system::note_hang_up();
+        let (name, controllers) = (&target.settings.name, target.controllers.len());
+        let prover = Prover::start(path, keys, options.choice.unwrap_or_default(), name, controllers);
+        target.prover = Some(prover.map_err(end(FAILED, "the system"))?);
     }
+    log::begin(target.settings.log);
+    announce(&mut target, &listeners);
+    let server = Server::new(target, listeners, control).map_err(end(FAILED, "the system"))?;
+    server.run().map_err(|fault| End { status: FAILED, text: fault.to_string() })
+}
+
+/// Opens the image, which is locked then, and judges whether the configuration fits it.
+fn open_image(options: &Options, text: &[u8]) -> Result<Option<File>, End> {
+    let lock = if options.settings.is_read_only { Lock::shared } else { Lock::exclusive };
+    let image = optional(&options.image, |path| image::open(path, lock(options.waits)))?;
+    if let Some(file) = &image {
+        let length = file.metadata().map_err(end(FAILED, "the image"))?.len();
+        judge(&options.config, text, length / BLOCK)?;
+    }
+    Ok(image)
+}
+
+/// Whether the image can't be written, which is told unless it was asked for.
+fn tells_read_only(options: &Options) -> bool {
+    match &options.image {
+        Some(path) if !options.settings.is_read_only && image::is_read_only(path) => {
+            warn(format_args!("{} can't be written: it is served read-only", path.display()));
+            true
+        }
+        _ => false,
+    }
+}
+
+/// Opens what an option names, if it is given.
+fn optional<T>(path: &Option<PathBuf>, open: impl FnOnce(&Path) -> io::Result<T>) -> Result<Option<T>, End> {
+    path.as_ref().map(|path| open(path).map_err(end(FAILED, path.display()))).transpose()
+}
+
+/// Has a target begin as its options say: write protected, and with what persists.
+fn begin(target: &mut Target<'_>, journal: Option<(Journal, Vec<Event>)>) -> Result<(), End> {
+    if target.settings.is_read_only {
+        if !target.protect().map_err(end(FAILED, "write protection"))? {
+            return Err(End { status: FAILED, text: "the namespaces can't be write protected".to_owned() });
+        }
+        target.power_cycle().map_err(end(FAILED, "write protection"))?;
+    }
+    journal.map_or(Ok(()), |(journal, events)| restore(target, journal, &events))
+}
+
+/// Opens the journal of a folder, and says what of it is left out; the events that are not.
+fn open_journal(folder: Folder, configuration: &Configuration) -> Result<(Journal, Vec<Event>), End> {
+    let path = folder.path.clone();
+    let what = path.display();
+    let (journal, Found { current, torn }) = journal::open(folder, configuration).map_err(end(FAILED, &what))?;
+    if torn != 0 {
+        warn(format_args!("{what}: the last {torn} bytes are a part of a record, which nobody was told of"));
+    }
+    if current.stale != 0 {
+        let why = "of an older epoch than those before them: their target went on when another had taken over";
+        warn(format_args!("{what}: {} records are ignored, since they are {why}", current.stale));
+    }
+    Ok((journal, current.events))
+}
+
+/// Has a target begin with what persists of those that kept their state in its journal before.
+fn restore(target: &mut Target<'_>, journal: Journal, events: &[Event]) -> Result<(), End> {
+    if let Some(number) = target.restore(events).map_err(end(FAILED, "the journal"))? {
+        return Err(End { status: FAILED, text: format!("the journal: record {number} does not succeed again") });
+    }
+    target.identity = journal.identity;
     target.journal = Some(journal);
-    target.power_cycle().map_err(end(FAILED, &what))
+    Ok(())
+}
+
+/// Listens at all addresses.
+fn listen(options: &Options) -> Result<Vec<TcpListener>, End> {
+    let bound = options.listen.iter().map(|address| {
+        let listener = locking::bind(address, options.waits, || TcpListener::bind(address));
+        let listener = listener.map_err(end(FAILED, address))?;
+        listener.set_nonblocking(true).map_err(end(FAILED, address))?;
+        Ok(listener)
+    });
+    bound.collect()
 }
 
 /// Says that hosts may come, and who may.
-fn announce(target: &Target<'_>, listener: &TcpListener) {
-    if let Ok(address) = listener.local_addr() {
+fn announce(target: &mut Target<'_>, listeners: &[TcpListener]) {
+    let addresses: Vec<SocketAddr> = listeners.iter().filter_map(|it| it.local_addr().ok()).collect();
+    target.log_start(&addresses);
+    for host in target.hosts_without_key() {
+        warn(format_args!("host {host} has no line in the file of keys, and can't connect"));
+    }
+    for address in addresses {
         let _ = writeln!(io::stdout(), "nvmetcp: {} at {address}", target.settings.name);
-        if !address.ip().is_loopback() {
-            tell(format_args!("whoever reaches {address} may say that it is any of the hosts: see --allow"));
+        if target.settings.admission.trusts_network && !plain(address).ip().is_loopback() {
+            warn(format_args!("any machine that reaches {address} is trusted: --trust-network"));
         }
     }
 }

@@ -1,6 +1,10 @@
 //! The command line.
 
-use crate::configuration::number;
+use crate::admission::Admission;
+use crate::authentication::Choice;
+use crate::crypto::Hash;
+use crate::groups::Group;
+use crate::log::Form;
 use crate::target::Settings;
 use std::ffi::OsString;
 use std::net::{IpAddr, Ipv4Addr, SocketAddr};
@@ -9,37 +13,64 @@ use std::path::PathBuf;
 /// What `--help` prints.
 pub const HELP: &str = "\
 nvmetcp [OPTIONS] CONFIG       serve the subsystem that CONFIG describes as an NVMe/TCP target
-nvmetcp ctl SOCKET LINE        have a target that runs answer a line of control
+nvmetcp ctl SOCKET LINE        ask a running target a control line
 
 CONFIG has the lines of a script before `start`: controllers with their hosts, namespaces, attachments.
 
-  --image FILE                 its blocks are those of this file, in place of zeros in memory
-  --listen ADDRESS:PORT        where hosts reach it, 127.0.0.1:4420 unless this is given
-  --name NQN                   the subsystem's name, nqn.2024-01.example:suvmileh unless this is given
-  --allow HOSTID=ADDRESS       a host with this HOSTID, a UUID, may come from this address alone; may be repeated
-  --advertise ADDRESS:PORT     the address that discovery tells, where hosts reach it by another one
+  --image FILE                 use the blocks of this file instead of zeros in memory, and lock it
+  --read-only                  write protect all namespaces, which no host can change; the default if FILE can't be
+                               written
+  --wait                       wait for files and addresses that other processes use, instead of refusing
+  --listen ADDRESS:PORT        listen there, by default at 127.0.0.1:4420; may be repeated. [ADDRESS] is IPv6, and
+                               [::] includes IPv4
+  --name NQN                   the subsystem's name, by default nqn.2024-01.example:suvmileh
+  --keys FILE                  authenticate hosts by DH-HMAC-CHAP; FILE has a line HOSTID HOSTNQN SECRET
+                               [SECRET-OF-THE-CONTROLLER] for each, only its owner may access it, and SIGHUP has it
+                               read again
+  --dhchap HASH,GROUP          hash and DH group of authentication, by default sha256,ffdhe2048: sha256, sha384 or
+                               sha512; null, ffdhe2048, ffdhe3072, ffdhe4096, ffdhe6144 or ffdhe8192
+  --allow HOSTID=ADDRESS       accept the host of CONFIG with this HOSTID, a UUID, from this address only; may be
+                               repeated
+  --trust-network              trust anyone who reaches the target; to listen beyond loopback it needs this, --keys,
+                               or --allow for each host
+  --advertise ADDRESS:PORT     the address that discovery returns, if hosts reach the target by another one
   --state FOLDER               keep reservations, write protection and attachments there, over restarts
-  --script FILE                keep the run there as a script, and what it printed in FILE.out; up to 64 MiB of the disk
-                               are reserved ahead of each, and given back where nothing is written for a second
-  --control SOCKET             answer lines of control at this socket; its folder is its user's alone
-  --trace                      tell on standard error what hosts do
+  --script FILE                keep the run there as a script, and its results in FILE.out; up to 64 MiB of the disk
+                               are reserved ahead for each, and released after an idle second
+  --force                      replace FILE and FILE.out of a script if they exist
+  --control SOCKET             answer control lines at this socket, in a folder of its user alone
+  --log FORM                   log hosts, refusals, fences and faults on standard error as text, json or none, by
+                               default as text
+  --trace                      log on standard error what hosts do
+  --check CONFIG               say whether CONFIG would be refused, and serve nothing
+  --where                      print the path of the program
   --help, -h                   print this
-  --version                    print the version
+  --version                    print the version, and whether the library below was built with its proofs
 
-Lines of control: powercycle, hold C, held C, go C, hosts, counts; and those that look, as in nvmelive: ?reservation N,
-?attached, ?namespaces, ?blocks N SLBA COUNT, ?fetched C, ?queues C, ?registers C, ?register C OFF, ?window C ADDR LEN.
-Exit status: 1 the configuration is refused, or there is no such line; 2 a file, a socket or the system failed; 3 bad
-command line. It ends by a signal alone.
+Control lines: powercycle, hold C, held C, go C, ana C STATE, hosts, counts, metrics; and queries, as in nvmelive:
+?reservation N, ?attached, ?namespaces, ?blocks N SLBA COUNT, ?fetched C, ?queues C, ?registers C, ?register C OFF,
+?window C ADDR LEN, ?help [WORD], ?line TEXT.
+Exit status: 0 ended by SIGTERM or SIGINT; 1 the configuration or the keys are refused, or there is no such line; 2 a
+file, a socket or the system failed; 3 bad command line. On such a signal it sends the answers that are due, syncs its
+files and closes its connections; a second one ends it at once.
 ";
 
 /// The words of a command line.
 pub struct Options {
     pub config: PathBuf,
     pub image: Option<PathBuf>,
-    pub listen: SocketAddr,
+    /// Whether locks that others hold are waited for.
+    pub waits: bool,
+    /// Whether a script replaces files that are there.
+    pub replaces: bool,
+    /// Where it listens.
+    pub listen: Vec<SocketAddr>,
     pub settings: Settings,
     pub state: Option<PathBuf>,
     pub script: Option<PathBuf>,
+    pub keys: Option<PathBuf>,
+    /// The hash and the DH group of authentication, if they are given.
+    pub choice: Option<Choice>,
     pub control: Option<PathBuf>,
 }
 
@@ -48,23 +79,37 @@ impl Options {
     pub fn read(words: impl Iterator<Item = OsString>) -> Result<Options, String> {
         let settings = Settings {
             name: "nqn.2024-01.example:suvmileh".to_owned(),
-            allowed: vec![],
+            admission: Admission::default(),
             advertised: None,
+            is_read_only: false,
             traces: false,
+            log: Form::Text,
         };
-        let listen = SocketAddr::from((Ipv4Addr::LOCALHOST, 4420));
-        let config = PathBuf::new();
-        let mut options = Options { config, image: None, listen, settings, state: None, script: None, control: None };
+        let (config, listen) = (PathBuf::new(), Vec::new());
+        let (image, waits, replaces, state, script, control) = (None, false, false, None, None, None);
+        let (keys, choice) = (None, None);
+        let mut options =
+            Options { config, image, waits, replaces, listen, settings, state, script, keys, choice, control };
         let (mut words, mut configs) = (words, Vec::new());
         while let Some(word) = words.next() {
             match word.to_str() {
                 Some("--trace") => options.settings.traces = true,
+                Some("--wait") => options.waits = true,
+                Some("--trust-network") => options.settings.admission.trusts_network = true,
+                Some("--read-only") => options.settings.is_read_only = true,
+                Some("--force") => options.replaces = true,
                 Some(option) if option.starts_with('-') => {
                     let value = words.next().ok_or_else(|| format!("{option} is not an option, or lacks its value"))?;
                     options.take(option, value)?;
                 }
                 _ => configs.push(PathBuf::from(word)),
             }
+        }
+        if options.listen.is_empty() {
+            options.listen.push((Ipv4Addr::LOCALHOST, 4420).into());
+        }
+        if options.choice.is_some() && options.keys.is_none() {
+            return Err("--dhchap needs --keys".to_owned());
         }
         match configs.pop() {
             Some(config) if configs.is_empty() => Ok(Options { config, ..options }),
@@ -80,34 +125,53 @@ impl Options {
             "--state" => self.state = Some(value.into()),
             "--script" => self.script = Some(value.into()),
             "--control" => self.control = Some(value.into()),
-            "--listen" => self.listen = text.parse().map_err(|_| wrong())?,
+            "--listen" => self.listen.push(text.parse().map_err(|_| wrong())?),
             "--advertise" => self.settings.advertised = Some(text.parse().map_err(|_| wrong())?),
-            "--name" => self.settings.name = name(text).ok_or_else(wrong)?,
-            "--allow" => self.settings.allowed.push(allowed(text).ok_or_else(wrong)?),
+            "--log" => self.settings.log = Form::of(text).ok_or_else(wrong)?,
+            "--name" if is_name(text) => self.settings.name = text.to_owned(),
+            "--name" => return Err(wrong()),
+            "--allow" => self.settings.admission.allowed.push(allowed(text).ok_or_else(wrong)?),
+            "--keys" => {
+                self.settings.admission.has_keys = true;
+                self.keys = Some(value.into());
+            }
+            "--dhchap" => self.choice = Some(choice(text).ok_or_else(wrong)?),
             _ => return Err(format!("{option} is not an option")),
         }
         Ok(())
     }
 }
 
-/// A name that a subsystem may have.
-fn name(text: &str) -> Option<String> {
-    let fits = text.starts_with("nqn.") && text.len() <= 223 && text.bytes().all(|byte| byte.is_ascii_graphic());
-    if fits {
-        Some(text.to_owned())
-    } else {
-        None
-    }
+/// Whether a text is a name that a subsystem or a host may have.
+pub fn is_name(text: &str) -> bool {
+    text.starts_with("nqn.") && text.len() <= 223 && text.bytes().all(|byte| byte.is_ascii_graphic())
+}
+
+/// HASH,GROUP.
+fn choice(text: &str) -> Option<Choice> {
+    let (hash, group) = text.split_once(',')?;
+    let (_, hash) = Hash::ALL.into_iter().find(|(name, _)| *name == hash)?;
+    let (_, group) = Group::ALL.into_iter().find(|(name, _)| *name == group)?;
+    Some(Choice { hash, group })
 }
 
 /// HOSTID=ADDRESS.
 fn allowed(text: &str) -> Option<([u8; 16], IpAddr)> {
     let (host, address) = text.split_once('=')?;
-    let digits: String = host.split('-').collect();
+    Some((host_id(host)?, address.parse().ok()?))
+}
+
+/// The bytes of a HOSTID that is written as a UUID, with its hyphens or without.
+pub fn host_id(text: &str) -> Option<[u8; 16]> {
+    let digits: String = text.split('-').collect();
     if digits.len() != 32 {
         return None;
     }
-    Some((number(&format!("0x{digits}"))?.to_be_bytes(), address.parse().ok()?))
+    if digits.bytes().all(|byte| byte.is_ascii_hexdigit()) {
+        u128::from_str_radix(&digits, 16).ok().map(u128::to_be_bytes)
+    } else {
+        None
+    }
 }
 
 #[cfg(test)]
@@ -122,9 +186,26 @@ mod tests {
     fn words() {
         let options =
             read("--listen [::1]:1 c --allow a1000000-0000-0000-0000-000000000000=10.0.0.1 --image i").ok().unwrap();
-        assert_eq!(options.settings.allowed[0].0[..2], [0xa1, 0]);
+        assert_eq!(options.settings.admission.allowed[0].0[..2], [0xa1, 0]);
+        assert_eq!(options.listen, ["[::1]:1".parse().unwrap()]);
         assert_eq!((options.config, options.image), ("c".into(), Some("i".into())));
-        for wrong in ["", "a b", "c --listen x", "c --image", "c --nothing 1", "c --name x", "c --allow a1=1.2.3.4"] {
+        assert_eq!(read("c").ok().unwrap().listen, ["127.0.0.1:4420".parse().unwrap()]);
+        let choice = Choice { hash: Hash::Sha512, group: Group::Null };
+        assert_eq!(read("c --keys k --dhchap sha512,null").ok().unwrap().choice, Some(choice));
+        for wrong in [
+            "",
+            "a b",
+            "c --listen x",
+            "c --image",
+            "c --nothing 1",
+            "c --name x",
+            "c --allow a1=1.2.3.4",
+            "c --log x",
+            "c --keys k --dhchap sha256",
+            "c --keys k --dhchap sha1,null",
+            "c --dhchap sha256,null",
+            "c --keys",
+        ] {
             assert!(read(wrong).is_err(), "{wrong}");
         }
     }

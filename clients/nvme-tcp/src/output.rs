@@ -33,6 +33,13 @@ impl Output {
         self.room(part.len()).copy_from_slice(part);
     }
 
+    /// Puts bytes after the others, no more than `most`, by what says how many it has put. If that fails, there are none.
+    pub fn fill<E>(&mut self, most: usize, put: impl FnOnce(&mut [u8]) -> Result<usize, E>) -> Result<(), E> {
+        let put = put(self.room(most));
+        self.end -= most - *put.as_ref().unwrap_or(&0);
+        put.map(|_| ())
+    }
+
     /// Room for so many bytes behind the others. It has bytes of before, and the caller writes all of it.
     pub fn room(&mut self, length: usize) -> &mut [u8] {
         if self.begin != 0 && self.end + length > self.bytes.len() {
@@ -67,5 +74,13 @@ mod tests {
         output.sent(output.len());
         output.put(&[1]);
         assert_eq!(output.waiting(), [1]);
+        for (most, wanted) in [(5, Ok(2)), (9, Err(7)), (3, Ok(3))] {
+            let put = |room: &mut [u8]| {
+                room.fill(most as u8);
+                wanted
+            };
+            assert_eq!(output.fill(most, put), wanted.map(|_| ()));
+        }
+        assert_eq!(output.waiting(), [1, 5, 5, 3, 3, 3]);
     }
 }

@@ -1,8 +1,7 @@
 //! The SGL of a command: where its data come from, or go.
 
 use crate::bytes::{u32_at, u64_at};
-use crate::controller::ENTRY;
-use crate::fabrics;
+use crate::nvme::{ENTRY, FABRICS};
 use crate::status::{Status, INVALID_FIELD, SGL_LENGTH, SGL_OFFSET, SGL_TYPE};
 use crate::window::MOST_DATA;
 use std::ops::Range;
@@ -31,7 +30,7 @@ impl Pointer {
             return Err(INVALID_FIELD);
         }
         let length = u32_at(entry, 32) as usize;
-        let opcode = if entry[0] == fabrics::OPCODE { entry[4] } else { entry[0] };
+        let opcode = if entry[0] == FABRICS { entry[4] } else { entry[0] };
         match (opcode & 3, entry[39]) {
             (0 | 3, _) => Ok(Pointer::FromController(0)),
             _ if length == 0 => Ok(Pointer::FromController(0)),

@@ -1,39 +1,56 @@
-//! A new subsystem gets what persists of the last one: the commands of the journal are carried out again, and then
-//! power is lost. So its state is that of one run of the subsystem, in which each restart is a power cycle.
+//! A new subsystem gets what persists of the last one: the commands of the journal are carried out again, and power is
+//! lost at each start. So its state is that of one run of the subsystem, in which each restart is a power cycle. That of
+//! a read-only image is write protected before, by commands too, and those of the journal on write protection are left
+//! out.
 
+use crate::bytes::put;
 use crate::controller::{Data, ENABLE};
 use crate::fault::Outcome;
-use crate::journal::Record;
+use crate::features::PROTECTED;
+use crate::nvme::{ENTRY, MOST_ENTRIES, NAMESPACE_ATTACHMENT, SET_FEATURES, WRITE_PROTECTION};
+use crate::record::Event;
 use crate::status::SUCCESS;
-use crate::target::{Target, NAMESPACE_ATTACHMENT};
-use crate::window::MOST_ENTRIES;
+use crate::target::Target;
+use crate::window::PAGE;
 
 /// CC of a controller that carries out commands of the journal: entries of 64 and of 16 bytes.
 const CONFIGURATION: u32 = 4 << 20 | 6 << 16 | ENABLE;
 /// The I/O queue of these commands.
 const QUEUE: u16 = 1;
+/// Namespace Attachment: SEL.
+const ATTACH: u32 = 0;
+const DETACH: u32 = 1;
 
 impl Target<'_> {
-    /// Carries out the records of a journal; the number of the first that does not succeed now, if one does not.
-    pub fn restore(&mut self, records: &[Record]) -> Outcome<Option<usize>> {
-        for (number, record) in records.iter().enumerate() {
-            if !self.restore_one(record)? {
+    /// Carries out the events of a journal; the number of the first that does not succeed now, if one does not.
+    pub fn restore(&mut self, events: &[Event]) -> Outcome<Option<usize>> {
+        for (number, event) in events.iter().enumerate() {
+            if !self.restore_one(event)? {
                 return Ok(Some(number));
             }
         }
         Ok(None)
     }
 
-    fn restore_one(&mut self, record: &Record) -> Outcome<bool> {
-        let (cntlid, qid, entry, data) = match record {
-            Record::Command { cntlid, qid, entry, data } => (*cntlid, *qid, entry, data),
-            Record::Cycle => {
+    fn restore_one(&mut self, event: &Event) -> Outcome<bool> {
+        let (cntlid, qid, entry, data) = match event {
+            Event::Command { cntlid, qid, entry, data } => (*cntlid, *qid, entry, data),
+            Event::Cycle | Event::Start => {
                 self.controllers.iter_mut().for_each(|it| it.forget());
                 self.machine.power_cycle();
                 return Ok(true);
             }
         };
-        let controller = match self.controllers.get_mut(usize::from(cntlid).wrapping_sub(1)) {
+        let is_on_protection = qid == 0 && (entry[0], entry[40]) == (SET_FEATURES, WRITE_PROTECTION);
+        if self.settings.is_read_only && is_on_protection {
+            return Ok(true);
+        }
+        self.succeeds(usize::from(cntlid).wrapping_sub(1), qid, entry, data)
+    }
+
+    /// Carries out a command of a controller, if it is there; whether it has succeeded.
+    fn succeeds(&mut self, index: usize, qid: u16, entry: &[u8; ENTRY], data: &[u8]) -> Outcome<bool> {
+        let controller = match self.controllers.get_mut(index) {
             Some(controller) => controller,
             None => return Ok(false),
         };
@@ -45,9 +62,44 @@ impl Target<'_> {
             controller.create_queues(&mut self.machine, queue, MOST_ENTRIES)?;
         }
         let completed = controller.run(&mut self.machine, queue, entry, Data::ToController(data))?;
-        if qid == 0 && entry[0] == NAMESPACE_ATTACHMENT {
-            self.follow_attachments();
-        }
         Ok(completed.status == SUCCESS)
     }
+
+    /// Write protects all namespaces; whether it could. Set Features wants a controller that is attached: a namespace
+    /// without one has the first for so long.
+    pub fn protect(&mut self) -> Outcome<bool> {
+        let nsids: Vec<u32> = self.configuration.config.namespaces.iter().map(|it| it.nsid).collect();
+        let mut is_done = true;
+        for nsid in nsids {
+            let machine = &mut self.machine;
+            let attached = self.controllers.iter().position(|it| machine.is_attached(it.cntlid, nsid));
+            let index = attached.unwrap_or(0);
+            if attached.is_none() {
+                is_done &= self.attach(index, nsid, ATTACH)?;
+            }
+            let features = entry_of(SET_FEATURES, nsid, WRITE_PROTECTION.into(), PROTECTED);
+            is_done &= self.succeeds(index, 0, &features, &[])?;
+            if attached.is_none() {
+                is_done &= self.attach(index, nsid, DETACH)?;
+            }
+        }
+        Ok(is_done)
+    }
+
+    /// Attaches a namespace to a controller, or detaches it; whether it could.
+    fn attach(&mut self, index: usize, nsid: u32, select: u32) -> Outcome<bool> {
+        let mut list = vec![0; PAGE as usize];
+        put(&mut list, 0, &1u16.to_le_bytes());
+        put(&mut list, 2, &self.controllers[index].cntlid.to_le_bytes());
+        self.succeeds(index, 0, &entry_of(NAMESPACE_ATTACHMENT, nsid, select, 0), &list)
+    }
+}
+
+fn entry_of(opcode: u8, nsid: u32, dw10: u32, dw11: u32) -> [u8; ENTRY] {
+    let mut entry = [0; ENTRY];
+    entry[0] = opcode;
+    put(&mut entry, 4, &nsid.to_le_bytes());
+    put(&mut entry, 40, &dw10.to_le_bytes());
+    put(&mut entry, 44, &dw11.to_le_bytes());
+    entry
 }

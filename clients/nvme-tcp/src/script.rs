@@ -2,16 +2,17 @@
 //! thread notes the events, and those that write the files make lines of them.
 
 use crate::behind::{Behind, Piece};
-use crate::bytes::{digits_of, put_hex};
+use crate::bytes::put_hex;
 use crate::configuration::Configuration;
-use crate::controller::ENTRY;
 use crate::fault::{Fault, Outcome};
 use crate::kept::Kept;
+use crate::nvme::ENTRY;
 use crate::output::Output;
-use nvmesim::{Executed, Fetched};
+use nvmesim::{answer_line, event_line, Answered, Executed, Fetched, LineError};
+use std::collections::hash_map::{Entry, HashMap};
+use std::fs::File;
+use std::hash::{BuildHasherDefault, Hasher};
 use std::io;
-use std::mem;
-use std::path::Path;
 
 /// Lines of so many bytes are a piece, which goes to the file before the next are there.
 const PIECE: usize = 256 << 10;
@@ -24,7 +25,7 @@ const LINE: usize = 20;
 const QUIET: u32 = 10;
 
 /// An event, and what it gave.
-#[derive(Clone, Copy)]
+#[derive(Clone, Copy, PartialEq, Eq, Hash)]
 enum Event {
     /// So many bytes were stored from an address on.
     Stored {
@@ -50,102 +51,107 @@ enum Event {
     PowerCycle,
 }
 
-/// The longest line has fewer bytes, without the digits of those that were stored.
+/// A line of a script with one stored byte, and one of a transcript, have no more bytes.
 const MOST_OF_LINE: usize = 64;
-
-/// A line that is put together.
-struct Line {
-    bytes: [u8; MOST_OF_LINE],
-    length: usize,
-}
-
-impl Line {
-    #[inline]
-    fn new(text: &str) -> Line {
-        let mut line = Line { bytes: [0; MOST_OF_LINE], length: 0 };
-        line.text(text);
-        line
-    }
-
-    #[inline]
-    fn put(&mut self, part: &[u8]) -> &mut Line {
-        self.bytes[self.length..self.length + part.len()].copy_from_slice(part);
-        self.length += part.len();
-        self
-    }
-
-    #[inline]
-    fn text(&mut self, text: &str) -> &mut Line {
-        self.put(text.as_bytes())
-    }
-
-    /// A number in decimal digits.
-    #[inline]
-    fn number(&mut self, number: u64) -> &mut Line {
-        if number < 10 {
-            self.put(&[b'0' + number as u8])
-        } else {
-            self.put(digits_of(number, &mut [0; 20]))
-        }
-    }
-
-    fn bytes(&self) -> &[u8] {
-        &self.bytes[..self.length]
-    }
-}
+/// How many events are known at most.
+const MOST_KNOWN: usize = 2048;
 
 impl Event {
-    /// Puts its line behind others, and behind others what it gave. `stored` begins with the bytes that it has stored, and
-    /// then no more.
-    fn put(&self, stored: &mut &[u8], [lines, gave]: &mut [Output; 2]) {
-        match *self {
-            Event::Stored { cntlid, address, count } => {
-                let (bytes, others) = mem::take(stored).split_at(count);
-                *stored = others;
-                lines.put(Line::new("store ").number(cntlid.into()).text(" ").number(address).text(" hex:").bytes());
-                put_hex(lines.room(2 * count), bytes);
-                lines.put(b"\n");
-                gave.put(Line::new("stored ").number(cntlid.into()).text("\n").bytes());
+    /// It, with the bytes that it has stored, and what it gave.
+    fn said(self, bytes: &[u8]) -> (nvmesim::Event<'_>, Answered) {
+        match self {
+            Event::Stored { cntlid, address, .. } => {
+                (nvmesim::Event::Store { cntlid, address, bytes }, Answered::Stored)
             }
             Event::Wrote32 { cntlid, offset, value } => {
-                let mut line = Line::new("write32 ");
-                line.number(cntlid.into()).text(" ").number(offset).text(" ").number(value.into()).text("\n");
-                lines.put(line.bytes());
-                gave.put(Line::new("wrote32 ").number(cntlid.into()).text("\n").bytes());
+                (nvmesim::Event::Write32 { cntlid, offset, value }, Answered::Wrote32)
             }
             Event::Fetched { cntlid, qid, fetched } => {
-                let mut line = Line::new("fetch ");
-                line.number(cntlid.into()).text(" ").number(qid.into());
-                gave.put(line.bytes());
-                gave.put(if fetched == Fetched::Took { b" took\n" } else { b" idle\n" });
-                lines.put(line.text("\n").bytes());
+                (nvmesim::Event::Fetch { cntlid, qid }, Answered::Fetched(fetched))
             }
             Event::Executed { cntlid, i, executed } => {
-                let mut line = Line::new("execute ");
-                line.number(cntlid.into()).text(" ").number(i as u64);
-                gave.put(line.bytes());
-                put_executed(gave, executed);
-                lines.put(line.text("\n").bytes());
+                (nvmesim::Event::Execute { cntlid, i }, Answered::Executed(executed))
             }
-            Event::PowerCycle => [lines, gave].into_iter().for_each(|out| out.put(b"powercycle\n")),
+            Event::PowerCycle => (nvmesim::Event::PowerCycle, Answered::PowerCycled),
+        }
+    }
+
+    /// It with another number of bytes, if it has stored some.
+    fn storing(self, count: usize) -> Event {
+        match self {
+            Event::Stored { cntlid, address, .. } => Event::Stored { cntlid, address, count },
+            event => event,
         }
     }
 }
 
-/// Puts the end of the line of what an execution gave behind its beginning.
-fn put_executed(out: &mut Output, executed: Executed) {
-    match executed {
-        Executed::Posted(it) => {
-            let mut line = Line::new(" posted ");
-            // A Status Code Type has one digit.
-            line.number(it.sct.into()).text(":");
-            let mut sc = [0; 2];
-            put_hex(&mut sc, &[it.sc]);
-            out.put(line.put(&sc).text(" ").number(it.denied_by.unwrap_or(0).into()).text("\n").bytes());
-        }
-        Executed::CqFull => out.put(b" full\n"),
-        Executed::NoSuch => out.put(b" none\n"),
+/// The lines of events, a store with one byte, and what they give. Events come again and again, and to ask the library for
+/// each would take longer than the rest.
+#[derive(Default)]
+struct Known(HashMap<Event, [Output; 2], BuildHasherDefault<Quick>>);
+
+/// A hash of few numbers. At worst all that are known have the same, and there are not many.
+#[derive(Default)]
+struct Quick(u64);
+
+impl Hasher for Quick {
+    fn write(&mut self, bytes: &[u8]) {
+        bytes.iter().for_each(|byte| self.write_u64((*byte).into()));
     }
+
+    fn write_u8(&mut self, number: u8) {
+        self.write_u64(number.into());
+    }
+
+    fn write_u16(&mut self, number: u16) {
+        self.write_u64(number.into());
+    }
+
+    fn write_u32(&mut self, number: u32) {
+        self.write_u64(number.into());
+    }
+
+    fn write_usize(&mut self, number: usize) {
+        self.write_u64(number as u64);
+    }
+
+    fn write_u64(&mut self, number: u64) {
+        self.0 = (self.0.rotate_left(5) ^ number).wrapping_mul(0x517c_c1b7_2722_0a95);
+    }
+
+    fn finish(&self) -> u64 {
+        self.0
+    }
+}
+
+impl Known {
+    /// The texts of an event.
+    fn of(&mut self, event: Event) -> Result<&[Output; 2], LineError> {
+        if self.0.len() >= MOST_KNOWN && !self.0.contains_key(&event) {
+            self.0.clear();
+        }
+        match self.0.entry(event) {
+            Entry::Occupied(known) => Ok(known.into_mut()),
+            Entry::Vacant(place) => Ok(place.insert(texts_of(event)?)),
+        }
+    }
+}
+
+/// The texts of an event that has stored no more than one byte, by the library.
+fn texts_of(event: Event) -> Result<[Output; 2], LineError> {
+    let (event, answered) = event.said(&[0]);
+    let mut texts = <[Output; 2]>::default();
+    texts[0].fill(MOST_OF_LINE, |room| event_line(&event, room))?;
+    texts[1].fill(MOST_OF_LINE, |room| answer_line(&event, &answered, room))?;
+    Ok(texts)
+}
+
+/// Puts the line of a store: that of one byte, with the digits of all in the place of that one's. The library makes digits
+/// too, and takes ten times as long for them.
+fn put_store(lines: &mut Output, line: &[u8], bytes: &[u8]) {
+    lines.put(&line[..line.len() - "00\n".len()]);
+    put_hex(lines.room(2 * bytes.len()), bytes);
+    lines.put(b"\n");
 }
 
 /// Events, and the bytes that were stored by them.
@@ -155,29 +161,63 @@ struct Events {
     stored: Vec<u8>,
 }
 
+/// The lines of events, and what they gave.
+#[derive(Default)]
+struct Lines {
+    texts: [Output; 2],
+    known: Known,
+    /// Why there is no line of an event, if there is none.
+    fault: Option<LineError>,
+}
+
+impl Lines {
+    fn lines(&self) -> io::Result<&[u8]> {
+        match self.fault {
+            None => Ok(self.texts[0].waiting()),
+            Some(fault) => Err(io::Error::new(io::ErrorKind::InvalidData, fault)),
+        }
+    }
+
+    fn gave(&self) -> &[u8] {
+        self.texts[1].waiting()
+    }
+}
+
 impl Piece for Events {
     type Files = Kept;
-    /// The lines, and what they gave.
-    type Made = [Output; 2];
+    type Made = Lines;
 
     /// How many bytes their lines have, about.
     fn size(&self) -> usize {
         2 * self.stored.len() + LINE * self.list.len()
     }
 
-    fn make(&self, made: &mut [Output; 2]) {
-        made.iter_mut().for_each(|out| out.sent(out.len()));
+    fn make(&self, made: &mut Lines) {
+        let Lines { texts: [lines, gave], known, fault } = made;
+        [&mut *lines, &mut *gave].into_iter().for_each(|out| out.sent(out.len()));
         let mut stored = &self.stored[..];
-        self.list.iter().for_each(|event| event.put(&mut stored, made));
+        let put = self.list.iter().try_for_each(|event| {
+            let [line, given] = known.of(event.storing(1))?;
+            if let Event::Stored { count, .. } = event {
+                let (bytes, others) = stored.split_at(*count);
+                put_store(lines, line.waiting(), bytes);
+                stored = others;
+            } else {
+                lines.put(line.waiting());
+            }
+            gave.put(given.waiting());
+            Ok(())
+        });
+        *fault = put.err();
     }
 
-    fn write_first(&self, [lines, _]: &[Output; 2], kept: &mut Kept) -> io::Result<()> {
-        kept.write_first(lines.waiting())
+    fn write_first(&self, made: &Lines, kept: &mut Kept) -> io::Result<()> {
+        kept.write_first(made.lines()?)
     }
 
     /// Where there are none, the files give back the room that is left over.
-    fn write(&mut self, [lines, gave]: &[Output; 2], next: Option<&[Output; 2]>, kept: &mut Kept) -> io::Result<()> {
-        kept.write(lines.waiting(), gave.waiting(), next.map(|[lines, _]| lines.waiting()))?;
+    fn write(&mut self, made: &Lines, next: Option<&Lines>, kept: &mut Kept) -> io::Result<()> {
+        kept.write(made.lines()?, made.gave(), next.map(Lines::lines).transpose()?)?;
         if self.list.is_empty() {
             kept.give_back();
         }
@@ -199,9 +239,9 @@ pub struct Script {
 }
 
 impl Script {
-    /// Begins a script, with the lines of its configuration.
-    pub fn new(path: &Path, configuration: &Configuration) -> io::Result<Script> {
-        let kept = Kept::create(path, format!("{}start\n", configuration.lines()).as_bytes())?;
+    /// Begins a script, with the lines of its configuration, and its transcript.
+    pub fn new(files: [File; 2], configuration: &Configuration) -> io::Result<Script> {
+        let kept = Kept::new(files, format!("{}start\n", configuration.lines).as_bytes())?;
         Ok(Script { events: Events::default(), files: Behind::new("script", 2, kept)?, is_alone: true, quiet: None })
     }
 
@@ -244,6 +284,13 @@ impl Script {
         Ok(self.files.begun())
     }
 
+    /// Has the disk hold all lines, and what they gave.
+    pub fn sync(&mut self) -> Outcome<()> {
+        let begun = self.begin(true)?;
+        self.wait_for(begun)?;
+        self.files.with_files(Kept::sync).map_err(Fault::Script)
+    }
+
     /// Has the files give back room where nothing was written for a while: this is called again and again.
     pub fn rest(&mut self) -> Outcome<()> {
         self.quiet = self.quiet.map(|quiet| quiet + 1);
@@ -275,32 +322,54 @@ mod tests {
     use super::*;
     use nvmesim::Completion;
 
+    /// The lines of events, and what they gave, by the library alone.
+    fn wanted(list: &[Event], mut stored: &[u8]) -> [String; 2] {
+        let (mut texts, mut room) = (<[String; 2]>::default(), [0; 4096]);
+        for it in list {
+            let count = if let Event::Stored { count, .. } = it { *count } else { 0 };
+            let (event, answered) = it.said(&stored[..count]);
+            stored = &stored[count..];
+            let length = event_line(&event, &mut room).unwrap();
+            texts[0] += std::str::from_utf8(&room[..length]).unwrap();
+            let length = answer_line(&event, &answered, &mut room).unwrap();
+            texts[1] += std::str::from_utf8(&room[..length]).unwrap();
+        }
+        texts
+    }
+
     #[test]
     fn events_have_their_lines() {
-        let denied = Completion { sct: 1, sc: 0x8f, dw0: 0, denied_by: Some(12) };
-        let (stored, most) = (vec![0, 0xaf, 7], u16::MAX);
-        let list = vec![
+        let posted = |sc, rule| Executed::Posted(Completion { sct: 1, sc, dw0: 0, denied_by: rule });
+        let (stored, most) = ((0..=255).cycle().take(1303).collect::<Vec<u8>>(), u16::MAX);
+        let mut list = vec![
             Event::Stored { cntlid: 1, address: u64::MAX, count: 2 },
             Event::Stored { cntlid: most, address: 4096, count: 1 },
+            Event::Stored { cntlid: 1, address: 0, count: 1300 },
             Event::Wrote32 { cntlid: most, offset: u64::MAX, value: u32::MAX },
+            Event::Wrote32 { cntlid: most, offset: 7, value: 9 },
             Event::Fetched { cntlid: 2, qid: most, fetched: Fetched::Took },
             Event::Fetched { cntlid: 10, qid: 0, fetched: Fetched::Idle },
             Event::Executed { cntlid: 1, i: 9, executed: Executed::CqFull },
             Event::Executed { cntlid: 1, i: 10, executed: Executed::NoSuch },
-            Event::Executed { cntlid: most, i: usize::MAX, executed: Executed::Posted(denied) },
+            Event::Executed { cntlid: most, i: 65535, executed: posted(0x8f, Some(12)) },
             Event::PowerCycle,
         ];
-        let mut made = <[Output; 2]>::default();
+        list.extend((0..99).map(|sc| Event::Executed { cntlid: 1, i: 0, executed: posted(sc, None) }));
+        list.extend((0..2 * MOST_KNOWN as u64).map(|offset| Event::Wrote32 { cntlid: 1, offset, value: 1 }));
+        let mut made = Lines::default();
         for _ in 0..2 {
             Events { list: list.clone(), stored: stored.clone() }.make(&mut made);
+            let [lines, gave] = wanted(&list, &stored);
+            assert_eq!((made.lines().unwrap(), made.gave()), (lines.as_bytes(), gave.as_bytes()));
         }
-        let [lines, gave] = made.map(|out| String::from_utf8(out.waiting().to_vec()).unwrap());
-        let each = "store 1 18446744073709551615 hex:00af\nstore 65535 4096 hex:07\n\
-                    write32 65535 18446744073709551615 4294967295\nfetch 2 65535\nfetch 10 0\n\
-                    execute 1 9\nexecute 1 10\nexecute 65535 18446744073709551615\npowercycle\n";
-        assert_eq!(lines, each);
-        let each = "stored 1\nstored 65535\nwrote32 65535\nfetch 2 65535 took\nfetch 10 0 idle\nexecute 1 9 full\n\
-                    execute 1 10 none\nexecute 65535 18446744073709551615 posted 1:8f 12\npowercycle\n";
-        assert_eq!(gave, each);
+        assert!(made.known.0.len() <= MOST_KNOWN);
+    }
+
+    #[test]
+    fn an_event_without_a_line_is_a_fault() {
+        let mut made = Lines::default();
+        let list = vec![Event::Executed { cntlid: 1, i: 65536, executed: Executed::NoSuch }];
+        Events { list, stored: Vec::new() }.make(&mut made);
+        assert!(made.lines().is_err());
     }
 }

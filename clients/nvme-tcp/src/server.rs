@@ -3,23 +3,28 @@
 use crate::association::{HostQueue, Session};
 use crate::connection::{Connection, ROOM};
 use crate::control::Console;
+use crate::counters::Closing;
 use crate::fault::{Fault, Outcome};
 use crate::input::Rooms;
-use crate::system::{end_when_lost, Interest, Poll, Ready};
+use crate::listening::{plain, Listener};
+use crate::log::Topic;
+use crate::system::{end_when_lost, is_asked_to_end, is_asked_to_read_again, Interest, Poll, Ready};
 use crate::target::{Effect, Handed, Target};
+use crate::worker::Finished;
+use std::cmp::Reverse;
 use std::collections::{HashMap, VecDeque};
 use std::io;
-use std::net::TcpListener;
+use std::net::{IpAddr, TcpListener};
 use std::os::unix::net::UnixListener;
 use std::time::{Duration, Instant};
 
-/// The names of the listeners. Connections have the numbers from the third on.
-const HOSTS: u64 = 0;
-const CONTROL: u64 = 1;
-const FIRST: u64 = 2;
+/// The name of the listener for lines of control. Those for hosts have the numbers from 1 on, and then connections.
+const CONTROL: u64 = 0;
+/// That of the thread which computes for proofs.
+const WORK: u64 = u64::MAX;
 /// How often it is looked what has taken too long.
 const LOOK: Duration = Duration::from_millis(100);
-/// How many connections there are at most that are no queue of a controller. The oldest makes room for a new one.
+/// How many connections there are at most that are no queue of a controller. One makes room for a new one.
 const MOST_GUESTS: usize = 48;
 const MOST_CONSOLES: usize = 8;
 
@@ -51,8 +56,8 @@ impl Served {
 pub struct Server<'a> {
     target: Target<'a>,
     poll: Poll,
-    hosts: TcpListener,
-    control: Option<UnixListener>,
+    hosts: Vec<Listener<TcpListener>>,
+    control: Option<Listener<UnixListener>>,
     connections: HashMap<u64, Served>,
     /// Where they receive.
     rooms: Rooms,
@@ -62,22 +67,28 @@ pub struct Server<'a> {
     is_alone: bool,
     /// The connection that could be served last, if there was only one.
     last: Option<u64>,
-    consoles: HashMap<u64, Console>,
+    consoles: HashMap<u64, Asking>,
     next: u64,
 }
 
+/// Someone who asks lines of control, and what the poll is asked for.
+struct Asking {
+    console: Console,
+    interest: Interest,
+}
+
 impl<'a> Server<'a> {
-    /// A target that hosts reach at one listener, and lines of control at the other.
-    pub fn new(target: Target<'a>, hosts: TcpListener, control: Option<UnixListener>) -> io::Result<Self> {
+    /// A target that hosts reach at some listeners, and lines of control at another. None of them blocks.
+    pub fn new(target: Target<'a>, hosts: Vec<TcpListener>, control: Option<UnixListener>) -> io::Result<Self> {
         let poll = Poll::new()?;
-        hosts.set_nonblocking(true)?;
-        poll.add(&hosts, HOSTS, TO_READ)?;
-        if let Some(control) = &control {
-            poll.add(control, CONTROL, TO_READ)?;
-        }
+        let hosts =
+            (1..).zip(hosts).map(|(name, it)| Listener::new(it, name, &poll)).collect::<io::Result<Vec<_>>>()?;
+        let control = control.map(|it| Listener::new(it, CONTROL, &poll)).transpose()?;
+        target.prover.as_ref().map_or(Ok(()), |it| poll.add(it.bell(), WORK, TO_READ))?;
         Ok(Server {
             target,
             poll,
+            next: 1 + hosts.len() as u64,
             hosts,
             control,
             connections: HashMap::new(),
@@ -86,19 +97,41 @@ impl<'a> Server<'a> {
             is_alone: true,
             last: None,
             consoles: HashMap::new(),
-            next: FIRST,
         })
     }
 
-    /// Serves until the target ends.
-    pub fn run(&mut self) -> Fault {
+    /// Serves until the target is asked to end, and ends in order then. Only a fault ends it otherwise.
+    pub fn run(mut self) -> Outcome<()> {
         let mut ready = Vec::new();
         let mut look = Instant::now() + LOOK;
-        loop {
-            if let Err(fault) = self.turn(&mut ready, &mut look) {
-                return fault;
+        while !is_asked_to_end() {
+            self.turn(&mut ready, &mut look)?;
+        }
+        self.target.log.put(Topic::Service, "ending", &[("reason", &"signal")]);
+        self.end_connections()?;
+        while !self.connections.is_empty() {
+            self.turn(&mut ready, &mut look)?;
+        }
+        self.target.sync()
+    }
+
+    /// Takes no more connections and no more commands. Those that are there get the answers that are due, and are closed.
+    fn end_connections(&mut self) -> Outcome<()> {
+        let poll = &self.poll;
+        self.hosts.drain(..).try_for_each(|it| it.close(poll)).map_err(Fault::System)?;
+        self.control.take().map_or(Ok(()), |it| it.close(poll)).map_err(Fault::System)?;
+        self.consoles.clear();
+        let names: Vec<u64> = self.connections.keys().copied().collect();
+        for name in names {
+            if let Some(served) = self.connections.get_mut(&name) {
+                served.connection.end();
+                served.connection.closing = Some(Closing::Shutdown);
+                if served.waits_for.is_none() {
+                    self.finish(name, false)?;
+                }
             }
         }
+        Ok(())
     }
 
     /// Serves all that can be served. Where that is nothing, and connections wait for script or image, it waits for the
@@ -106,13 +139,21 @@ impl<'a> Server<'a> {
     fn turn(&mut self, ready: &mut Vec<Ready>, look: &mut Instant) -> Outcome<()> {
         let patience = if self.waiting.is_empty() { LOOK } else { Duration::ZERO };
         self.poll.wait(patience.as_millis() as i32, ready).map_err(Fault::System)?;
+        let now = Instant::now();
+        let is_due = now >= *look;
+        // Nothing is served before, so that a target that was stopped notices first what has happened meanwhile.
+        self.target.check_files(is_due)?;
+        if is_due {
+            *look = now + LOOK;
+        }
         self.is_alone = self.is_only(ready);
         self.target.machine.serve_alone(self.is_alone);
         let mut is_idle = true;
         for it in ready.iter() {
             match it.name {
-                HOSTS => self.accept_hosts()?,
-                CONTROL => self.accept_console(),
+                CONTROL => self.accept_consoles()?,
+                WORK => self.take_work()?,
+                name if name <= self.hosts.len() as u64 => self.accept_hosts(name as usize - 1)?,
                 name if self.consoles.contains_key(&name) => self.serve_console(name)?,
                 name => is_idle &= !self.serve(name, *it)?,
             }
@@ -121,11 +162,14 @@ impl<'a> Server<'a> {
             self.awaited().map_or(Ok(()), |handed| self.target.wait_for(handed))?;
         }
         self.resume()?;
-        let now = Instant::now();
-        if now >= *look {
-            *look = now + LOOK;
+        if is_due {
+            if is_asked_to_read_again() {
+                self.target.read_keys_again()?;
+            }
             self.close_late(now)?;
+            self.resume_listeners(now)?;
             self.target.machine.rest_script()?;
+            self.target.log.rest(now);
         }
         Ok(())
     }
@@ -147,16 +191,23 @@ impl<'a> Server<'a> {
         self.last.is_some() && self.last == before
     }
 
-    fn accept_hosts(&mut self) -> Outcome<()> {
-        while let Ok((socket, peer)) = self.hosts.accept() {
+    fn resume_listeners(&mut self, now: Instant) -> Outcome<()> {
+        let poll = &self.poll;
+        self.hosts.iter_mut().try_for_each(|it| it.resume(poll, now))?;
+        self.control.as_mut().map_or(Ok(()), |it| it.resume(poll, now))
+    }
+
+    fn accept_hosts(&mut self, listener: usize) -> Outcome<()> {
+        while let Some((socket, peer)) = self.hosts[listener].next(&self.poll, TcpListener::accept)? {
             let name = self.next;
             self.next += 1;
-            let local = socket.local_addr();
+            let (peer, local) = (plain(peer), socket.local_addr().map(plain));
             let is_set = socket.set_nonblocking(true).and_then(|()| socket.set_nodelay(true));
             let is_set = is_set.and_then(|()| end_when_lost(&socket));
             if let (Ok(local), Ok(()), Ok(())) = (local, is_set, self.poll.add(&socket, name, TO_READ)) {
-                let queue = HostQueue::new(name, peer.ip(), local);
+                let queue = HostQueue::new(name, peer, local);
                 let connection = Connection::new(socket, queue);
+                self.target.counters.accepted += 1;
                 self.connections.insert(name, Served { connection, interest: TO_READ, waits_for: None });
                 self.make_room()?;
             }
@@ -164,15 +215,21 @@ impl<'a> Server<'a> {
         Ok(())
     }
 
-    /// Closes the oldest connection that is no queue of a controller, where there are too many.
+    /// Closes a connection that is no queue of a controller, if there are too many: the oldest of the address that has
+    /// the most of them, so that nobody drives out the hosts of other addresses.
     fn make_room(&mut self) -> Outcome<()> {
-        let is_guest = |it: &Connection| !matches!(it.queue.session, Session::Controller { .. });
-        let guests = self.connections.iter().filter(|(_, it)| is_guest(&it.connection)).map(|(name, _)| *name);
-        let (count, oldest) = guests.fold((0, u64::MAX), |(count, oldest), name| (count + 1, oldest.min(name)));
-        if count > MOST_GUESTS {
-            self.close(oldest)?;
+        let mut guests: HashMap<IpAddr, Vec<u64>> = HashMap::new();
+        for (name, Served { connection, .. }) in &self.connections {
+            if !matches!(connection.queue.session, Session::Controller { .. }) {
+                guests.entry(connection.queue.peer.ip()).or_default().push(*name);
+            }
         }
-        Ok(())
+        if guests.values().map(Vec::len).sum::<usize>() <= MOST_GUESTS {
+            return Ok(());
+        }
+        let oldest = |names: &Vec<u64>| names.iter().min().copied();
+        let most = guests.values().max_by_key(|names| (names.len(), Reverse(oldest(names))));
+        most.and_then(oldest).map_or(Ok(()), |name| self.close(name, Closing::Crowded))
     }
 
     /// Serves a connection, unless it waits for script or image; whether it did.
@@ -186,6 +243,17 @@ impl<'a> Server<'a> {
         }
         self.finish(name, false)?;
         Ok(true)
+    }
+
+    /// Has connections go on whose proofs have waited for work.
+    fn take_work(&mut self) -> Outcome<()> {
+        for Finished { connection, done } in self.target.take_finished() {
+            if let Some(served) = self.connections.get_mut(&connection) {
+                served.connection.finish_work(&mut self.target, done)?;
+                self.finish(connection, false)?;
+            }
+        }
+        Ok(())
     }
 
     /// Has connections say what they have to say for which the system has all that was to be handed over.
@@ -211,7 +279,7 @@ impl<'a> Server<'a> {
     fn finish(&mut self, name: u64, is_handed: bool) -> Outcome<()> {
         self.send(name, is_handed)?;
         if self.connections.get(&name).map_or(false, |it| it.connection.is_closed) {
-            self.close(name)?;
+            self.close(name, Closing::ByHost)?;
         }
         self.apply_effects()
     }
@@ -243,11 +311,11 @@ impl<'a> Server<'a> {
         }
     }
 
-    /// Closes a connection: its queue ends.
-    fn close(&mut self, name: u64) -> Outcome<()> {
+    /// Closes a connection, for this reason unless it ends for another: its queue ends.
+    fn close(&mut self, name: u64, closing: Closing) -> Outcome<()> {
         if let Some(Served { connection, .. }) = self.connections.remove(&name) {
             let _ = self.poll.remove(&connection.socket);
-            self.target.lose(&connection.queue)?;
+            self.target.lose(&connection.queue, connection.closing.unwrap_or(closing))?;
         }
         Ok(())
     }
@@ -256,10 +324,10 @@ impl<'a> Server<'a> {
     fn apply_effects(&mut self) -> Outcome<()> {
         while let Some(effect) = self.target.effects.pop_front() {
             match effect {
-                Effect::Close(name) => self.close(name)?,
-                Effect::Answer(name, cid, answer) => {
+                Effect::Close(name) => self.close(name, Closing::Association)?,
+                Effect::Answer(name, entry, answer) => {
                     if let Some(served) = self.connections.get_mut(&name) {
-                        served.connection.answer(&mut self.target, cid, answer)?;
+                        served.connection.answer(&mut self.target, &entry, answer)?;
                         self.send(name, false)?;
                     }
                 }
@@ -273,26 +341,37 @@ impl<'a> Server<'a> {
         self.apply_effects()?;
         let late: Vec<u64> =
             self.connections.iter().filter(|(_, it)| it.connection.is_late(now)).map(|(name, _)| *name).collect();
-        late.into_iter().try_for_each(|name| self.close(name))
+        late.into_iter().try_for_each(|name| self.close(name, Closing::Late))?;
+        self.consoles.retain(|_, it| !it.console.is_late(now));
+        Ok(())
     }
 
-    fn accept_console(&mut self) {
-        while let Some(Ok((stream, _))) = self.control.as_ref().map(UnixListener::accept) {
+    fn accept_consoles(&mut self) -> Outcome<()> {
+        while let Some(control) = &mut self.control {
+            let (stream, _) = match control.next(&self.poll, UnixListener::accept)? {
+                Some(accepted) => accepted,
+                None => break,
+            };
             let name = self.next;
             self.next += 1;
-            // Whoever asks takes the answer at once, or none.
-            let is_set = stream.set_write_timeout(Some(LOOK)).and_then(|()| self.poll.add(&stream, name, TO_READ));
+            let is_set = stream.set_nonblocking(true).and_then(|()| self.poll.add(&stream, name, TO_READ));
             if is_set.is_ok() && self.consoles.len() < MOST_CONSOLES {
-                self.consoles.insert(name, Console::new(stream));
+                self.consoles.insert(name, Asking { console: Console::new(stream), interest: TO_READ });
             }
         }
+        Ok(())
     }
 
     fn serve_console(&mut self, name: u64) -> Outcome<()> {
-        let has_more = match self.consoles.get_mut(&name) {
-            Some(console) => console.serve(&mut self.target)?,
-            None => false,
-        };
+        let mut has_more = false;
+        if let Some(asking) = self.consoles.get_mut(&name) {
+            has_more = asking.console.serve(&mut self.target)?;
+            let wanted = asking.console.wants();
+            if has_more && wanted != asking.interest {
+                self.poll.change(&asking.console.stream, name, wanted).map_err(Fault::System)?;
+                asking.interest = wanted;
+            }
+        }
         if !has_more {
             self.consoles.remove(&name);
         }

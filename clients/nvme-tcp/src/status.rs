@@ -1,7 +1,9 @@
 //! The statuses of completions, and which of them say Do Not Retry.
 
+use std::fmt;
+
 /// A Status Code Type and a Status Code.
-#[derive(Clone, Copy, Debug, PartialEq, Eq)]
+#[derive(Clone, Copy, Debug, PartialEq, Eq, PartialOrd, Ord)]
 pub struct Status {
     pub sct: u8,
     pub sc: u8,
@@ -15,25 +17,52 @@ const fn specific(sc: u8) -> Status {
     Status { sct: 1, sc }
 }
 
+const fn media(sc: u8) -> Status {
+    Status { sct: 2, sc }
+}
+
+const fn path(sc: u8) -> Status {
+    Status { sct: 3, sc }
+}
+
 pub const SUCCESS: Status = generic(0x00);
 pub const INVALID_OPCODE: Status = generic(0x01);
 pub const INVALID_FIELD: Status = generic(0x02);
 pub const COMMAND_ID_CONFLICT: Status = generic(0x03);
+pub const DATA_TRANSFER: Status = generic(0x04);
 pub const INVALID_NAMESPACE: Status = generic(0x0b);
 pub const COMMAND_SEQUENCE: Status = generic(0x0c);
 pub const SGL_LENGTH: Status = generic(0x0f);
 pub const SGL_TYPE: Status = generic(0x11);
 pub const SGL_OFFSET: Status = generic(0x16);
+pub const ABORTED_BY_PREEMPTION: Status = generic(0x1b);
 pub const TRANSIENT_TRANSPORT: Status = generic(0x22);
+pub const OUT_OF_RANGE: Status = generic(0x80);
+pub const RESERVATION_CONFLICT: Status = generic(0x83);
 pub const INVALID_QUEUE: Status = specific(0x01);
 pub const INVALID_QUEUE_SIZE: Status = specific(0x02);
 pub const EVENT_LIMIT: Status = specific(0x05);
 pub const INVALID_LOG_PAGE: Status = specific(0x09);
+pub const FEATURE_NOT_SAVEABLE: Status = specific(0x0d);
+pub const FEATURE_NOT_CHANGEABLE: Status = specific(0x0e);
+pub const FEATURE_OF_NO_NAMESPACE: Status = specific(0x0f);
 pub const INCOMPATIBLE_FORMAT: Status = specific(0x80);
 pub const CONTROLLER_BUSY: Status = specific(0x81);
 pub const CONNECT_PARAMETERS: Status = specific(0x82);
+pub const SIZE_LIMIT: Status = specific(0x83);
 pub const CONNECT_HOST: Status = specific(0x84);
 pub const INVALID_QUEUE_TYPE: Status = specific(0x85);
+pub const AUTHENTICATION_REQUIRED: Status = specific(0x91);
+pub const WRITE_FAULT: Status = media(0x80);
+pub const READ_ERROR: Status = media(0x81);
+pub const INACCESSIBLE: Status = path(0x02);
+
+impl fmt::Display for Status {
+    /// Its type in one hexadecimal digit, and its code in two.
+    fn fmt(&self, f: &mut fmt::Formatter<'_>) -> fmt::Result {
+        write!(f, "{:x}:{:02x}", self.sct, self.sc)
+    }
+}
 
 impl Status {
     /// The field of a completion queue entry, its phase tag 0.
@@ -46,11 +75,11 @@ impl Status {
         }
     }
 
-    /// Whether the same command may succeed later, without anything that its host has to do first. All others say Do
-    /// Not Retry: Linux repeats a command without it five times, and a write that a preemption has aborted would then
-    /// be carried out once its host has registered again.
+    /// Whether the same command may succeed later or by another path, without anything that its host has to do first.
+    /// All others say Do Not Retry: Linux repeats a command without it five times, and a write that a preemption has
+    /// aborted would then be carried out once its host has registered again.
     fn a_repeat_can_help(self) -> bool {
-        matches!(self, COMMAND_SEQUENCE | TRANSIENT_TRANSPORT | CONTROLLER_BUSY)
+        matches!(self, COMMAND_SEQUENCE | TRANSIENT_TRANSPORT | CONTROLLER_BUSY | INACCESSIBLE)
     }
 }
 
@@ -65,5 +94,6 @@ mod tests {
         assert_eq!(Status { sct: 2, sc: 0x85 }.field(), 0x850a);
         assert_eq!(TRANSIENT_TRANSPORT.field(), 0x0044);
         assert_eq!(CONTROLLER_BUSY.field(), 0x0302);
+        assert_eq!(INACCESSIBLE.field(), 0x0604);
     }
 }

@@ -1,13 +1,16 @@
-//! Calls of the system that the standard library has not: its poll, epoll(7), options of sockets, and room for files.
-//! One of the two files where something is unsafe. The other is that of the library's calls, clients/rust/src/raw.rs.
+//! Calls of the system that the standard library has not: its poll, epoll(7), options of sockets, room for files and
+//! their locks, signals, and what keeps memory secret.
+//! One of the three files where something is unsafe. The others are `libcrypto.rs`, and that of the library's calls,
+//! clients/rust/src/raw.rs.
 //!
 //! What makes it safe: `Event` is laid out as the kernel's `struct epoll_event` on x86-64, which is packed; the arrays
 //! and values that the calls are given are as long as they are told; and a descriptor that a call has returned is owned
-//! by nobody else.
+//! by nobody else. The handler of signals stores to an atomic value and calls signal(2), which a handler may do.
 
 use std::fs::File;
 use std::io;
 use std::os::unix::io::{AsRawFd, FromRawFd, OwnedFd, RawFd};
+use std::sync::atomic::{AtomicBool, Ordering};
 
 /// What a descriptor is waited for.
 #[derive(Clone, Copy, Debug, PartialEq, Eq)]
@@ -51,6 +54,68 @@ extern "C" {
     fn epoll_wait(poll: i32, events: *mut Event, most: i32, milliseconds: i32) -> i32;
     fn setsockopt(socket: i32, level: i32, option: i32, value: *const i32, size: u32) -> i32;
     fn fallocate(file: i32, mode: i32, place: i64, count: i64) -> i32;
+    fn flock(file: i32, operation: i32) -> i32;
+    fn signal(number: i32, action: usize) -> usize;
+    fn prctl(what: i32, value: usize, _: usize, _: usize, _: usize) -> i32;
+    fn geteuid() -> u32;
+}
+
+/// SIGINT and SIGTERM.
+const ENDING: [i32; 2] = [2, 15];
+/// SIG_DFL: the signal ends the process.
+const DEFAULT: usize = 0;
+static IS_ASKED_TO_END: AtomicBool = AtomicBool::new(false);
+
+extern "C" fn ask_to_end(_: i32) {
+    IS_ASKED_TO_END.store(true, Ordering::Relaxed);
+    act_on_signals(DEFAULT);
+}
+
+fn act_on_signals(action: usize) {
+    for number in ENDING {
+        unsafe { signal(number, action) };
+    }
+}
+
+/// From now on the first SIGINT or SIGTERM is noted, and a second one ends the process at once.
+pub fn note_signals() {
+    act_on_signals(ask_to_end as extern "C" fn(i32) as usize);
+}
+
+/// Whether such a signal was noted.
+pub fn is_asked_to_end() -> bool {
+    IS_ASKED_TO_END.load(Ordering::Relaxed)
+}
+
+static IS_ASKED_TO_READ_AGAIN: AtomicBool = AtomicBool::new(false);
+
+extern "C" fn ask_to_read_again(_: i32) {
+    IS_ASKED_TO_READ_AGAIN.store(true, Ordering::Relaxed);
+}
+
+/// From now on SIGHUP is noted, each time.
+pub fn note_hang_up() {
+    const HANG_UP: i32 = 1;
+    unsafe { signal(HANG_UP, ask_to_read_again as extern "C" fn(i32) as usize) };
+}
+
+/// Whether SIGHUP was noted since this was asked last.
+pub fn is_asked_to_read_again() -> bool {
+    IS_ASKED_TO_READ_AGAIN.swap(false, Ordering::Relaxed)
+}
+
+/// Keeps the memory of this process from other processes of its user, and out of core dumps: PR_SET_DUMPABLE.
+pub fn hide_memory() -> io::Result<()> {
+    const SET_DUMPABLE: i32 = 4;
+    match unsafe { prctl(SET_DUMPABLE, 0, 0, 0, 0) } {
+        0 => Ok(()),
+        _ => Err(io::Error::last_os_error()),
+    }
+}
+
+/// The user that this process acts as.
+pub fn user() -> u32 {
+    unsafe { geteuid() }
 }
 
 /// Options of sockets by their levels: SO_KEEPALIVE; the seconds without a byte behind which the system asks whether the
@@ -72,6 +137,15 @@ pub fn end_when_lost(socket: &impl AsRawFd) -> io::Result<()> {
 /// Has the system take so many bytes of the disk for a file, from a place on. The file stays as long as it is.
 pub fn reserve(file: &File, place: u64, count: u64) -> io::Result<()> {
     match unsafe { fallocate(file.as_raw_fd(), KEEP_LENGTH, place as i64, count as i64) } {
+        0 => Ok(()),
+        _ => Err(io::Error::last_os_error()),
+    }
+}
+
+/// Locks a file by flock(2): LOCK_SH or LOCK_EX, and LOCK_NB unless it waits.
+pub fn lock(file: &File, is_shared: bool, waits: bool) -> io::Result<()> {
+    let operation = if is_shared { 1 } else { 2 } | if waits { 0 } else { 4 };
+    match unsafe { flock(file.as_raw_fd(), operation) } {
         0 => Ok(()),
         _ => Err(io::Error::last_os_error()),
     }

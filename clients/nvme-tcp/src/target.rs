@@ -1,49 +1,57 @@
 //! The target: the controllers of the subsystem with the associations of their hosts, and each command's way to them.
 
+use crate::access::Access;
+use crate::admission::Admission;
 use crate::answer::{Answer, Payload};
-use crate::association::{Association, ConnectData, ConnectionId, HostQueue, Session};
+use crate::association::{Association, ConnectionId, HostQueue, Session};
 use crate::bytes::{u16_at, u32_at, u64_at};
-use crate::configuration::{Configuration, BLOCK};
-use crate::controller::{Controller, Data, ENTRY};
-use crate::fabrics;
+use crate::configuration::Configuration;
+use crate::controller::{Controller, Data, CSTS};
+use crate::counters::{Closing, Counters};
 use crate::fault::Outcome;
+use crate::health::Health;
 use crate::holding::Held;
-use crate::image::{Done, Image, WRITE};
+use crate::identity::Identity;
+use crate::image::{Done, Image};
 use crate::journal::Journal;
+use crate::log::{Form, Log};
 use crate::machine::Machine;
-use crate::status::{COMMAND_SEQUENCE, SUCCESS};
+use crate::nvme::{
+    AUTHENTICATION_RECEIVE, BLOCK, DATASET_MANAGEMENT, ENTRY, FABRICS, NAMESPACE_ATTACHMENT, WRITE, WRITE_ZEROES,
+};
+use crate::proving::Prover;
+use crate::status::{AUTHENTICATION_REQUIRED, COMMAND_SEQUENCE, INACCESSIBLE, SUCCESS};
 use crate::window::PAGE;
 use nvmesim::Attachment;
 use std::collections::VecDeque;
 use std::fmt;
 use std::io::{self, Write};
-use std::net::{IpAddr, SocketAddr};
+use std::net::SocketAddr;
 use std::time::Instant;
 
-/// Opcodes of admin commands.
-pub const GET_LOG_PAGE: u8 = 0x02;
-pub const IDENTIFY: u8 = 0x06;
-pub const KEEP_ALIVE: u8 = 0x18;
-pub const NAMESPACE_ATTACHMENT: u8 = 0x15;
+/// CSTS.RDY and CSTS.SHST.
+const READY: u32 = 1;
+const SHUTDOWN_STATUS: u32 = 3 << 2;
 
 /// What the command line says of the target.
 pub struct Settings {
     /// The subsystem's name.
     pub name: String,
-    /// Hosts that may come from this address alone, by their identifiers.
-    pub allowed: Vec<([u8; 16], IpAddr)>,
+    pub admission: Admission,
     /// The address that discovery tells, where that is not the one that the host has reached.
     pub advertised: Option<SocketAddr>,
+    /// Whether all namespaces stay write protected.
+    pub is_read_only: bool,
     /// Whether it is told on standard error what hosts do.
     pub traces: bool,
+    /// How the log is written.
+    pub log: Form,
 }
 
-impl Settings {
-    /// Whether a host may come from this address.
-    pub fn allows(&self, data: &ConnectData<'_>, address: IpAddr) -> bool {
-        let mut bound = self.allowed.iter().filter(|(host, _)| *host == data.host_id).peekable();
-        bound.peek().is_none() || bound.any(|(_, allowed)| *allowed == address)
-    }
+/// The UUID of a host, as it gives its HOSTID.
+pub fn uuid(host: u128) -> String {
+    let digits = format!("{:032x}", u128::from_be_bytes(host.to_le_bytes()));
+    [0..8, 8..12, 12..16, 16..20, 20..32].map(|part| &digits[part]).join("-")
 }
 
 /// What a connection is to do because of another.
@@ -51,7 +59,7 @@ pub enum Effect {
     /// It is closed.
     Close(ConnectionId),
     /// A command of it that has waited is answered.
-    Answer(ConnectionId, u16, Answer),
+    Answer(ConnectionId, [u8; ENTRY], Answer),
 }
 
 /// What was handed over so far: so many pieces of the script, and so many of the image.
@@ -59,11 +67,6 @@ pub enum Effect {
 pub struct Handed {
     script: u64,
     image: u64,
-}
-
-/// Tells something on standard error. Where that is closed, nobody hears it.
-pub fn tell(text: fmt::Arguments<'_>) {
-    let _ = writeln!(io::stderr(), "nvmetcp: {text}");
 }
 
 /// The subsystem and its hosts.
@@ -78,7 +81,19 @@ pub struct Target<'a> {
     /// Whether the next commands of a controller are held, and those that are.
     pub holds: Vec<bool>,
     pub held: Vec<VecDeque<Held>>,
+    /// How well each controller reaches the namespaces, and how often that has changed.
+    pub access: Vec<Access>,
+    pub access_changes: u64,
+    /// Error Recovery of each namespace.
+    pub recovery: Vec<u32>,
+    pub counters: Counters,
+    /// What each controller has done.
+    pub health: Vec<Health>,
+    pub log: Log,
     pub settings: Settings,
+    /// The keys, if hosts have to prove who they are.
+    pub prover: Option<Prover>,
+    pub identity: Identity,
     pub image: Option<Image>,
     pub journal: Option<Journal>,
     /// In the order in which they came about.
@@ -86,19 +101,33 @@ pub struct Target<'a> {
 }
 
 impl<'a> Target<'a> {
-    pub fn new(machine: Machine<'a>, configuration: Configuration, settings: Settings, image: Option<Image>) -> Self {
-        let controllers: Vec<Controller> =
-            (1..).zip(&configuration.hosts).map(|(cntlid, host)| Controller::new(cntlid, *host)).collect();
+    pub fn new(
+        machine: Machine<'a>,
+        configuration: Configuration,
+        settings: Settings,
+        identity: Identity,
+        image: Option<Image>,
+    ) -> Self {
+        let described = configuration.config.controllers.iter();
+        let controllers: Vec<Controller> = described.map(|it| Controller::new(it.cntlid(), it.host())).collect();
         let (count, attachments) = (controllers.len(), configuration.config.attached.clone());
         Target {
             machine,
+            recovery: vec![0; configuration.config.namespaces.len()],
             configuration,
             attachments,
+            access: vec![Access::Optimized; count],
+            access_changes: 0,
+            counters: Counters::new(),
+            health: (0..count).map(|_| Health::new()).collect(),
+            log: Log::new(settings.log, count),
             associations: (0..count).map(|_| None).collect(),
             holds: vec![false; count],
             held: (0..count).map(|_| VecDeque::new()).collect(),
             controllers,
             settings,
+            prover: None,
+            identity,
             image,
             journal: None,
             effects: VecDeque::new(),
@@ -108,17 +137,21 @@ impl<'a> Target<'a> {
     /// Tells what happens, where that is wanted.
     pub fn say(&self, text: fmt::Arguments<'_>) {
         if self.settings.traces {
-            tell(text);
+            let _ = writeln!(io::stderr(), "nvmetcp: {text}");
         }
     }
 
     /// Carries out a command that has its data. It has no answer yet where it is held.
     pub fn carry_out(&mut self, queue: &mut HostQueue, entry: &[u8; ENTRY], data: Data<'_>) -> Outcome<Option<Answer>> {
-        if entry[0] == fabrics::OPCODE {
+        if entry[0] == FABRICS {
+            if entry[4] == AUTHENTICATION_RECEIVE {
+                return self.give_message(queue, entry, data);
+            }
             return self.fabrics(queue, entry, data).map(Some);
         }
         match queue.session {
             Session::None => Ok(Some(Answer::of(COMMAND_SEQUENCE))),
+            Session::Unproved => Ok(Some(Answer::of(AUTHENTICATION_REQUIRED))),
             Session::Discovery(discovery) => Ok(Some(self.discover(queue, discovery, entry, data))),
             Session::Controller { index, qid } if !self.controllers[index].has_queue(qid) => {
                 self.say(format_args!("controller {} has no queue {qid}", index + 1));
@@ -137,8 +170,14 @@ impl<'a> Target<'a> {
         entry: &[u8; ENTRY],
         data: Data<'_>,
     ) -> Outcome<Option<Answer>> {
+        if self.access[index] == Access::Inaccessible {
+            return Ok(Some(Answer::of(INACCESSIBLE)));
+        }
         if self.holds[index] && self.hold(connection, index, qid, entry, data)? {
             return Ok(None);
+        }
+        if entry[0] == DATASET_MANAGEMENT {
+            return self.deallocate(index, qid, entry, data).map(Some);
         }
         self.prefetch(entry);
         let completed = self.controllers[index].run(&mut self.machine, qid, entry, data)?;
@@ -171,9 +210,14 @@ impl<'a> Target<'a> {
         if qid == 0 && entry[0] == NAMESPACE_ATTACHMENT {
             self.follow_attachments();
         }
+        if qid != 0 && entry[0] == WRITE_ZEROES && has_succeeded {
+            self.health[index].zero(entry);
+        }
         match &mut self.image {
             Some(image) if qid != 0 => {
-                let done = Done { entry, data: if has_succeeded { data } else { Data::None } };
+                let has_write_cache = self.associations[index].as_ref().map_or(true, |it| it.features.has_write_cache);
+                let data = if has_succeeded { data } else { Data::None };
+                let done = Done { entry, data, is_synced: !has_write_cache };
                 image.follow(&mut self.machine, &self.configuration, done)?;
             }
             _ => (),
@@ -204,8 +248,24 @@ impl<'a> Target<'a> {
         self.machine.wait_for_script(handed.script)
     }
 
+    /// Has the disk hold all that happened: blocks and lines. Each record of the journal was synced when it was made.
+    pub fn sync(&mut self) -> Outcome<()> {
+        self.image.as_mut().map_or(Ok(()), Image::sync)?;
+        self.machine.sync_script()
+    }
+
+    /// An error if another target has taken the journal over; and where `all` is wanted, if another program has changed
+    /// the files otherwise.
+    pub fn check_files(&self, all: bool) -> Outcome<()> {
+        if all {
+            self.image.as_ref().map_or(Ok(()), Image::check)?;
+            return self.journal.as_ref().map_or(Ok(()), Journal::check);
+        }
+        self.journal.as_ref().map_or(Ok(()), Journal::check_epoch)
+    }
+
     /// Has the list of attachments follow a command that has attached a namespace to controllers, or detached it: the
-    /// new ones stand behind the others, by rising controllers.
+    /// new ones come after the others, by rising controllers.
     pub fn follow_attachments(&mut self) {
         let Target { machine, attachments, .. } = self;
         attachments.retain(|it| machine.is_attached(it.cntlid, it.nsid));
@@ -232,11 +292,13 @@ impl<'a> Target<'a> {
     }
 
     /// The connection of a queue is gone: the queue ends, and with the admin queue the association.
-    pub fn lose(&mut self, queue: &HostQueue) -> Outcome<()> {
+    pub fn lose(&mut self, queue: &HostQueue, closing: Closing) -> Outcome<()> {
+        self.counters.closed[closing as usize] += 1;
+        self.log_closed(queue, closing);
         match queue.session {
             Session::Controller { index, qid } if self.is_of(queue.connection, index, qid) => {
                 if qid == 0 {
-                    self.end_association(index)
+                    self.end_association(index, closing.reason())
                 } else {
                     self.end_queue(index, qid)
                 }
@@ -245,7 +307,7 @@ impl<'a> Target<'a> {
         }
     }
 
-    fn is_of(&self, connection: ConnectionId, index: usize, qid: u16) -> bool {
+    pub fn is_of(&self, connection: ConnectionId, index: usize, qid: u16) -> bool {
         let association = self.associations[index].as_ref();
         association.map_or(false, |it| it.queues[usize::from(qid)] == Some(connection))
     }
@@ -264,23 +326,24 @@ impl<'a> Target<'a> {
         self.held[index].clear();
         self.holds[index] = false;
         if let Some(association) = &mut self.associations[index] {
+            association.reset();
             let lost = association.queues[1..].iter_mut().filter_map(Option::take);
             self.effects.extend(lost.map(Effect::Close));
         }
     }
 
     /// An association ends: its connections are closed.
-    fn forget_association(&mut self, index: usize) {
+    fn forget_association(&mut self, index: usize, reason: &str) {
         self.close_io_queues(index);
         if let Some(association) = self.associations[index].take() {
             self.effects.extend(association.queues[0].map(Effect::Close));
-            self.say(format_args!("controller {}: its association has ended", index + 1));
+            self.log_end(index, &association, reason);
         }
     }
 
     /// An association ends, and its controller is reset.
-    pub fn end_association(&mut self, index: usize) -> Outcome<()> {
-        self.forget_association(index);
+    pub fn end_association(&mut self, index: usize, reason: &str) -> Outcome<()> {
+        self.forget_association(index, reason);
         self.controllers[index].reset(&mut self.machine)
     }
 
@@ -288,7 +351,7 @@ impl<'a> Target<'a> {
     pub fn expire(&mut self, now: Instant) -> Outcome<()> {
         for index in 0..self.associations.len() {
             if self.associations[index].as_ref().map_or(false, |it| it.is_expired(now)) {
-                self.end_association(index)?;
+                self.end_association(index, "Keep Alive Timeout")?;
             }
         }
         Ok(())
@@ -296,8 +359,11 @@ impl<'a> Target<'a> {
 
     /// Power is lost in the subsystem, and comes back: all associations have ended.
     pub fn power_cycle(&mut self) -> Outcome<()> {
+        self.counters.power_cycles += 1;
         for index in 0..self.associations.len() {
-            self.forget_association(index);
+            let status = self.machine.read32(self.controllers[index].cntlid, CSTS)?;
+            self.health[index].power_cycle(status & (READY | SHUTDOWN_STATUS) == READY);
+            self.forget_association(index, "power cycle");
             self.controllers[index].forget();
         }
         self.machine.power_cycle();

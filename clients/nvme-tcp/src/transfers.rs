@@ -1,7 +1,7 @@
 //! Commands whose data a host sends when it is asked to, by R2T.
 
 use crate::bytes::u16_at;
-use crate::controller::ENTRY;
+use crate::nvme::ENTRY;
 use crate::pdu::{Fatal, OUT_OF_RANGE};
 use std::collections::VecDeque;
 

@@ -10,10 +10,6 @@ pub const BYTES: u64 = 4 << 20;
 pub const PAGE: u64 = 4096;
 /// The most bytes of data that a command moves: Identify Controller's MDTS.
 pub const MOST_DATA: usize = 128 << 10;
-/// The highest identifier of a queue.
-pub const MOST_QUEUE: u16 = 4;
-/// The most entries of a queue: a page of submission queue entries, and CAP.MQES.
-pub const MOST_ENTRIES: u16 = 64;
 /// The most bytes of data of a command that is held between its fetch and its execution.
 pub const MOST_HELD_DATA: usize = 2 * PAGE as usize;
 /// How many commands of a controller are held at most.

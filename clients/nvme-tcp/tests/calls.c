@@ -2,7 +2,8 @@
 //
 // CALLS_TOLD names a file that gets a line for each: `writes PLACE COUNT` before a pwrite and `wrote PLACE COUNT` behind
 // it, `syncs` before an fdatasync and `synced` behind it, `reserves MODE PLACE COUNT` before an fallocate.
-// CALLS_GATE may name a pipe. A pwrite, or a write of 16 KiB, waits there until it gets a byte.
+// CALLS_GATE may name a pipe. A pwrite, or a write of 16 KiB, waits there until it gets a byte. So does an fdatasync at
+// CALLS_SYNC_GATE.
 // CALLS_REFUSAL may be an errno, by which each fallocate is refused.
 // Where there is CALLS_PART, a writev takes a part of the bytes, or is interrupted; `puts COUNT FIRST SECOND` is how many
 // of which. A long write takes a while then, so that there are next bytes behind it.
@@ -16,18 +17,20 @@
 #include <sys/uio.h>
 #include <unistd.h>
 
-static int told = -1, gate = -1;
+static int told = -1, gate = -1, sync_gate = -1;
 
 __attribute__((constructor)) static void begin(void) {
     if (getenv("CALLS_TOLD"))
         told = open(getenv("CALLS_TOLD"), O_WRONLY | O_APPEND | O_CREAT | O_CLOEXEC, 0600);
     if (getenv("CALLS_GATE"))
         gate = open(getenv("CALLS_GATE"), O_RDWR | O_CLOEXEC);
+    if (getenv("CALLS_SYNC_GATE"))
+        sync_gate = open(getenv("CALLS_SYNC_GATE"), O_RDWR | O_CLOEXEC);
 }
 
-static void wait_at_gate(void) {
+static void wait_at(int pipe) {
     char byte;
-    if (gate >= 0 && read(gate, &byte, 1) != 1)
+    if (pipe >= 0 && read(pipe, &byte, 1) != 1)
         abort();
 }
 
@@ -43,7 +46,7 @@ static void tell(const char *what, long long first, long long second, long long 
 ssize_t pwrite64(int file, const void *bytes, size_t count, off64_t place) {
     ssize_t (*next)(int, const void *, size_t, off64_t) = dlsym(RTLD_NEXT, "pwrite64");
     tell("writes", place, count, -1);
-    wait_at_gate();
+    wait_at(gate);
     ssize_t done = next(file, bytes, count, place);
     tell("wrote", place, done, -1);
     return done;
@@ -56,6 +59,7 @@ ssize_t pwrite(int file, const void *bytes, size_t count, off_t place) {
 int fdatasync(int file) {
     int (*next)(int) = dlsym(RTLD_NEXT, "fdatasync");
     tell("syncs", -1, -1, -1);
+    wait_at(sync_gate);
     int done = next(file);
     tell("synced", -1, -1, -1);
     return done;
@@ -77,7 +81,7 @@ ssize_t write(int file, const void *bytes, size_t count) {
     if (getenv("CALLS_PART") && count >= 65536)
         usleep(20000);
     if (count >= 16384)
-        wait_at_gate();
+        wait_at(gate);
     return next(file, bytes, count);
 }
 

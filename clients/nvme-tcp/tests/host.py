@@ -1,7 +1,7 @@
 """A small NVMe/TCP host: a connection is a queue, and a host has an admin queue and I/O queues."""
 import socket
 import struct
-from typing import Dict, List, NamedTuple, Optional
+from typing import Dict, List, NamedTuple, Optional, Tuple, Union
 
 SUBSYSTEM = "nqn.2024-01.example:suvmileh"
 DISCOVERY = "nqn.2014-08.org.nvmexpress.discovery"
@@ -70,11 +70,16 @@ def entry_of(opcode: int, cid: int, nsid: int, words: bytes, length: int, kind: 
     return (struct.pack("<BBHI16x", opcode, 0x40, cid, nsid) + sgl + words).ljust(64, b"\0")
 
 
+# A port of this machine, or an address with its port.
+Place = Union[int, Tuple[str, int]]
+
+
 class Connection:
     """A connection whose PDUs are whole, in both directions. `digests` as ICReq has them."""
 
-    def __init__(self, port: int, digests: int = 0, alignment: int = 0, opens: bool = True) -> None:
-        self.socket = socket.create_connection(("127.0.0.1", port), timeout=20)
+    def __init__(self, port: Place, digests: int = 0, alignment: int = 0, opens: bool = True) -> None:
+        place = port if isinstance(port, tuple) else ("127.0.0.1", port)
+        self.socket = socket.create_connection(place, timeout=20)
         self.socket.setsockopt(socket.IPPROTO_TCP, socket.TCP_NODELAY, 1)
         self.come = bytearray()
         self.digests, self.alignment = digests, alignment
@@ -132,7 +137,7 @@ class Connection:
 class Queue(Connection):
     """A queue. `call` sends a command and waits for its completion; `send_command` and `completion` are its halves."""
 
-    def __init__(self, port: int, digests: int = 0, alignment: int = 0, part: int = 32768) -> None:
+    def __init__(self, port: Place, digests: int = 0, alignment: int = 0, part: int = 32768) -> None:
         super().__init__(port, digests, alignment)
         self.next_cid, self.part = 0, part
         self.came: Dict[int, bytes] = {}
@@ -199,7 +204,7 @@ class Queue(Connection):
 class Host:
     """A host with its queues."""
 
-    def __init__(self, port: int, host: int, queues: int = 1, size: int = 64, keep_alive: int = 0, digests: int = 0,
+    def __init__(self, port: Place, host: int, queues: int = 1, size: int = 64, keep_alive: int = 0, digests: int = 0,
                  **how: int) -> None:
         self.port, self.host = port, host
         self.admin = Queue(port, digests, **how)
@@ -217,6 +222,27 @@ class Host:
 
     def identify(self, cns: int, nsid: int = 0, length: int = 4096) -> Completion:
         return self.admin.call(0x06, nsid, struct.pack("<I", cns), length=length)
+
+    def log_page(self, page: int, length: int, offset: int = 0, nsid: int = 0xffffffff, asked: Optional[int] = None,
+                 dw10: int = 0, dw14: int = 0) -> Completion:
+        """`length` bytes of a log page; the host has room for these, or for as many as `asked` says."""
+        words = length // 4 - 1
+        dw10 |= page | (words & 0xffff) << 16
+        return self.admin.call(0x02, nsid, struct.pack("<IIQI", dw10, words >> 16, offset, dw14),
+                               length=length if asked is None else asked)
+
+    def get_feature(self, fid: int, select: int = 0, dw11: int = 0, nsid: int = 0, length: int = 0) -> Completion:
+        return self.admin.call(0x0a, nsid, struct.pack("<II", fid | select << 8, dw11), length=length)
+
+    def set_feature(self, fid: int, dw11: int, nsid: int = 0, save: bool = False) -> int:
+        return self.admin.call(0x09, nsid, struct.pack("<II", fid | save << 31, dw11)).status
+
+    def discard(self, *ranges: Tuple[int, int], nsid: int = 1, attributes: int = 4, in_capsule: Optional[bool] = None,
+                count: Optional[int] = None) -> int:
+        """Dataset Management of ranges, each a place and a number of blocks."""
+        data = b"".join(struct.pack("<IIQ", 0, blocks, slba) for slba, blocks in ranges)
+        words = struct.pack("<II", (len(ranges) if count is None else count) - 1, attributes)
+        return self.queues[0].call(0x09, nsid, words, data, in_capsule=in_capsule).status
 
     def read(self, slba: int, blocks: int, nsid: int = 1, length: Optional[int] = None, queue: int = 0) -> Completion:
         room = BLOCK * blocks if length is None else length

@@ -7,7 +7,7 @@ import tempfile
 import time
 import unittest
 from pathlib import Path
-from typing import Optional, Sequence
+from typing import Dict, Optional, Sequence
 
 from tests.host import BLOCK, Host
 
@@ -22,12 +22,26 @@ attached 2 1
 """
 
 
+def has_keys() -> bool:
+    """Whether the program was built with libcrypto."""
+    made = subprocess.run([PROGRAM, "--version"], stdout=subprocess.PIPE, text=True).stdout if PROGRAM else ""
+    return "built with --keys" in made
+
+
+def fixed_random(folder: Path) -> Dict[str, str]:
+    """What a target needs in its environment to draw the same random numbers in each run."""
+    source, library = Path(__file__).resolve().parent / "fixed_random.c", folder / "fixed_random.so"
+    subprocess.run(["cc", "-O1", "-Wall", "-Wextra", "-shared", "-fPIC", "-o", str(library), str(source)], check=True)
+    return {"LD_PRELOAD": str(library)}
+
+
 class Target:
     """A target that runs; its standard error is in the file `errors`."""
 
     def __init__(self, folder: Path, config: str = TWO_HOSTS, image: Optional[int] = None,
                  options: Sequence[str] = (), port: int = 0) -> None:
         self.folder, self.config, self.options = folder, config, list(options)
+        self.environment: Dict[str, str] = {}
         (folder / "config.nvme").write_text(config)
         (folder / "control").mkdir(mode=0o700, exist_ok=True)
         self.image = folder / "disk.img"
@@ -41,7 +55,8 @@ class Target:
         words = [PROGRAM, "--listen", f"127.0.0.1:{port}", "--control", str(self.folder / "control/socket"),
                  *self.options, str(self.folder / "config.nvme")]
         self.errors = open(self.folder / "errors", "a", encoding="utf-8")
-        self.process = subprocess.Popen(words, stdout=subprocess.PIPE, stderr=self.errors, text=True)
+        self.process = subprocess.Popen(words, stdout=subprocess.PIPE, stderr=self.errors, text=True,
+                                        env={**os.environ, **self.environment})
         line = self.process.stdout.readline()
         if " at " not in line:
             raise AssertionError((self.folder / "errors").read_text())

@@ -13,7 +13,7 @@ from contextlib import closing
 from pathlib import Path
 from unittest import mock
 
-from tests.host import BLOCK, CAPSULE, IN_CAPSULE, Host, Queue, entry_of
+from tests.host import BLOCK, CAPSULE, IN_CAPSULE, Ended, Host, Queue, entry_of
 from tests.targets import BLOCKS, Target, TargetTest
 
 FORCE_UNIT_ACCESS = 1 << 30
@@ -112,11 +112,47 @@ class Syncs(Gate):
     def test_force_unit_access(self) -> None:
         self.writes_and(lambda queue: [self.pdu(queue, 0x01, 7, 1000, 1, FORCE_UNIT_ACCESS)])
 
+    def test_a_host_without_a_write_cache(self) -> None:
+        """Each of its writes is synced before it is answered, and those of others are not."""
+        a, b = self.host(), self.host(0xb2)
+        os.write(self.gate, b"1" * 100)
+        self.assertEqual(a.set_feature(0x06, 0), 0)
+        self.assertEqual([a.write(5, bytes(BLOCK)), b.write(6, bytes(BLOCK)), a.discard((7, 1))], [0] * 3)
+        calls = ["writes", "wrote", "syncs", "synced"]
+        self.assertEqual([words[0] for words in self.told()], calls + calls[:2] + calls)
+
     def test_a_flush_alone(self) -> None:
         host = self.host()
         os.write(self.gate, b"1" * 100)
         self.assertEqual([host.write(5, bytes(BLOCK)), host.flush()], [0, 0])
         self.assertEqual([words[0] for words in self.told()], ["writes", "wrote", "syncs", "synced"])
+
+
+class Takeover(CallsTest):
+    """A record of a target is not synced yet when another target takes its state folder over."""
+
+    def environment(self) -> dict:
+        os.mkfifo(self.kept / "gate")
+        self.gate = os.open(self.kept / "gate", os.O_RDWR)
+        self.addCleanup(os.close, self.gate)
+        self.state = self.kept / "state"
+        self.options = ["--state", str(self.state)]
+        return {"CALLS_SYNC_GATE": str(self.kept / "gate")}
+
+    def end(self) -> None:
+        self.target.close()
+
+    def test_no_answer(self) -> None:
+        host = self.host()
+        host.queues[0].send_command(0x0d, 1, struct.pack("<I", 3 << 30), struct.pack("<QQ", 0, 0xa))
+        self.wait_for(lambda: self.told() == [["syncs"]])
+        (self.state / "in-use").unlink()
+        with tempfile.TemporaryDirectory() as room, closing(Target(Path(room), options=self.options)):
+            os.write(self.gate, b"1")
+            with self.assertRaises(Ended):
+                host.queues[0].completion()
+        self.assertEqual(self.target.process.wait(5), 2)
+        self.assertIn("another target has taken its folder over", (self.folder / "errors").read_text())
 
 
 class Rooms(CallsTest):
@@ -127,7 +163,7 @@ class Rooms(CallsTest):
         room = tempfile.TemporaryDirectory()
         self.addCleanup(room.cleanup)
         self.script = Path(room.name, "kept.nvme")
-        self.options = ["--script", str(self.script)]
+        self.options = ["--script", str(self.script), "--force"]
         super().setUp()
 
     def write(self, host: Host, count: int) -> None:

@@ -163,8 +163,11 @@ class Translations(TargetTest):
     def test_identify_controller(self) -> None:
         told = self.host().identify(1).data
         for form, place, value in (("<H", 320, 10), ("<H", 514, 64), ("<I", 536, 0x300001), ("<I", 1792, 516),
-                                   ("<I", 1796, 1), ("<B", 1803, 1), ("<H", 1804, 1), ("<I", 92, 0x100),
-                                   ("<B", 259, 3), ("<B", 525, 4), ("<B", 77, 5), ("<H", 78, 1)):
+                                   ("<I", 1796, 1), ("<B", 1803, 1), ("<H", 1804, 1), ("<I", 92, 0x900),
+                                   ("<B", 76, 0x0a), ("<B", 258, 3), ("<B", 259, 3), ("<B", 260, 3), ("<B", 261, 6),
+                                   ("<B", 262, 63), ("<B", 342, 1), ("<B", 343, 7), ("<I", 344, 1),
+                                   ("<I", 348, 1), ("<H", 520, 0x3d), ("<I", 540, 8), ("<B", 525, 4), ("<B", 77, 5),
+                                   ("<H", 78, 1)):
             self.assertEqual(struct.unpack_from(form, told, place)[0], value, place)
         self.assertEqual(told[768:1024].rstrip(b"\0").decode(), "nqn.2024-01.example:suvmileh")
 
@@ -183,9 +186,9 @@ class Translations(TargetTest):
 
     def test_commands_that_the_subsystem_has_not(self) -> None:
         host = self.host()
-        self.assertEqual({host.admin.call(opcode, 0).status for opcode in (0x08, 0x10, 0x14, 0xc0)}, {0x001 | DNR})
+        self.assertEqual({host.admin.call(opcode, 0).status for opcode in (0x10, 0x14, 0x80, 0xc0)}, {0x001 | DNR})
         self.assertEqual({host.queues[0].call(opcode, 1).status for opcode in (0x04, 0x0c, 0x18, 0xfc)}, {0x001 | DNR})
-        self.assertEqual(host.identify(6).status, 0x002 | DNR)
+        self.assertEqual({host.identify(cns).status for cns in (4, 9, 0x14, 0x1c, 0xff)}, {0x002 | DNR})
 
 
 class Controls(TargetTest):
@@ -199,7 +202,7 @@ class Controls(TargetTest):
         host.write(100, b"\xab" * 131072)
         self.assertEqual(self.target.ask("?blocks 1 100 256"), "blocks 1 100 256 " + "ab" * 131072)
         self.assertEqual(self.target.ask("?fetched 3"), "! line 1 word 2: there is no such controller")
-        self.assertEqual(self.target.ask("?nothing"), "! line 1 word 1: there is no line '?nothing'")
+        self.assertEqual(self.target.ask("?nothing"), "! line 1 word 1: there is no line '?nothing'; ?help names all")
         for line in ("hold 0", "hold 3", "go x", "nothing", "powercycle now"):
             self.assertEqual(self.target.ask(line), f"! {line}")
 

@@ -2,12 +2,13 @@
 import os
 import random
 import struct
+import subprocess
 import threading
 import time
 from pathlib import Path
 
 from tests.host import CAP, CC, CSTS, DISCOVERY, ENABLE, SUBSYSTEM, VS, Ended, Host, Queue
-from tests.targets import BLOCKS, TargetTest
+from tests.targets import BLOCKS, PROGRAM, TargetTest
 
 DNR = 0x4000
 
@@ -234,6 +235,16 @@ class Allowed(TargetTest):
         self.addCleanup(queue.close)
         self.assertEqual(queue.connect(0, 0xa1).status, 0x184 | DNR)
         self.host(0xb2)
+
+    def test_a_host_that_no_controller_is_of(self) -> None:
+        """A slip would leave the host free that was meant."""
+        slip = "1a000000-0000-0000-0000-000000000000"
+        words = [PROGRAM, "--listen", "127.0.0.1:0", *self.options, "--allow", f"{slip}=127.0.0.2",
+                 str(self.folder / "config.nvme")]
+        ran = subprocess.run(words, stdout=subprocess.PIPE, stderr=subprocess.PIPE, text=True, timeout=10)
+        self.assertEqual((ran.returncode, ran.stdout), (3, ""))
+        self.assertEqual(ran.stderr, f"nvmetcp: --allow {slip}: no controller is of this host; there are those of "
+                                     "a1000000-0000-0000-0000-000000000000 and b2000000-0000-0000-0000-000000000000\n")
 
 
 class Many(TargetTest):

@@ -42,7 +42,7 @@ class Faults(unittest.TestCase):
         """The target has ended, and says of what."""
         _, errors = self.process.communicate(timeout=10)
         self.assertEqual(self.process.returncode, 2)
-        self.assertIn(f"nvmetcp: {what}: ", errors)
+        self.assertIn(f'nvmetcp: fault reason="{what}: ', errors)
 
     def test_an_image(self) -> None:
         image = self.folder / "disk.img"

@@ -21,6 +21,7 @@ class Seeds:
         made = Connection.__new__(Connection)
         made.digests = digests
         words, controllers = struct.pack("<QI", 5, 0), struct.pack("<HH", 1, 3).ljust(4096, b"\0")
+        ranges = struct.pack("<IIQIIQ", 0, 4, 5, 0, 1, 9)
 
         def command(opcode: int, cid: int, nsid: int, more: bytes, length: int, data: bytes = b"") -> bytes:
             return made.pdu(CAPSULE, entry_of(opcode, cid, nsid, more, length, 0x01 if data else 0x5a), data)
@@ -33,6 +34,10 @@ class Seeds:
             command(0x15, 7, 1, bytes(4), 4096, controllers), command(0x0c, 8, 0, b"", 0),
             command(0x09, 9, 0, struct.pack("<II", 0x0b, 0x100), 0),
             command(0x02, 10, 0, struct.pack("<HH", 4, 1023), 4096),
+            *[command(0x02, 10, 0xffffffff, struct.pack("<HHIQ", page, 127, 0, 16), 512) for page in (1, 2, 5, 12)],
+            *[command(opcode, 9, 0, struct.pack("<II", fid, 1), 0) for opcode in (0x09, 0x0a) for fid in (4, 5, 15)],
+            command(0x09, 4, 1, struct.pack("<II", 1, 4), 32, ranges), command(0x08, 15, 0, bytes(4), 0),
+            *[command(0x06, 5, 1, struct.pack("<I", cns), 4096) for cns in (0, 6, 8, 0x11, 0x12)],
             command(0x7f, 11, 4, struct.pack("<BxxxI", 1, 0), 0),
             command(0x7f, 12, 0, struct.pack("<BxxxIQ", 0, 0x14, 0x460001), 0)]
         self.opens = ic_request(digests)

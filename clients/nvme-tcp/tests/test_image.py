@@ -1,6 +1,7 @@
 """An image: it follows the commands, also where the target is killed at any moment; and the script of a run."""
 import os
 import random
+import socket
 import struct
 import subprocess
 import tempfile
@@ -9,7 +10,7 @@ import time
 import unittest
 from pathlib import Path
 
-from tests.host import BLOCK, CAPSULE, IN_CAPSULE, Ended, Host, Queue, entry_of
+from tests.host import BLOCK, CAPSULE, IN_CAPSULE, Ended, Host, Queue, digest_of, entry_of
 from tests.targets import BLOCKS, LIVE, SIM, TWO_HOSTS, Target, TargetTest
 
 FORCE_UNIT_ACCESS = 1 << 30
@@ -72,7 +73,8 @@ class Images(TargetTest):
             target.close()
 
     def test_what_is_refused(self) -> None:
-        for what, config, status in (("too short", TWO_HOSTS.replace("2048", "2049"), 2),
+        self.target.kill()
+        for what, config, status in (("too short", TWO_HOSTS.replace("2048", "2049"), 1),
                                      ("no controller", "namespace 1 blocks 4 shared\n", 1),
                                      ("a wrong identifier", "controller 2 host 0xa1\n", 1),
                                      ("not understood", "controller\n", 1)):
@@ -82,6 +84,7 @@ class Images(TargetTest):
             ran = subprocess.run(words, stdout=subprocess.PIPE, stderr=subprocess.PIPE, text=True, timeout=10)
             self.assertEqual((ran.returncode, ran.stdout), (status, ""), what)
             self.assertTrue(ran.stderr.startswith("nvmetcp: "), what)
+        self.target.start()
 
 
 class Killed(TargetTest):
@@ -267,13 +270,6 @@ class Lasts(TargetTest):
         self.target.start()
         self.assertEqual(self.host(0xb2).write(7, bytes(512)), 0, "the Acquire was not whole")
 
-    def test_one_target_has_a_folder(self) -> None:
-        words = [*self.target.process.args]
-        words[words.index("--control") + 1] += "-of-another"
-        ran = subprocess.run(words, stdout=subprocess.PIPE, stderr=subprocess.PIPE, text=True, timeout=10)
-        self.assertEqual((ran.returncode, ran.stdout), (2, ""))
-        self.assertIn("another target that runs has it", ran.stderr)
-
     def test_what_is_refused(self) -> None:
         self.host().register(0, 0xa)
         self.host(0xb2).register(0, 0xb)
@@ -289,6 +285,92 @@ class Lasts(TargetTest):
             self.assertIn(text, ran.stderr)
             self.assertEqual(self.journal.read_bytes(), content)
         self.journal.write_bytes(whole)
+        self.target.start()
+
+    def refused(self, text: str) -> None:
+        """The target does not start, and says why."""
+        ran = subprocess.run(self.target.process.args, stdout=subprocess.PIPE, stderr=subprocess.PIPE, text=True,
+                             timeout=10)
+        self.assertEqual((ran.returncode, ran.stdout), (2, ""))
+        self.assertIn(text, ran.stderr)
+
+    def test_a_journal_that_is_not_whole(self) -> None:
+        """In a folder that was used it is refused, and not begun anew without the reservations."""
+        self.host().register(0, 0xa)
+        self.target.kill()
+        whole = self.journal.read_bytes()
+        for size in (0, 1, 17, 40):
+            self.journal.write_bytes(whole[:size])
+            self.refused(f"the journal has {size} bytes, fewer than its head: a target has used this folder")
+            self.assertEqual(self.journal.read_bytes(), whole[:size])
+        self.journal.unlink()
+        self.refused("there is no journal: a target has used this folder")
+        self.assertFalse(self.journal.exists())
+        self.journal.write_bytes(whole)
+        self.target.start()
+
+    def test_a_target_that_was_killed_at_its_first_start(self) -> None:
+        """No host was told anything, and the folder does not say that it was used."""
+        self.target.kill()
+        head = self.journal.read_bytes()[:-1]
+        (self.journal.parent / "identity").unlink()
+        for size in (0, 1, 17, 40):
+            self.journal.write_bytes(head[:size])
+            self.target.start()
+            self.assertEqual(self.host().register(0, 0xa), 0)
+            self.target.kill()
+            (self.journal.parent / "identity").unlink()
+        self.target.start()
+
+    def test_a_journal_that_is_no_file(self) -> None:
+        self.target.kill()
+        whole = self.journal.read_bytes()
+        self.journal.unlink()
+        os.mkfifo(self.journal)
+        self.refused("no regular file")
+        self.journal.unlink()
+        self.journal.symlink_to("/dev/zero")
+        self.refused("no regular file")
+        self.journal.unlink()
+        self.journal.mkdir()
+        self.refused("the journal: Is a directory")
+        self.journal.rmdir()
+        with socket.socket(socket.AF_UNIX) as listener:
+            listener.bind(str(self.journal))
+            self.refused("the journal: No such device or address")
+        self.journal.unlink()
+        self.journal.write_bytes(whole)
+        self.target.start()
+
+    def test_an_identity_that_is_none(self) -> None:
+        self.target.kill()
+        identity = self.journal.parent / "identity"
+        whole = identity.read_bytes()
+        for wrong in (b"", whole[:-2], b"\xff" * 33):
+            identity.write_bytes(wrong)
+            self.refused("identity has no line of 32 hexadecimal digits")
+        identity.write_bytes(whole)
+        self.target.start()
+
+    def test_a_journal_of_the_first_version(self) -> None:
+        """Its records have no epoch, and no start is among them. It is read, and goes on."""
+        a, b = self.host(), self.host(0xb2)
+        a.register(0, 0xa), a.acquire(0xa)
+        self.target.kill()
+        whole, records = self.journal.read_bytes(), []
+        while whole[18:]:
+            size = 12 + int.from_bytes(whole[18:22], "little")
+            records.append(whole[18:18 + size][12:])
+            whole = whole[:18] + whole[18 + size:]
+        first = [records[0], *(bytes([it[0] - 2]) + it[9:] for it in records[1:] if it[0] != 5), b"\2"]
+        framed = [len(it).to_bytes(4, "little") for it in first]
+        framed = [size + digest_of(size) + digest_of(it) + it for size, it in zip(framed, first)]
+        self.journal.write_bytes(b"nvmetcp journal 1\n" + b"".join(framed))
+        (self.journal.parent / "identity").unlink()
+        for _ in range(2):
+            self.target.start()
+            self.assertEqual([self.host(0xb2).write(7, bytes(512)), self.host().write(7, bytes(512))], [0x4083, 0])
+            self.target.kill()
         self.target.start()
 
     def test_a_restart_is_a_power_cycle(self) -> None:

@@ -32,10 +32,13 @@ class Kills(TargetTest):
             # Of each place what may stand there.
             may = {place: [before[BLOCK * place:BLOCK * (place + REGION)]]
                    for place in (1024 * which + REGION * it for which in range(2) for it in range(REGIONS))}
+            first = {place: pieces[0] for place, pieces in may.items()}
             threads = [threading.Thread(target=self.writes, args=(it, host, may, turn))
                        for it, host in enumerate(hosts)]
             for thread in threads:
                 thread.start()
+            # Something was answered by then, however busy the machine is.
+            self.wait_for(lambda: any(may[place][0] != pieces for place, pieces in first.items()), 30)
             time.sleep(rng.uniform(0.02, 0.2))
             self.target.kill()
             for thread in threads:
@@ -86,7 +89,7 @@ class Scripts(Kills):
         super().setUp()
         self.script = self.folder / "kept.nvme"
         self.target.close()
-        self.target.options = ["--script", str(self.script)]
+        self.target.options = ["--script", str(self.script), "--force"]
         self.target.start()
 
     def content(self) -> bytes:
@@ -113,7 +116,7 @@ class Waits(TargetTest):
         os.mkfifo(path)
         self.lines = os.open(path, os.O_RDONLY | os.O_NONBLOCK)
         self.addCleanup(os.close, self.lines)
-        self.options = ["--script", str(path)]
+        self.options = ["--script", str(path), "--force"]
         super().setUp()
 
     def test_a_slow_script(self) -> None:

@@ -7,8 +7,9 @@ import unittest
 from pathlib import Path
 from typing import Dict
 
-from linux.record import events_of, text_of
-from tests.targets import BLOCKS, PROGRAM, TWO_HOSTS, Target
+from linux.proofs import SECRETS, key_line
+from linux.record import IDENTITY, events_of, text_of
+from tests.targets import BLOCKS, PROGRAM, TWO_HOSTS, Target, fixed_random, has_keys
 
 DATA = Path(__file__).resolve().parent / "data"
 
@@ -18,8 +19,28 @@ class Recorded(unittest.TestCase):
     def test_linux(self) -> None:
         for path in sorted(DATA.glob("*.txt")):
             with self.subTest(path.name), tempfile.TemporaryDirectory() as room, contextlib.ExitStack() as stack:
-                target = Target(Path(room), TWO_HOSTS, BLOCKS)
+                target = Target(Path(room), TWO_HOSTS, BLOCKS, ["--state", f"{room}/state"])
                 stack.callback(target.close)
+                # The identity is that of the target which was recorded.
+                target.kill()
+                Path(room, "state/identity").write_text(IDENTITY)
+                target.start()
+                self.play(target.port, path.read_text(encoding="ascii"), stack)
+
+    @unittest.skipUnless(has_keys(), "the program was built without libcrypto")
+    def test_linux_proves_who_it_is(self) -> None:
+        """In one direction and in both, on each queue; and with a wrong secret. The target draws the same numbers."""
+        for path in sorted(DATA.glob("proofs/*.txt")):
+            with self.subTest(path.name), tempfile.TemporaryDirectory() as room, contextlib.ExitStack() as stack:
+                keys = Path(room, "keys")
+                keys.touch(0o600)
+                keys.write_text(key_line("a1", SECRETS["a1"], SECRETS["controller"]) + key_line("b2", SECRETS["b2"]))
+                target = Target(Path(room), TWO_HOSTS, BLOCKS, ["--state", f"{room}/state", "--keys", str(keys)])
+                stack.callback(target.close)
+                target.kill()
+                Path(room, "state/identity").write_text(IDENTITY)
+                target.environment = fixed_random(Path(room))
+                target.start()
                 self.play(target.port, path.read_text(encoding="ascii"), stack)
 
     def play(self, port: int, text: str, stack: contextlib.ExitStack) -> None:

@@ -16,7 +16,8 @@ LINES += ["?attached", "?namespaces", "?register 1 0x1c", "?register 0x2 20", "?
           "?window 1 4096 256", "?window 2 0x2000 64", "?window 1 4194303 1", "?window 1 4194304 1", "?window 1 0 131073",
           "?window 3 0 1", "?blocks 1 7 2", "?blocks 2 0 4", "?blocks 1 2048 1", "?blocks 1 0 257", "?blocks 1 0 0",
           "?blocks 9 0 1", "?fetched", "?fetched 65536", "?fetched x", "?attached 1", "?reservation 4294967296",
-          "?blocks 1 7", "?window 1 0 -1"]
+          "?blocks 1 7", "?window 1 0 -1", "?help", "?help blocks", "?help ?blocks", "?help write", "?queue 1", "?",
+          "?line write  1 1 7 1 hex:48656c6c6f00", "?line fetch 1", "?line", "?line # nothing", "?attached \u00e9"]
 NUMBER = re.compile(r"^! line \d+ ")
 
 

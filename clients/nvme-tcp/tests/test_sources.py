@@ -1,14 +1,17 @@
-"""The sources: what is unsafe stands in two short files, and the unit tests of the crate pass."""
+"""The sources: what is unsafe stands in three short files, numbers of the standard in one, and the crate's tests pass."""
 import os
+import re
 import shutil
 import subprocess
 import unittest
 from pathlib import Path
 
+from tests.targets import has_keys
+
 HERE = Path(__file__).resolve().parent.parent
-# The calls of the system, and the library's.
-UNSAFE = [HERE / "src/system.rs", HERE.parent / "rust/src/raw.rs"]
-MOST_LINES = 149
+# The calls of libcrypto, of the system, and the library's.
+UNSAFE = [HERE / "src/libcrypto.rs", HERE / "src/system.rs", HERE.parent / "rust/src/raw.rs"]
+MOST_LINES = 219
 
 
 class Sources(unittest.TestCase):
@@ -21,10 +24,20 @@ class Sources(unittest.TestCase):
         for root in (HERE / "src/main.rs", *HERE.glob("examples/*.rs"), HERE.parent / "rust/src/lib.rs"):
             self.assertIn("#![deny(unsafe_code)]", texts[root], root.name)
 
+    def test_numbers_of_the_standard(self) -> None:
+        """Opcodes, sizes and limits of queues have one definition."""
+        texts = {it.name: it.read_text(encoding="utf-8") for it in HERE.glob("src/*.rs")}
+        defined = re.findall(r"^pub (const \w+: \w+) =", texts.pop("nvme.rs"), re.M)
+        self.assertIn("const RESERVATION_ACQUIRE: u8", defined)
+        for name, text in texts.items():
+            self.assertEqual([it for it in defined if it in text], [], name)
+            self.assertNotRegex(text, r"\[None; \d+\]", name)
+
     @unittest.skipUnless(shutil.which("cargo") and (HERE / "out/library/lib").is_dir(), "nothing was built here")
     def test_units(self) -> None:
         places = {"NVMESIM_LIB": HERE / "out/library/lib", "CARGO_TARGET_DIR": HERE / "out/target"}
         environment = {**os.environ, **{name: str(place) for name, place in places.items()}}
-        ran = subprocess.run(["cargo", "test", "--release", "--offline", "--locked", "--quiet"], cwd=HERE,
+        features = ["--features", "authentication"] if has_keys() else []
+        ran = subprocess.run(["cargo", "test", "--release", "--offline", "--locked", "--quiet", *features], cwd=HERE,
                              env=environment, stdout=subprocess.PIPE, stderr=subprocess.STDOUT, text=True)
         self.assertEqual(ran.returncode, 0, ran.stdout)

@@ -1,0 +1,137 @@
+//! What the target has done since it started, by kinds of commands and by their statuses. All are plain integers of the
+//! loop's thread: to count a command takes no memory, unless its status is one that its opcode never had.
+
+use crate::association::{HostQueue, Session};
+use crate::health::Health;
+use crate::nvme::{ENTRY, FABRICS, RESERVATION_ACQUIRE, RESERVATION_REGISTER, RESERVATION_RELEASE};
+use crate::status::{Status, ABORTED_BY_PREEMPTION, RESERVATION_CONFLICT, SUCCESS};
+use crate::target::Target;
+use std::collections::BTreeMap;
+use std::time::{Duration, SystemTime, UNIX_EPOCH};
+
+/// The commands whose Reservation Conflict refuses a change of reservations.
+const RESERVATION_COMMANDS: [u8; 3] = [RESERVATION_REGISTER, RESERVATION_ACQUIRE, RESERVATION_RELEASE];
+
+/// Which opcodes a command has.
+#[derive(Clone, Copy, Debug, PartialEq, Eq, PartialOrd, Ord)]
+pub enum Kind {
+    Fabrics,
+    Admin,
+    Io,
+}
+
+impl Kind {
+    /// The kind of a command on a queue, and its opcode, which is the type of a command of Fabrics.
+    fn of(session: Session, entry: &[u8; ENTRY]) -> (Kind, u8) {
+        match session {
+            _ if entry[0] == FABRICS => (Kind::Fabrics, entry[4]),
+            Session::Controller { qid, .. } if qid != 0 => (Kind::Io, entry[0]),
+            _ => (Kind::Admin, entry[0]),
+        }
+    }
+}
+
+/// Why a connection has ended.
+#[derive(Clone, Copy, Debug, PartialEq, Eq)]
+pub enum Closing {
+    /// Its host has closed it, or the network has.
+    ByHost,
+    /// It has broken the transport's rules.
+    Protocol,
+    /// It took too long to connect, or a discovery controller was not asked for a while.
+    Late,
+    /// It made room for others before it had connected.
+    Crowded,
+    /// Its association has ended: by its admin queue, Keep Alive, a reset or a power cycle.
+    Association,
+    /// The target ends.
+    Shutdown,
+}
+
+impl Closing {
+    /// What the log says of it.
+    pub fn reason(self) -> &'static str {
+        match self {
+            Closing::ByHost => "the host has ended its connection",
+            Closing::Protocol => "the host has broken the rules of the transport",
+            Closing::Late => "there was no command in time",
+            Closing::Crowded => "there were too many connections without a controller",
+            Closing::Association => "the association has ended",
+            Closing::Shutdown => "the target ends",
+        }
+    }
+}
+
+pub const CLOSINGS: [(Closing, &str); 6] = [
+    (Closing::ByHost, "host"),
+    (Closing::Protocol, "protocol"),
+    (Closing::Late, "timeout"),
+    (Closing::Crowded, "crowded"),
+    (Closing::Association, "association"),
+    (Closing::Shutdown, "shutdown"),
+];
+
+/// The counters.
+pub struct Counters {
+    pub started: Duration,
+    /// Commands of Fabrics and admin commands that have succeeded, by kind and opcode. Those of I/O are counted for each
+    /// controller.
+    pub succeeded: [[u64; 256]; 2],
+    /// Those that have not, by kind, opcode and status.
+    pub failed: BTreeMap<(Kind, u8, Status), u64>,
+    /// Connections that were taken, and those that have ended.
+    pub accepted: u64,
+    pub closed: [u64; CLOSINGS.len()],
+    pub power_cycles: u64,
+}
+
+impl Counters {
+    pub fn new() -> Counters {
+        Counters {
+            started: SystemTime::now().duration_since(UNIX_EPOCH).unwrap_or_default(),
+            succeeded: [[0; 256]; 2],
+            failed: BTreeMap::new(),
+            accepted: 0,
+            closed: [0; CLOSINGS.len()],
+            power_cycles: 0,
+        }
+    }
+
+    /// How many connections there are.
+    pub fn connections(&self) -> u64 {
+        self.accepted - self.closed.iter().sum::<u64>()
+    }
+}
+
+impl Target<'_> {
+    /// Forgets what was counted before hosts may come.
+    pub fn begin_counting(&mut self) {
+        self.counters = Counters::new();
+        self.health.fill_with(Health::new);
+    }
+
+    /// Counts a command that is answered. One that a reservation has refused is logged.
+    #[inline]
+    pub fn count(&mut self, queue: &HostQueue, entry: &[u8; ENTRY], status: Status) {
+        if status != SUCCESS {
+            return self.count_failed(queue, entry, status);
+        }
+        match (Kind::of(queue.session, entry), queue.session) {
+            ((Kind::Io, _), Session::Controller { index, .. }) => self.health[index].succeed(entry),
+            ((kind, opcode), _) => self.counters.succeeded[kind as usize][usize::from(opcode)] += 1,
+        }
+    }
+
+    #[cold]
+    fn count_failed(&mut self, queue: &HostQueue, entry: &[u8; ENTRY], status: Status) {
+        let (kind, opcode) = Kind::of(queue.session, entry);
+        *self.counters.failed.entry((kind, opcode, status)).or_default() += 1;
+        if let Session::Controller { index, qid } = queue.session {
+            self.health[index].fail(qid, entry, status);
+            let is_reservation = qid != 0 && RESERVATION_COMMANDS.contains(&opcode);
+            if matches!(status, RESERVATION_CONFLICT | ABORTED_BY_PREEMPTION) && !is_reservation {
+                self.log_fenced(queue, index, entry, status);
+            }
+        }
+    }
+}

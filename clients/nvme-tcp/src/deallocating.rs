@@ -1,0 +1,146 @@
+//! Dataset Management: ranges to deallocate are zeroed, each by a Write Zeroes of the subsystem, in their order.
+
+use crate::answer::Answer;
+use crate::bytes::{put, u32_at, u64_at};
+use crate::controller::{Completed, Data};
+use crate::fault::Outcome;
+use crate::nvme::{ENTRY, MOST_BLOCKS, WRITE_ZEROES};
+use crate::status::{Status, DATA_TRANSFER, OUT_OF_RANGE, SIZE_LIMIT, SUCCESS};
+use crate::target::Target;
+
+/// Bits of double word 11: Attribute Deallocate.
+const DEALLOCATE: u32 = 1 << 2;
+/// The size of a range.
+const RANGE: usize = 16;
+/// No block of any namespace.
+const NOWHERE: u64 = u64::MAX;
+
+/// Blocks of a namespace.
+#[derive(Clone, Copy, Debug, PartialEq, Eq)]
+struct Range {
+    slba: u64,
+    count: u64,
+}
+
+/// What a Dataset Management comes to.
+#[derive(Clone, Copy, Debug, PartialEq, Eq)]
+enum Plan<'d> {
+    /// These ranges are zeroed.
+    Zero(&'d [u8]),
+    /// It changes nothing, and is answered this unless a rule denies it before its ranges are looked at.
+    Nothing(Status),
+}
+
+/// The ranges that have blocks.
+fn ranges_of(bytes: &[u8]) -> impl Iterator<Item = Range> + '_ {
+    let all = bytes.chunks_exact(RANGE).map(|it| Range { slba: u64_at(it, 8), count: u32_at(it, 4).into() });
+    all.filter(|it| it.count != 0)
+}
+
+/// What a command comes to on a namespace with this number of blocks.
+fn plan_of<'d>(entry: &[u8; ENTRY], data: Data<'d>, blocks: u64) -> Plan<'d> {
+    let length = RANGE * (usize::from(entry[40]) + 1);
+    let bytes = match data {
+        Data::ToController(bytes) if bytes.len() >= length => &bytes[..length],
+        _ => return Plan::Nothing(DATA_TRANSFER),
+    };
+    if u32_at(entry, 44) & DEALLOCATE == 0 || ranges_of(bytes).next().is_none() {
+        return Plan::Nothing(SUCCESS);
+    }
+    if ranges_of(bytes).any(|it| it.slba > blocks || it.count > blocks - it.slba) {
+        return Plan::Nothing(OUT_OF_RANGE);
+    }
+    if ranges_of(bytes).map(|it| it.count).sum::<u64>() > MOST_BLOCKS {
+        return Plan::Nothing(SIZE_LIMIT);
+    }
+    Plan::Zero(bytes)
+}
+
+/// The Write Zeroes of a range, in the name of a command. A range within a namespace has no more blocks than one zeroes.
+fn zeroing(entry: &[u8; ENTRY], range: Range) -> [u8; ENTRY] {
+    let mut zeroing = *entry;
+    zeroing[0] = WRITE_ZEROES;
+    zeroing[24..].fill(0);
+    put(&mut zeroing, 40, &range.slba.to_le_bytes());
+    put(&mut zeroing, 48, &((range.count - 1) as u16).to_le_bytes());
+    zeroing
+}
+
+/// The Write Zeroes that a command comes to, if it is one alone.
+pub fn only_zeroing(entry: &[u8; ENTRY], data: Data<'_>, blocks: u64) -> Option<[u8; ENTRY]> {
+    let mut ranges = match plan_of(entry, data, blocks) {
+        Plan::Zero(bytes) => ranges_of(bytes),
+        Plan::Nothing(_) => return None,
+    };
+    match (ranges.next(), ranges.next()) {
+        (Some(range), None) => Some(zeroing(entry, range)),
+        _ => None,
+    }
+}
+
+impl Target<'_> {
+    /// Carries out Dataset Management. The first range that is not zeroed ends it.
+    pub fn deallocate(&mut self, index: usize, qid: u16, entry: &[u8; ENTRY], data: Data<'_>) -> Outcome<Answer> {
+        let bytes = match plan_of(entry, data, self.configuration.blocks(u32_at(entry, 4))) {
+            Plan::Zero(bytes) => bytes,
+            // The rules judge it as they do a Write Zeroes that passes all of them but the last.
+            Plan::Nothing(status) => {
+                let denied = self.zero(index, qid, entry, Range { slba: NOWHERE, count: 1 })?.status;
+                return Ok(Answer::of(if denied == OUT_OF_RANGE { status } else { denied }));
+            }
+        };
+        for range in ranges_of(bytes) {
+            let completed = self.zero(index, qid, entry, range)?;
+            if completed.status != SUCCESS {
+                return Ok(Answer::of(completed.status));
+            }
+        }
+        Ok(Answer::of(SUCCESS))
+    }
+
+    fn zero(&mut self, index: usize, qid: u16, entry: &[u8; ENTRY], range: Range) -> Outcome<Completed> {
+        let entry = zeroing(entry, range);
+        let data = Data::FromController(0);
+        let completed = self.controllers[index].run(&mut self.machine, qid, &entry, data)?;
+        if !completed.is_denied {
+            self.follow(index, qid, &entry, data, completed.status == SUCCESS)?;
+        }
+        Ok(completed)
+    }
+}
+
+#[cfg(test)]
+mod tests {
+    use super::*;
+
+    fn range(slba: u64, count: u32) -> [u8; RANGE] {
+        let mut range = [0xff; RANGE];
+        put(&mut range, 4, &count.to_le_bytes());
+        put(&mut range, 8, &slba.to_le_bytes());
+        range
+    }
+
+    #[test]
+    fn plans() {
+        let mut entry = [0; ENTRY];
+        let plan = |entry: &[u8; ENTRY], ranges: &[[u8; RANGE]]| {
+            let bytes = ranges.concat();
+            match plan_of(entry, Data::ToController(&bytes), 65_536) {
+                Plan::Zero(bytes) => Ok(ranges_of(bytes).count()),
+                Plan::Nothing(status) => Err(status),
+            }
+        };
+        assert_eq!(plan(&entry, &[range(0, 8)]), Err(SUCCESS));
+        entry[44] = DEALLOCATE as u8;
+        assert_eq!(plan(&entry, &[range(0, 65_536)]), Ok(1));
+        assert_eq!(plan(&entry, &[]), Err(DATA_TRANSFER));
+        assert_eq!(plan(&entry, &[range(7, 0)]), Err(SUCCESS));
+        assert_eq!(plan(&entry, &[range(65_536, 1)]), Err(OUT_OF_RANGE));
+        assert_eq!(plan(&entry, &[range(u64::MAX, u32::MAX)]), Err(OUT_OF_RANGE));
+        entry[40] = 2;
+        assert_eq!(plan(&entry, &[range(0, 8), range(8, 0), range(16, 8), range(9, 9)]), Ok(2));
+        assert_eq!(plan(&entry, &[range(0, 65_536), range(8, 0), range(16, 1)]), Err(SIZE_LIMIT));
+        assert_eq!(plan(&entry, &[range(0, 8), range(8, 8), range(65_535, 2)]), Err(OUT_OF_RANGE));
+        assert_eq!(plan(&entry, &[range(0, 8), range(8, 8)]), Err(DATA_TRANSFER));
+    }
+}

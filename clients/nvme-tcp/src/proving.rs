@@ -1,0 +1,347 @@
+//! Authentication of queues, if the target has keys: Authentication Send, Authentication Receive, and their effects on
+//! associations. Connect reserves nothing: the first host that proves itself gets the controller or the queue.
+
+use crate::answer::Answer;
+use crate::association::{ConnectData, HostQueue, Session};
+use crate::authentication::{Authentication, Choice, Done, Due, Peers, Sent, Taken, Work};
+use crate::bytes::{u16_at, u32_at};
+use crate::controller::Data;
+use crate::fault::Outcome;
+use crate::keys::{Host, Keys};
+use crate::log::warn;
+use crate::messages::Explanation;
+use crate::nvme::{AUTHENTICATION_RECEIVE, AUTHENTICATION_SEND, DISCONNECT, ENTRY, FABRICS};
+use crate::status::{
+    AUTHENTICATION_REQUIRED, COMMAND_SEQUENCE, CONNECT_HOST, INVALID_FIELD, INVALID_OPCODE, SGL_LENGTH, SUCCESS,
+};
+use crate::target::{uuid, Target};
+use crate::worker::{Finished, Worker};
+use std::io;
+use std::os::unix::io::AsRawFd;
+use std::path::{Path, PathBuf};
+use std::rc::Rc;
+use std::sync::Arc;
+
+/// AUTHREQ.ATR in the completion of Connect: the host must authenticate itself. AUTHREQ.ASCR, a secure channel, is 0.
+pub const PROOF_REQUIRED: u32 = 1 << 17;
+/// SPSP0, SPSP1 and SECP of both commands: the security protocol of NVMe's own authentication.
+const PROTOCOL: [u8; 3] = [0x01, 0x01, 0xe9];
+
+/// The keys of a target, and the thread that computes.
+pub struct Prover {
+    path: PathBuf,
+    keys: Keys,
+    choice: Choice,
+    /// The subsystem's name.
+    subsystem: Arc<str>,
+    worker: Worker,
+    /// For each controller one count for each proof in progress, and one more.
+    wanted: Vec<Rc<()>>,
+}
+
+impl Prover {
+    /// Starts the thread. `path` is where the keys came from, and are read again.
+    pub fn start(path: &Path, keys: Keys, choice: Choice, subsystem: &str, controllers: usize) -> io::Result<Prover> {
+        let wanted = (0..controllers).map(|_| Rc::new(())).collect();
+        let (path, subsystem) = (path.to_owned(), subsystem.into());
+        Ok(Prover { path, keys, choice, subsystem, worker: Worker::start()?, wanted })
+    }
+
+    /// A descriptor that is readable when work is finished.
+    pub fn bell(&self) -> &impl AsRawFd {
+        &self.worker.bell
+    }
+}
+
+/// What a queue becomes after the proof.
+struct Wanted {
+    place: Session,
+    /// Counts this proof for the controller.
+    _count: Option<Rc<()>>,
+}
+
+/// The authentication of a queue's host.
+pub struct Proof {
+    authentication: Authentication,
+    data: ConnectData,
+    /// The host's line of the keys at Negotiate.
+    host: Option<Arc<Host>>,
+    wanted: Option<Wanted>,
+    /// Command identifier and length of an Authentication Receive that waits for work.
+    waiting: Option<(u16, usize)>,
+    /// Dropped with the connection.
+    life: Arc<()>,
+}
+
+impl Proof {
+    /// Whether a command with this identifier waits.
+    pub fn waits(&self, cid: u16) -> bool {
+        self.waiting.map_or(false, |(waiting, _)| waiting == cid)
+    }
+}
+
+/// Whether a command is executed before the proof.
+pub fn goes_before_proof(entry: &[u8; ENTRY]) -> bool {
+    entry[0] == FABRICS && matches!(entry[4], AUTHENTICATION_SEND | AUTHENTICATION_RECEIVE | DISCONNECT)
+}
+
+impl Target<'_> {
+    /// Whether the keys have a line for a host, or there are no keys.
+    pub fn knows(&self, data: &ConnectData) -> bool {
+        self.prover.as_ref().map_or(true, |it| it.keys.host(&data.host_id, &data.host_name).is_some())
+    }
+
+    /// Number of proofs in progress for a controller.
+    pub fn proofs_for(&self, index: usize) -> usize {
+        self.prover.as_ref().map_or(0, |it| Rc::strong_count(&it.wanted[index]) - 1)
+    }
+
+    /// The proof that a queue needs, if there are keys. Discovery needs none: nvme-cli 2.3 gives the kernel no secret
+    /// for it.
+    pub fn proof_of(&self, data: &ConnectData, place: Session) -> Option<Proof> {
+        let prover = self.prover.as_ref()?;
+        let count = match place {
+            Session::Controller { index, qid: 0 } => Some(prover.wanted[index].clone()),
+            Session::Controller { .. } => None,
+            Session::None | Session::Unproved | Session::Discovery(_) => return None,
+        };
+        Some(Proof {
+            authentication: Authentication::new(prover.choice),
+            data: data.clone(),
+            host: None,
+            wanted: Some(Wanted { place, _count: count }),
+            waiting: None,
+            life: Arc::new(()),
+        })
+    }
+
+    /// Authentication Send: a message of the host.
+    pub fn take_message(&mut self, queue: &mut HostQueue, entry: &[u8; ENTRY], data: Data<'_>) -> Outcome<Answer> {
+        let mut proof = match queue.proof.take() {
+            Some(proof) => proof,
+            None => return Ok(Answer::of(INVALID_OPCODE)),
+        };
+        let answer = self.take_message_of(queue, &mut proof, entry, data);
+        queue.proof = Some(proof);
+        answer
+    }
+
+    fn take_message_of(
+        &mut self,
+        queue: &mut HostQueue,
+        proof: &mut Proof,
+        entry: &[u8; ENTRY],
+        data: Data<'_>,
+    ) -> Outcome<Answer> {
+        let bytes = match data {
+            Data::ToController(bytes) if bytes.len() == u32_at(entry, 44) as usize => bytes,
+            _ => return Ok(Answer::of(SGL_LENGTH)),
+        };
+        if entry[41..44] != PROTOCOL {
+            return Ok(Answer::of(INVALID_FIELD));
+        }
+        let prover = match &self.prover {
+            Some(prover) => prover,
+            None => return Ok(Answer::of(INVALID_OPCODE)),
+        };
+        let host = prover.keys.host(&proof.data.host_id, &proof.data.host_name);
+        let peers = host.map(|host| Peers { host: host.clone(), subsystem: prover.subsystem.clone() });
+        match proof.authentication.take(bytes, peers) {
+            Taken::Ready => (),
+            Taken::Work(work) => {
+                if matches!(work, Work::Draw(_)) {
+                    proof.host = host.cloned();
+                }
+                prover.worker.begin(queue.connection, &proof.life, work);
+            }
+            Taken::Proved => return self.admit(queue, proof),
+            Taken::Ended(explanation) => {
+                self.say(format_args!("{} ends its authentication, explanation {explanation}", who(proof)));
+                self.end_unproved(queue)?;
+            }
+        }
+        Ok(Answer::of(SUCCESS))
+    }
+
+    /// Authentication Receive: a message to the host. It has no answer yet if the message needs work.
+    pub fn give_message(
+        &mut self,
+        queue: &mut HostQueue,
+        entry: &[u8; ENTRY],
+        data: Data<'_>,
+    ) -> Outcome<Option<Answer>> {
+        let proof = match &mut queue.proof {
+            Some(proof) => proof,
+            None => return Ok(Some(Answer::of(INVALID_OPCODE))),
+        };
+        let length = match data {
+            Data::FromController(length) if length == u32_at(entry, 44) as usize => length,
+            _ => return Ok(Some(Answer::of(SGL_LENGTH))),
+        };
+        if entry[41..44] != PROTOCOL {
+            return Ok(Some(Answer::of(INVALID_FIELD)));
+        }
+        if proof.waiting.is_some() {
+            return Ok(Some(Answer::of(COMMAND_SEQUENCE)));
+        }
+        if proof.authentication.due() == Due::Later {
+            proof.waiting = Some((u16_at(entry, 2), length));
+            return Ok(None);
+        }
+        self.give(queue, length).map(Some)
+    }
+
+    /// Takes the result of a queue's work; the answer to the command that waited for it.
+    pub fn finish_work(&mut self, queue: &mut HostQueue, done: Done) -> Outcome<Option<([u8; ENTRY], Answer)>> {
+        let waiting = match &mut queue.proof {
+            Some(proof) => {
+                proof.authentication.finish(done);
+                proof.waiting.take()
+            }
+            None => None,
+        };
+        match waiting {
+            Some((cid, length)) => self.give(queue, length).map(|answer| Some((receive_entry(cid), answer))),
+            None => Ok(None),
+        }
+    }
+
+    /// Answers Authentication Receive with the next message.
+    fn give(&mut self, queue: &mut HostQueue, length: usize) -> Outcome<Answer> {
+        let mut proof = match queue.proof.take() {
+            Some(proof) => proof,
+            None => return Ok(Answer::of(COMMAND_SEQUENCE)),
+        };
+        let answer = self.give_of(queue, &mut proof, length);
+        queue.proof = Some(proof);
+        answer
+    }
+
+    fn give_of(&mut self, queue: &mut HostQueue, proof: &mut Proof, length: usize) -> Outcome<Answer> {
+        match proof.authentication.due() {
+            Due::Message(bytes) if bytes.len() <= length => (),
+            Due::Message(_) => return Ok(Answer::of(INVALID_FIELD)),
+            Due::Later | Due::Nothing => return Ok(Answer::of(COMMAND_SEQUENCE)),
+        }
+        if proof.authentication.proves_next() && self.admit(queue, proof)?.status != SUCCESS {
+            proof.authentication.fail(Explanation::Failed);
+        }
+        let answer = match proof.authentication.due() {
+            Due::Message(bytes) => Answer::with(bytes, length),
+            Due::Later | Due::Nothing => Answer::of(COMMAND_SEQUENCE),
+        };
+        if let Sent::Failed(explanation) = proof.authentication.sent() {
+            self.say(format_args!("{} has not proved who it is: {explanation:?}", who(proof)));
+            let host = uuid(u128::from_le_bytes(proof.data.host_id));
+            self.log_refused(queue, &host, AUTHENTICATION_REQUIRED, "the host has not proved who it is");
+            self.end_unproved(queue)?;
+        }
+        Ok(answer)
+    }
+
+    /// A host has proved itself: its queue becomes what Connect asked for. It fails if another queue was first, or if
+    /// the host's secret has changed.
+    fn admit(&mut self, queue: &mut HostQueue, proof: &mut Proof) -> Outcome<Answer> {
+        if !self.has_secret_of(proof) {
+            self.end_unproved(queue)?;
+            return Ok(Answer::of(CONNECT_HOST));
+        }
+        self.say(format_args!("{} has proved who it is", who(proof)));
+        let place = match proof.wanted.take() {
+            Some(wanted) => wanted.place,
+            None => return Ok(Answer::of(SUCCESS)),
+        };
+        Ok(match self.take_place(queue, &proof.data, place)? {
+            Ok(()) => {
+                queue.session = place;
+                self.log_connected(queue);
+                Answer::of(SUCCESS)
+            }
+            Err(answer) => {
+                queue.is_over = true;
+                answer
+            }
+        })
+    }
+
+    /// Whether the secret of a proof is still that of its host. The keys may have been read again.
+    fn has_secret_of(&self, proof: &Proof) -> bool {
+        let keys = self.prover.as_ref().map(|it| &it.keys);
+        let host = keys.and_then(|it| it.host(&proof.data.host_id, &proof.data.host_name));
+        match (host, &proof.host) {
+            (Some(now), Some(before)) => now.secret.is_same(&before.secret),
+            _ => false,
+        }
+    }
+
+    /// Ends a queue whose host has failed, and the association if it is the admin queue. The queue's own connection
+    /// stays open until Failure1 is sent.
+    fn end_unproved(&mut self, queue: &mut HostQueue) -> Outcome<()> {
+        queue.is_over = true;
+        match queue.session {
+            Session::Controller { index, qid } if self.is_of(queue.connection, index, qid) => {
+                if qid != 0 {
+                    return self.end_queue(index, qid);
+                }
+                self.associations[index].iter_mut().for_each(|it| it.queues[0] = None);
+                self.end_association(index, "the host has not proved who it is")
+            }
+            _ => Ok(()),
+        }
+    }
+
+    /// The results of work that is finished.
+    pub fn take_finished(&self) -> Vec<Finished> {
+        self.prover.as_ref().map(|it| it.worker.take_finished()).unwrap_or_default()
+    }
+
+    /// Reads the keys again. Hosts without a line are disconnected. Others stay, and need their new secrets when they
+    /// next connect or authenticate. A refused file changes nothing.
+    pub fn read_keys_again(&mut self) -> Outcome<()> {
+        let prover = match &mut self.prover {
+            Some(prover) => prover,
+            None => return Ok(()),
+        };
+        match Keys::read(&prover.path) {
+            Ok(keys) => prover.keys = keys,
+            Err(reason) => {
+                warn(format_args!("the keys stay as they are: {reason}"));
+                return Ok(());
+            }
+        }
+        warn(format_args!("the keys are those of {} now", prover.path.display()));
+        for index in 0..self.associations.len() {
+            let keys = self.prover.as_ref().map(|it| &it.keys);
+            let is_gone = self.associations[index]
+                .as_ref()
+                .map_or(false, |it| keys.map_or(false, |keys| keys.host(&it.host_id, &it.host_name).is_none()));
+            if is_gone {
+                self.end_association(index, "the host has no key any more")?;
+            }
+        }
+        Ok(())
+    }
+
+    /// The hosts of controllers that have no line, and can't connect.
+    pub fn hosts_without_key(&self) -> Vec<String> {
+        let mut hosts: Vec<u128> = self.configuration.hosts();
+        hosts.sort_unstable();
+        hosts.dedup();
+        let has_key = |host: &u128| self.prover.as_ref().map_or(true, |it| it.keys.has_id(&host.to_le_bytes()));
+        hosts.iter().filter(|host| !has_key(host)).map(|host| uuid(*host)).collect()
+    }
+}
+
+/// Names host and queue of a proof, for a message.
+fn who(proof: &Proof) -> String {
+    let (host, qid) = (uuid(u128::from_le_bytes(proof.data.host_id)), proof.data.qid);
+    format!("host {host}, queue {qid},")
+}
+/// The entry of an Authentication Receive.
+fn receive_entry(cid: u16) -> [u8; ENTRY] {
+    let mut entry = [0; ENTRY];
+    entry[0] = FABRICS;
+    entry[2..4].copy_from_slice(&cid.to_le_bytes());
+    entry[4] = AUTHENTICATION_RECEIVE;
+    entry
+}
