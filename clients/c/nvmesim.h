@@ -1,8 +1,8 @@
 /* nvmesim: an NVMe subsystem that several hosts share, as a library.
  *
  * A program opens a subsystem (controllers, namespaces, blocks), stores commands in the memory of its hosts, writes
- * doorbells, and has the controllers fetch and execute. Each call is one event; docs/LIBRARY.md begins with an example,
- * and says what is proved of a call.
+ * doorbells, and has the controllers fetch and execute. Each event is a call; docs/LIBRARY.md begins with an example,
+ * and says what is proved of a call, and what is not.
  *
  * What the caller has to keep, since nothing checks it:
  *  - A struct nvmesim begins as NVMESIM_NONE. Only these calls write it from then on, and it is not copied while it is
@@ -13,7 +13,7 @@
  *  - No pointer is NULL, also not where the count beside it is 0. Each is aligned, and is for as many values as the
  *    count, or the call, says. What a call writes through a pointer overlaps nothing else that it is given. A bool is
  *    false or true.
- *  - Bytes that are lent (nvmesim_open_lent) are left alone until nvmesim_close.
+ *  - Bytes that are lent (nvmesim_open_lent) are left alone until nvmesim_close, or until the opening is refused.
  *  - malloc, realloc and free are those of the C library, or as good.
  * All else that is wrong is an answer: a struct that is not open, an address outside the memory, any command.
  */
@@ -29,7 +29,7 @@ extern "C" {
 #endif
 
 /* The version of this interface, which nvmesim_open compares with the library's. */
-#define NVMESIM_VERSION 1
+#define NVMESIM_VERSION 2
 
 /* A subsystem that is open, or none. */
 typedef struct nvmesim {
@@ -68,7 +68,23 @@ enum {
     NVMESIM_NOT_READY = 29,     /* the controller does not run: its CSTS (1Ch) is not 1 */
     NVMESIM_BUSY = 30,          /* something waits at the queue already, or the controller has 64 commands */
     NVMESIM_NO_NAMESPACE = 31,  /* there is no such namespace */
-    NVMESIM_NO_REGISTRANT = 32  /* there is no such registrant */
+    NVMESIM_NO_REGISTRANT = 32, /* there is no such registrant */
+    NVMESIM_NO_ROOM = 33,       /* the text has more bytes than the buffer, or the array too few places */
+    NVMESIM_NO_LINE = 34,       /* there is no such line, or it does not begin with `?` */
+    NVMESIM_BAD_LINE = 35,      /* a line of the text is outside the grammar, or may not stand where it does */
+    NVMESIM_HAS_EVENT = 36,     /* a line of the text is an event, and a configuration has none */
+    NVMESIM_EMPTY = 37,         /* the configuration has no controller */
+    NVMESIM_TOO_LONG = 38       /* the text has more than 4,194,304 bytes */
+};
+
+/* Which event it is, of a nvmesim_event. */
+enum {
+    NVMESIM_EVENT_STORE = 1,      /* as nvmesim_store does */
+    NVMESIM_EVENT_WRITE32 = 2,    /* nvmesim_write32 */
+    NVMESIM_EVENT_READ32 = 3,     /* nvmesim_read32, of which there is no line */
+    NVMESIM_EVENT_FETCH = 4,      /* nvmesim_fetch */
+    NVMESIM_EVENT_EXECUTE = 5,    /* nvmesim_execute */
+    NVMESIM_EVENT_POWER_CYCLE = 6 /* nvmesim_power_cycle */
 };
 
 /* What an event gave. What does not come with an answer is 0. */
@@ -85,6 +101,7 @@ typedef struct nvmesim_controller {
     uint64_t host_low;  /* the host identifier, its lower 64 bits */
     uint64_t host_high; /* and its higher ones */
     uint16_t cntlid;
+    bool raw;           /* whether its line says `raw`; opening does not ask: each host is raw here */
 } nvmesim_controller;
 
 /* A namespace. */
@@ -146,6 +163,32 @@ typedef struct nvmesim_registered {
     uint32_t what; /* NVMESIM_OK, or why there is none */
 } nvmesim_registered;
 
+/* An event of a script. What its kind does not have is not looked at. */
+typedef struct nvmesim_event {
+    uint64_t at;     /* the address of a store, the offset of a register, or the place of the command to execute */
+    uint32_t kind;   /* one of NVMESIM_EVENT_STORE .. */
+    uint32_t value;  /* what is written to a register */
+    uint16_t cntlid; /* the controller */
+    uint16_t qid;    /* the queue that is fetched from */
+} nvmesim_event;
+
+/* What came of putting a text into a buffer. Where it is not NVMESIM_OK, the buffer is as it was. */
+typedef struct nvmesim_written {
+    size_t length; /* how many bytes the text has, which the buffer begins with; 0 where it is not there */
+    uint32_t what; /* NVMESIM_OK, or why it is not */
+} nvmesim_written;
+
+/* What came of reading a configuration. */
+typedef struct nvmesim_read {
+    size_t controllers; /* how many it has, which their array begins with; 0 where it is refused, here and below */
+    size_t namespaces;
+    size_t attached;
+    size_t line;   /* the number of the line that is at fault, from 1; 0 where none is */
+    size_t column; /* where in that line, in bytes from 1; 0 where none is */
+    size_t length; /* how many bytes the reason has, which its buffer begins with; 0 where it is not there */
+    uint32_t what; /* NVMESIM_OK, or why it is refused */
+} nvmesim_read;
+
 /* The version of the library. */
 uint32_t nvmesim_version(void);
 
@@ -156,15 +199,15 @@ uint32_t nvmesim_open(nvmesim *sim, uint32_t version, const nvmesim_controller *
                       const nvmesim_namespace *namespaces, size_t namespace_count, const nvmesim_attached *attached,
                       size_t attached_count, const uint8_t *bytes, size_t byte_count);
 
-/* The same over the bytes themselves, without a copy: they are lent until nvmesim_close, or until this returns where it
- * answers other than NVMESIM_OK. What a command writes stands in them at once. A Flush calls nothing, since memory has
- * nothing to flush: where the bytes are those of a file (mmap), sync it when a Flush was executed (opcode 00h on an I/O
- * queue), before the completion is handed on. */
+/* The same over the bytes themselves, without a copy: they are lent until nvmesim_close, and what a command writes is in
+ * them when its nvmesim_execute returns. Where this answers other than NVMESIM_OK, they are as they were, and yours
+ * again. A Flush calls nothing, since memory has nothing to flush: where the bytes are those of a file (mmap), sync it
+ * when a Flush was executed (opcode 00h on an I/O queue), before the completion is handed on. */
 uint32_t nvmesim_open_lent(nvmesim *sim, uint32_t version, const nvmesim_controller *controllers,
                            size_t controller_count, const nvmesim_namespace *namespaces, size_t namespace_count,
                            const nvmesim_attached *attached, size_t attached_count, nvmesim_bytes bytes);
 
-/* Closes it, if it is open, and gives its memory back. */
+/* Closes it, if it is open, and gives its memory back. Bytes that were lent are yours again, as the commands left them. */
 void nvmesim_close(nvmesim *sim);
 
 /* The host of a controller stores bytes in its memory, which has 4 MiB: STORED, or OUTSIDE, NO_CONTROLLER, CLOSED. */
@@ -226,6 +269,50 @@ nvmesim_registered nvmesim_registrant(nvmesim *sim, uint32_t nsid, size_t i);
  * answers: as many of its bytes as the buffer takes, and zeros behind them. The result is the length of the name: no
  * name has more than 47 bytes. */
 size_t nvmesim_status_name(uint8_t sct, uint8_t sc, uint8_t *bytes, size_t count);
+
+/* What follows is text: configurations, scripts, transcripts and sessions, as the programs read and write them. No text
+ * ends with a 00h, and each line that is put into a buffer ends with a line feed. */
+
+/* Reads a configuration, the lines of a script before its `start`, and judges it for a medium of so many blocks. `start`
+ * may be missing, and nothing but blank lines and comments may follow it. Arrays of 16, 8 and 128 places have room for
+ * each configuration that is accepted, and 512 bytes for most reasons.
+ *
+ * NVMESIM_OK, and the arrays begin with what nvmesim_open takes. Or, in this order: TOO_LONG; BAD_LINE, of the first
+ * line that is no line of a script or may not stand where it does; TOO_MANY, BAD_ID, BAD_SIZE, DOES_NOT_FIT, of the
+ * first line that breaks the rule; HAS_EVENT, of the first event; EMPTY; or NO_ROOM where an array has too few places.
+ * NO_MEMORY may come in place of each. The arrays are then as they were, and the reason is put into its buffer where
+ * that has room: what the programs print behind the name of the file and a colon, such as
+ * "3:9: word 2: C, a number below 2^16, and not 'a'". */
+nvmesim_read nvmesim_read_configuration(const uint8_t *text, size_t text_count, uint64_t medium_blocks,
+                                        nvmesim_controller *controllers, size_t controller_count,
+                                        nvmesim_namespace *namespaces, size_t namespace_count,
+                                        nvmesim_attached *attached, size_t attached_count, uint8_t *reason,
+                                        size_t reason_count);
+
+/* The lines that describe a configuration, each with its line feed, without `start`: OK, or NO_ROOM, NO_MEMORY. Read,
+ * they give the same. No configuration that is accepted has more than 8,192 bytes. */
+nvmesim_written nvmesim_configuration_lines(const nvmesim_controller *controllers, size_t controller_count,
+                                            const nvmesim_namespace *namespaces, size_t namespace_count,
+                                            const nvmesim_attached *attached, size_t attached_count, uint8_t *lines,
+                                            size_t line_count);
+
+/* The line of a script that says an event, with its line feed; the bytes are those of a store: OK, or NO_ROOM, or NO_LINE
+ * where no line says it: READ32, a store of no bytes, a place above 65,535, another kind. A line has at most 64 bytes and
+ * two for each byte that is stored. */
+nvmesim_written nvmesim_event_line(const nvmesim_event *event, const uint8_t *bytes, size_t count, uint8_t *line,
+                                   size_t line_count);
+
+/* The line of a transcript that tells what an event gave, with its line feed: OK, or NO_ROOM, or NO_LINE where no line
+ * says the event, or the event never gives this answer. A line has at most 64 bytes. */
+nvmesim_written nvmesim_answer_line(const nvmesim_event *event, const nvmesim_answer *answer, uint8_t *line,
+                                    size_t line_count);
+
+/* Answers a line that looks, without its line feed, such as "?queues 1", with the very line of a session of `nvmelive`
+ * over the same subsystem, and its line feed; no host has a driver here. A refusal is an answer as well:
+ * "! line 3 word 2: there is no such controller", where `number` is 3. OK; or NO_LINE where the line does not begin with
+ * `?`, NO_ROOM, NO_MEMORY, CLOSED. A buffer of 262,240 bytes has room for every answer. */
+nvmesim_written nvmesim_look(nvmesim *sim, uint64_t number, const uint8_t *line, size_t count, uint8_t *answer,
+                             size_t answer_count);
 
 #ifdef __cplusplus
 }

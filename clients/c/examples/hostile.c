@@ -154,7 +154,7 @@ int main(int count, char **words) {
     state = strtoull(words[2], NULL, 0) * 2 + 1;
     uint8_t *blocks = mapped(words[3]);
     for (uint16_t i = 0; i < HOSTS; i++) {
-        controllers[i] = (nvmesim_controller){0xa1u + i, i, (uint16_t)(i + 1)};
+        controllers[i] = (nvmesim_controller){0xa1u + i, i, (uint16_t)(i + 1), true};
         attached[i] = (nvmesim_attached){1, (uint16_t)(i + 1)};
         fprintf(lines, "controller %d host 0x%x%016x raw\n", i + 1, i, 0xa1 + i);
     }

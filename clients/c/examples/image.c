@@ -46,7 +46,7 @@ static int submit(uint16_t qid, uint8_t opcode, uint32_t nsid, uint64_t prp1, ui
 }
 
 int main(int count, char **words) {
-    static const nvmesim_controller controllers[] = {{1, 0, 1}};
+    static const nvmesim_controller controllers[] = {{1, 0, 1, false}};
     static const nvmesim_namespace namespaces[] = {{BLOCKS, 1, false}};
     static const nvmesim_attached attached[] = {{1, 1}};
     if (count != 2) {

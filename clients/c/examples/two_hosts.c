@@ -82,7 +82,7 @@ static void tell(const char *what, nvmesim_answer answer) {
 }
 
 int main(void) {
-    static const nvmesim_controller controllers[] = {{0xa1, 0, 1}, {0xb2, 0, 2}};
+    static const nvmesim_controller controllers[] = {{0xa1, 0, 1, true}, {0xb2, 0, 2, true}};
     static const nvmesim_namespace namespaces[] = {{64, 1, true}};
     static const nvmesim_attached attached[] = {{1, 1}, {1, 2}};
     static const uint8_t zeros[64 * 512];

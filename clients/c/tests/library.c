@@ -17,7 +17,7 @@ static int failures;
 enum { CC = 0x14, CSTS = 0x1c, AQA = 0x24, ASQ = 0x28, ACQ = 0x30, DOORBELLS = 0x1000 };
 enum { ADMIN_CQ = 0x1000, IO_SQ = 0x2000, IO_CQ = 0x3000, DATA = 0x10000, ENTRIES = 16, WINDOW = 4194304 };
 
-static const nvmesim_controller two[] = {{0xa1, 0, 1}, {0xb2, 0xc3, 2}};
+static const nvmesim_controller two[] = {{0xa1, 0, 1, true}, {0xb2, 0xc3, 2, false}};
 static const nvmesim_namespace shared[] = {{64, 1, true}};
 static const nvmesim_attached both[] = {{1, 1}, {1, 2}};
 static const uint8_t zeros[64 * 512];
@@ -83,12 +83,12 @@ static void closed(void) {
 /* What is wrong with a configuration is told by its first fault, and nothing is opened. */
 static void configurations(void) {
     nvmesim sim = NVMESIM_NONE;
-    const nvmesim_controller unnumbered[] = {{0xa1, 0, 2}}, hostless[] = {{0, 0, 1}};
+    const nvmesim_controller unnumbered[] = {{0xa1, 0, 2, true}}, hostless[] = {{0, 0, 1, true}};
     const nvmesim_namespace ninth[] = {{64, 9, true}}, empty[] = {{0, 1, true}}, larger[] = {{65, 1, true}};
     const nvmesim_attached unknown[] = {{1, 3}};
     nvmesim_controller many[17];
     for (uint16_t i = 0; i < 17; i++)
-        many[i] = (nvmesim_controller){1, 0, (uint16_t)(i + 1)};
+        many[i] = (nvmesim_controller){1, 0, (uint16_t)(i + 1), true};
 #define OPENED(version, controllers, n, namespaces, attached, m) \
     nvmesim_open(&sim, version, controllers, n, namespaces, 1, attached, m, zeros, sizeof zeros)
     CHECK(OPENED(NVMESIM_VERSION + 1, two, 2, shared, both, 2) == NVMESIM_BAD_VERSION);
@@ -132,6 +132,42 @@ static void refusals(void) {
     nvmesim_close(&sim);
 }
 
+/* Lent bytes are the medium: what a command writes stands in them at once. An opening that is refused, or that finds one
+ * open, leaves all of them as they were, and so does a close. */
+static void lent(void) {
+    nvmesim sim = NVMESIM_NONE;
+    static uint8_t bytes[64 * 512], wanted[64 * 512];
+    const nvmesim_controller unnumbered[] = {{0xa1, 0, 2, false}};
+    const nvmesim_namespace ninth[] = {{64, 9, true}}, empty[] = {{0, 1, true}}, larger[] = {{65, 1, true}};
+    const nvmesim_attached unknown[] = {{1, 3}};
+    uint8_t command[64], block[512];
+    for (size_t i = 0; i < sizeof bytes; i++)
+        bytes[i] = wanted[i] = (uint8_t)(7 * i + 1);
+#define OPENED(version, controllers, namespaces, attached) \
+    nvmesim_open_lent(&sim, version, controllers, 1, namespaces, 1, attached, 1, (nvmesim_bytes){bytes, sizeof bytes})
+#define KEPT(holds) CHECK((holds) && memcmp(bytes, wanted, sizeof bytes) == 0)
+    KEPT(OPENED(NVMESIM_VERSION + 1, two, shared, both) == NVMESIM_BAD_VERSION);
+    KEPT(OPENED(NVMESIM_VERSION, unnumbered, shared, both) == NVMESIM_BAD_ID);
+    KEPT(OPENED(NVMESIM_VERSION, two, ninth, both) == NVMESIM_BAD_ID);
+    KEPT(OPENED(NVMESIM_VERSION, two, shared, unknown) == NVMESIM_BAD_ID);
+    KEPT(OPENED(NVMESIM_VERSION, two, empty, both) == NVMESIM_BAD_SIZE);
+    KEPT(OPENED(NVMESIM_VERSION, two, larger, both) == NVMESIM_DOES_NOT_FIT);
+    KEPT(OPENED(NVMESIM_VERSION, two, shared, both) == NVMESIM_OK);
+    KEPT(OPENED(NVMESIM_VERSION, two, shared, both) == NVMESIM_ALREADY_OPEN);
+    up(&sim, 1);
+    memset(block, 0x5a, sizeof block);
+    CHECK(nvmesim_store(&sim, 1, DATA, block, sizeof block).what == NVMESIM_STORED);
+    entry(command, 0x01, 1, DATA, 9, 0);
+    KEPT(nvmesim_write32(&sim, 1, 0x9999, 1).what == NVMESIM_WROTE);
+    CHECK(by_calls(&sim, 1, 1, 0, command).what == NVMESIM_POSTED);
+    memcpy(wanted + 9 * 512, block, sizeof block);
+    KEPT(nvmesim_power_cycle(&sim).what == NVMESIM_CYCLED);
+    nvmesim_close(&sim);
+    KEPT(!sim.is_open);
+#undef OPENED
+#undef KEPT
+}
+
 /* Two subsystems at a time have nothing in common, and sixteen controllers with the largest namespaces work. */
 static void largest(void) {
     enum { COUNT = 16, BLOCKS = 65536 };
@@ -140,7 +176,7 @@ static void largest(void) {
     nvmesim_namespace namespaces[2] = {{BLOCKS, 1, true}, {BLOCKS, 8, true}};
     nvmesim_attached attached[COUNT];
     for (uint16_t i = 0; i < COUNT; i++) {
-        controllers[i] = (nvmesim_controller){i + 1u, 5, (uint16_t)(i + 1)};
+        controllers[i] = (nvmesim_controller){i + 1u, 5, (uint16_t)(i + 1), true};
         attached[i] = (nvmesim_attached){8, (uint16_t)(i + 1)};
     }
     size_t size = (size_t)2 * BLOCKS * 512;
@@ -339,6 +375,93 @@ static void names(void) {
     CHECK(0x10000 - unlisted == 25);
 }
 
+/* Whether a text was written that is this one, and the buffer has 7s behind it. */
+static bool is_text(nvmesim_written it, const uint8_t *buffer, const char *text) {
+    size_t count = strlen(text);
+    return it.what == NVMESIM_OK && it.length == count && !memcmp(buffer, text, count) && buffer[count] == 7;
+}
+
+static const char described[] = "controller 1 host 0xa1 raw\ncontroller 2 host 0xc300000000000000b2\n"
+                                "namespace 1 blocks 64 shared\nattached 1 1\nattached 2 1\n";
+
+static const char too_few[] = "3:1: namespace 1 ends behind the 63 blocks of the medium, where the namespaces lie one "
+                              "after the other";
+
+/* A configuration is read, and written as it was read; one that is refused is told by its place and its reason, as far
+ * as there is room, and the arrays are as they were. */
+static void texts(void) {
+    nvmesim_controller controllers[16];
+    nvmesim_namespace namespaces[8];
+    nvmesim_attached attached[128];
+    uint8_t text[8192], reason[128];
+    memset(text, 7, sizeof text);
+    nvmesim_written lines = nvmesim_configuration_lines(two, 2, shared, 1, both, 2, text, sizeof text);
+    CHECK(is_text(lines, text, described));
+    lines = nvmesim_configuration_lines(two, 2, shared, 1, both, 2, text, sizeof described - 2);
+    CHECK(lines.what == NVMESIM_NO_ROOM && lines.length == 0);
+    memset(reason, 7, sizeof reason);
+    memset(controllers, 7, sizeof controllers);
+#define READ(count, blocks, most, room) \
+    nvmesim_read_configuration(text, count, blocks, controllers, most, namespaces, 8, attached, 128, reason, room)
+    nvmesim_read read = READ(sizeof described - 1, 64, 1, sizeof reason);
+    CHECK(read.what == NVMESIM_NO_ROOM && controllers[0].host_low == UINT64_C(0x0707070707070707));
+    read = READ(sizeof described - 1, 63, 16, sizeof reason);
+    CHECK(read.what == NVMESIM_DOES_NOT_FIT && read.line == 3 && read.column == 1 && read.controllers == 0);
+    CHECK(read.length == sizeof too_few - 1 && !memcmp(reason, too_few, read.length) && reason[read.length] == 7);
+    CHECK(controllers[0].host_low == UINT64_C(0x0707070707070707));
+    memset(reason, 7, sizeof reason);
+    read = READ(sizeof described - 1, 63, 16, sizeof too_few - 2);
+    CHECK(read.what == NVMESIM_DOES_NOT_FIT && read.line == 3 && read.length == 0 && reason[0] == 7);
+    read = READ(sizeof described - 1, 64, 16, sizeof reason);
+    CHECK(read.what == NVMESIM_OK && read.line == 0 && read.column == 0 && read.length == 0 && reason[0] == 7);
+    CHECK(read.controllers == 2 && read.namespaces == 1 && read.attached == 2 && controllers[2].cntlid == 0x0707);
+    CHECK(controllers[1].host_low == 0xb2 && controllers[1].host_high == 0xc3 && controllers[1].cntlid == 2);
+    CHECK(controllers[0].raw && !controllers[1].raw && attached[1].cntlid == 2 && attached[1].nsid == 1);
+    CHECK(namespaces[0].blocks == 64 && namespaces[0].nsid == 1 && namespaces[0].shared);
+    CHECK(READ(0, 64, 16, sizeof reason).what == NVMESIM_EMPTY);
+#undef READ
+}
+
+/* Lines of scripts and of transcripts. */
+static void spelled(void) {
+    uint8_t line[64];
+    const uint8_t bytes[] = {0, 0xaf};
+    const nvmesim_event store = {4096, NVMESIM_EVENT_STORE, 0, 1, 0}, fetch = {0, NVMESIM_EVENT_FETCH, 0, 2, 3},
+                        reading = {0, NVMESIM_EVENT_READ32, 0, 1, 0}, none = {0, 99, 0, 1, 0};
+    memset(line, 7, sizeof line);
+    CHECK(is_text(nvmesim_event_line(&store, bytes, 2, line, sizeof line), line, "store 1 4096 hex:00af\n"));
+    memset(line, 7, sizeof line);
+    CHECK(nvmesim_event_line(&store, bytes, 2, line, 21).what == NVMESIM_NO_ROOM && line[0] == 7);
+    CHECK(nvmesim_event_line(&store, bytes, 0, line, sizeof line).what == NVMESIM_NO_LINE && line[0] == 7);
+    CHECK(nvmesim_event_line(&reading, bytes, 0, line, sizeof line).what == NVMESIM_NO_LINE);
+    CHECK(nvmesim_event_line(&none, bytes, 0, line, sizeof line).what == NVMESIM_NO_LINE && line[0] == 7);
+    CHECK(is_text(nvmesim_event_line(&fetch, bytes, 0, line, sizeof line), line, "fetch 2 3\n"));
+    memset(line, 7, sizeof line);
+    nvmesim_answer answer = {0, NVMESIM_TOOK, 0, 0, 0};
+    CHECK(is_text(nvmesim_answer_line(&fetch, &answer, line, sizeof line), line, "fetch 2 3 took\n"));
+    CHECK(nvmesim_answer_line(&store, &answer, line, sizeof line).what == NVMESIM_NO_LINE);
+}
+
+/* Lines that look, with the answers of a session. */
+static void lines(void) {
+    nvmesim sim = NVMESIM_NONE;
+    uint8_t answer[262240];
+#define LOOK(line, count) \
+    (memset(answer, 7, sizeof answer), nvmesim_look(&sim, 3, (const uint8_t *)(line), strlen(line), answer, count))
+    CHECK(LOOK("?attached", sizeof answer).what == NVMESIM_CLOSED && answer[0] == 7);
+    CHECK(open_two(&sim) == NVMESIM_OK);
+    CHECK(LOOK("fetch 1 0", sizeof answer).what == NVMESIM_NO_LINE && answer[0] == 7);
+    CHECK(LOOK("", sizeof answer).what == NVMESIM_NO_LINE && answer[0] == 7);
+    CHECK(LOOK("?fetched 1", 9).what == NVMESIM_NO_ROOM && answer[0] == 7);
+    CHECK(is_text(LOOK("?fetched 1", 10), answer, "fetched 1\n"));
+    CHECK(is_text(LOOK("?register 1 28", sizeof answer), answer, "register 1 28 0x00000000\n"));
+    CHECK(is_text(LOOK("?blocks 1 63 1", sizeof answer), answer, "blocks 1 63 1 -\n"));
+    CHECK(is_text(LOOK("?queues 3", sizeof answer), answer, "! line 3 word 2: there is no such controller\n"));
+    CHECK(is_text(LOOK("?fetched", sizeof answer), answer, "! line 3 word 1: the line is ?fetched C\n"));
+    nvmesim_close(&sim);
+#undef LOOK
+}
+
 /* What is opened is given back: valgrind and the sanitizer see what is not, and the address space can't hold them all.
  * Two controllers have 8 MiB of windows; without a controller there are the blocks. */
 static void again(int count) {
@@ -359,6 +482,7 @@ int main(int count, char **words) {
     closed();
     configurations();
     refusals();
+    lent();
     largest();
     full();
     submitting();
@@ -366,6 +490,9 @@ int main(int count, char **words) {
     looks();
     reservations();
     names();
+    texts();
+    spelled();
+    lines();
     again(count > 1 ? atoi(words[1]) : 100);
     return failures ? 1 : 0;
 }

@@ -1,25 +1,26 @@
-"""CONFIG: the lines of a script before its `start`, which describe the subsystem."""
+"""CONFIG: the lines of a script before its `start`, which describe the subsystem. The programs read them: nvmesim says
+what is wrong with them, and nvmelive answers `?line` by each line in one form."""
+import subprocess
 from dataclasses import dataclass, field
-from typing import Dict, List, Set
+from pathlib import Path
+from typing import Any, Callable, Dict, List, Optional, Set
 
 from nvmelab.faults import LabFault
 
 BLOCK_BYTES = 512
+# A medium that has room for each configuration: 8 namespaces of 65,536 blocks.
+LARGEST_MEDIUM = 8 * 65_536 * BLOCK_BYTES
+SETTING_UP = ("controller", "namespace", "attached")
 
-
-def number_of(word: str) -> int:
-    """A number as scripts spell it: decimal, or 0x and hexadecimal digits."""
-    is_hexadecimal = word[:2] == "0x"
-    digits = word[2:] if is_hexadecimal else word
-    if not digits.isascii() or not digits.isalnum():
-        raise ValueError(word)
-    return int(digits, 16 if is_hexadecimal else 10)
+# Answers lines, each by one.
+Ask = Callable[[List[str]], List[str]]
+# Says why a script is refused, or None: its text.
+Judge = Callable[[str], Optional[str]]
 
 
 @dataclass
 class Configuration:
-    """The lines as they were written and as they are handed to the subsystem, and what the lab has to know of them."""
-    lines: List[str] = field(default_factory=list)
+    """The lines that are handed to the subsystem, as many as CONFIG has, and what the lab has to know of them."""
     handed: List[str] = field(default_factory=list)
     # The host of each controller, those controllers whose host has a driver, and the size of each namespace in blocks.
     hosts: Dict[int, int] = field(default_factory=dict)
@@ -34,45 +35,87 @@ class Configuration:
     def controllers_of(self, host: int) -> List[int]:
         return [cntlid for cntlid, its_host in sorted(self.hosts.items()) if its_host == host]
 
-
-def read_line(configuration: Configuration, line: str, has_drivers: bool) -> str:
-    """Takes one line in; what it is handed on as. A host has a driver where drivers are wanted and its line does not
-    end in `raw`; else the lab itself is its software, and it is handed on as a raw host.
-
-    Lines are judged by the subsystem; what is not understood here is handed on as it stands.
-    """
-    words = line.split()
-    try:
-        if len(words) >= 4 and words[0] == "controller" and words[2] == "host":
-            cntlid = number_of(words[1])
-            configuration.hosts[cntlid] = number_of(words[3])
-            if len(words) == 4 and not has_drivers:
-                words.append("raw")
+    def take(self, words: List[str], has_drivers: bool) -> None:
+        """Takes a line in, by its words as nvmelive answers them. A host has a driver if drivers are wanted and its line
+        does not end in `raw`; else the lab itself is its software, and it is handed on as a raw host."""
+        if words[0] == "controller":
+            cntlid = int(words[1])
+            self.hosts[cntlid] = int(words[3], 16)
+            if len(words) == 4 and has_drivers:
+                self.drivers.add(cntlid)
             elif len(words) == 4:
-                configuration.drivers.add(cntlid)
-            return " ".join(words)
-        if len(words) == 5 and words[0] == "namespace" and words[2] == "blocks":
-            configuration.blocks[number_of(words[1])] = number_of(words[3])
-    except ValueError:
-        pass
-    return line
+                words = [*words, "raw"]
+        elif words[0] == "namespace":
+            self.blocks[int(words[1])] = int(words[3])
+        self.handed.append(" ".join(words))
+
+    def packed(self) -> Dict[str, Any]:
+        """The same for a file of options."""
+        return {"handed": self.handed, "hosts": [*self.hosts.items()], "drivers": sorted(self.drivers),
+                "blocks": [*self.blocks.items()]}
+
+    @classmethod
+    def unpacked(cls, packed: Dict[str, Any]) -> "Configuration":
+        return cls(packed["handed"], dict(packed["hosts"]), set(packed["drivers"]), dict(packed["blocks"]))
 
 
-def read_configuration(text: str, name: str, has_drivers: bool) -> Configuration:
-    """Reads CONFIG. A last `start` may stand there; nothing may stand behind it."""
-    configuration = Configuration()
+def judge_by(program: str, room: Path, medium_bytes: int, name: str) -> Judge:
+    """Judges scripts by nvmesim, over zeros of so many bytes, with files in a folder; the reason names the script so."""
+    medium, script = room / "medium", room / "script"
+
+    def judge(text: str) -> Optional[str]:
+        script.write_bytes(text.encode("ascii", "surrogateescape"))
+        with open(medium, "wb") as file:
+            file.truncate(medium_bytes)
+        try:
+            done = subprocess.run([program, str(medium), str(script)], stdin=subprocess.DEVNULL,
+                                  stdout=subprocess.DEVNULL, stderr=subprocess.PIPE)
+        except OSError as fault:
+            raise LabFault(f"{program} can't be run: {fault.strerror}") from fault
+        finally:
+            medium.unlink()
+            script.unlink()
+        told = done.stderr.decode("utf-8", "replace").splitlines() or [f"{program} has ended with {done.returncode}"]
+        return told[-1].replace(str(script), name) if done.returncode != 0 else None
+
+    return judge
+
+
+def answered(name: str, lines: List[str], ask: Ask) -> List[List[str]]:
+    """The words of each line in one form; none for a line that is not understood."""
+    answers = ask([f"?line {line}" for line in lines])
+    for number, answer in enumerate(answers, 1):
+        if not answer.startswith(("line ", "! ")):
+            raise LabFault(f"{name} line {number}: the program answers `{answer[:100]}`")
+    return [answer.split()[1:] if answer.startswith("line ") else [] for answer in answers]
+
+
+def column_of(line: str) -> int:
+    """Where a line's first word begins, from 1."""
+    return len(line) - len(line.lstrip(" \t\r")) + 1
+
+
+def read_configuration(text: str, name: str, has_drivers: bool, ask: Ask, judge: Judge) -> Configuration:
+    """Reads CONFIG, or says what is wrong with it, as `FILE:LINE:COLUMN: REASON`. `start` may be missing, and nothing but
+    comments may follow it."""
     lines = text.split("\n")
-    starts = [n for n, line in enumerate(lines) if line.split() == ["start"]]
-    if starts:
-        behind = [n for n in range(starts[0] + 1, len(lines)) if lines[n].strip() and not lines[n].startswith("#")]
-        if behind:
-            raise LabFault(f"{name} line {behind[0] + 1}: a lab takes the lines before `start` alone")
-        lines = lines[:starts[0]]
-    while lines and not lines[-1].strip():
-        lines.pop()
-    configuration.lines = lines
-    configuration.handed = [line if line.startswith("#") else read_line(configuration, line, has_drivers)
-                            for line in lines]
+    said = answered(name, lines, ask)
+    reason = judge(text if ["start"] in said else f"{text}\nstart\n")
+    if reason is not None:
+        raise LabFault(reason)
+    configuration = Configuration()
+    is_started = False
+    for number, (line, words) in enumerate(zip(lines, said), 1):
+        if not words:
+            raise LabFault(f"{name}:{number}:1: the line is too long for a lab")
+        if words != ["blank"] and words[0] not in (*SETTING_UP, "start"):
+            place = f"{name}:{number}:{column_of(line)}"
+            raise LabFault(f"{place}: this line is an event, and a configuration has none")
+        is_started = is_started or words == ["start"]
+        if not is_started and words == ["blank"]:
+            configuration.handed.append(line)
+        elif not is_started:
+            configuration.take(words, has_drivers)
     if not configuration.hosts:
-        raise LabFault(f"{name} has no controller: a line is `controller 1 host 0xa1`")
+        raise LabFault(f"{name}:1:1: there is no controller; add a line 'controller 1 host 1'")
     return configuration

@@ -16,8 +16,9 @@ from pathlib import Path
 from typing import Dict, List, Optional
 
 from nvmelab import server
-from nvmelab.configuration import Configuration, read_configuration
+from nvmelab.configuration import LARGEST_MEDIUM, Configuration, judge_by, read_configuration
 from nvmelab.faults import LabFault
+from nvmelab.subsystem import Subsystem
 
 PACKAGE = Path(__file__).resolve().parent.parent
 # What the server tells while it starts is shown where it takes longer than this: the program is being built.
@@ -42,11 +43,19 @@ def base_folder() -> Path:
     return base
 
 
+def simulator_of(program: str) -> str:
+    """The nvmesim that judges CONFIG: the one that NVMESIM names, or else the one beside this nvmelive."""
+    found = os.environ.get("NVMESIM", "") or str(Path(program).with_name("nvmesim"))
+    if not os.access(found, os.X_OK):
+        raise LabFault(f"there is no program {found}, which judges CONFIG; the variable NVMESIM names one")
+    return str(Path(found).resolve())
+
+
 @dataclass
 class Lab:
-    """The lab of one CONFIG: its lines, its options, and where it lies."""
+    """The lab of one CONFIG: its text, its options, and where it lies."""
     name: str
-    configuration: Configuration
+    text: str
     program: List[str]
     image: Optional[str]
     script: Optional[str]
@@ -61,8 +70,8 @@ class Lab:
         except OSError as fault:
             raise LabFault(f"{name} can't be read: {fault.strerror}") from fault
         digest = hashlib.sha256(str(path).encode("utf-8", "surrogateescape")).hexdigest()[:16]
-        return cls(name, read_configuration(text, name, has_drivers), program, image and str(Path(image).resolve()),
-                   script and str(Path(script).resolve()), has_drivers, base_folder() / digest)
+        return cls(name, text, program, image and str(Path(image).resolve()), script and str(Path(script).resolve()),
+                   has_drivers, base_folder() / digest)
 
     @property
     def folder(self) -> Path:
@@ -79,8 +88,7 @@ class Lab:
     @property
     def options(self) -> Dict[str, object]:
         """What a second lab of the same CONFIG must not say otherwise."""
-        return {"lines": self.configuration.lines, "image": self.image, "script": self.script,
-                "drivers": self.has_drivers}
+        return {"text": self.text, "image": self.image, "script": self.script, "drivers": self.has_drivers}
 
     def join(self, host: str) -> Path:
         """Joins the lab as a host, with this process as one that uses it; it is started where it does not run. Gives
@@ -131,9 +139,9 @@ class Lab:
                 return None
 
     def compare(self) -> None:
-        """A lab that runs already has lines and options of its own; they must be those that are asked for."""
+        """A lab that runs already has a CONFIG and options of its own; they must be those that are asked for."""
         running = json.loads((self.folder / "options").read_text())
-        if running["lines"] != self.configuration.lines:
+        if running["text"] != self.text:
             raise LabFault(f"{self.name} has changed since its lab was started, which still runs")
         for option in ("image", "script"):
             wanted = self.options[option]
@@ -147,15 +155,21 @@ class Lab:
         shutil.rmtree(self.folder, ignore_errors=True)
         try:
             self.folder.mkdir(mode=0o700)
-            (self.folder / "options").write_text(json.dumps({**self.options, "token": secrets.token_hex(8)}))
-            image = self.image or self.make_image()
+            configuration = self.read()
+            options = {**self.options, "configuration": configuration.packed(), "token": secrets.token_hex(8)}
+            (self.folder / "options").write_text(json.dumps(options))
+            image = self.image or self.make_image(configuration.image_bytes)
             words = [sys.executable, "-c", "from nvmelab.main import serve_here; serve_here()", str(self.folder),
                      str(self.lock), self.name, image, self.script or "", *self.program]
             with open(self.log, "wb") as log:
                 started = subprocess.Popen(words, cwd="/", env=server_environment(), stdin=subprocess.DEVNULL,
                                           stdout=subprocess.PIPE, stderr=log, start_new_session=True)
         except OSError as fault:
+            shutil.rmtree(self.folder, ignore_errors=True)
             raise LabFault(f"the lab can't be started: {fault.strerror}: {fault.filename}") from fault
+        except LabFault:
+            shutil.rmtree(self.folder, ignore_errors=True)
+            raise
         try:
             said = self.wait_for(started)
         except BaseException:
@@ -163,14 +177,33 @@ class Lab:
             raise
         if said != "ready":
             started.wait()
-            raise LabFault(said or f"the lab has not started; what it said is in {self.log}")
+            raise LabFault(self.reason(said))
         started.returncode = 0
 
-    def make_image(self) -> str:
+    def reason(self, said: str) -> str:
+        """Why the server has not started: what the program told last if it has ended, as over an image in use."""
+        told = [it for it in self.log.read_text(errors="replace").splitlines() if it.startswith("nvmelive: ")]
+        if told and said.startswith("the program has ended"):
+            # The lab itself can't wait for an image.
+            return told[-1].removesuffix("; --wait waits for it")
+        return said or f"the lab has not started; what it said is in {self.log}"
+
+    def read(self) -> Configuration:
+        """Reads CONFIG by the programs, over zeros as long as the image."""
+        length = os.path.getsize(self.image) if self.image else LARGEST_MEDIUM
+        judge = judge_by(simulator_of(self.program[0]), self.folder, length, self.name)
+        reader = Subsystem(self.program, "-")
+        try:
+            # There is no limit of time: the program may be built first.
+            return read_configuration(self.text, self.name, self.has_drivers, lambda it: reader.ask(it, None), judge)
+        finally:
+            reader.end()
+
+    def make_image(self, length: int) -> str:
         """A file of zeros for the blocks, which takes no room until they are written, and goes with the lab."""
         image = self.folder / "image"
         with open(image, "wb") as file:
-            file.truncate(self.configuration.image_bytes)
+            file.truncate(length)
         return str(image)
 
     def wait_for(self, started: "subprocess.Popen[bytes]") -> str:

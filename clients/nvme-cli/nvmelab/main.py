@@ -6,7 +6,8 @@ from dataclasses import dataclass, field
 from pathlib import Path
 from typing import List, NoReturn, Optional
 
-from nvmelab import configuration, server
+from nvmelab import server
+from nvmelab.configuration import Configuration
 from nvmelab.faults import LabFault
 from nvmelab.joining import Lab
 from nvmelab.library import library
@@ -29,7 +30,8 @@ the last of their COMMANDs.
                     without it all hosts are raw, and commands are as COMMAND makes them
 --image IMAGE       keep the blocks in this file, which must be long enough; without it they are gone after the lab
 --script FILE       write everything that happens as a script, which nvmesim can run again
---program PROGRAM   run this nvmelive; without it ./nvmelive of this repository, which is built on first use
+--program PROGRAM   run this nvmelive, with the nvmesim beside it; without it ./nvmelive of this repository, which is
+                    built on first use
 
 --power-cycle       power is lost in the whole subsystem of the lab of CONFIG, which has to run, and comes back; the
                     hosts bring their controllers up again
@@ -85,7 +87,7 @@ def take_apart(given: List[str]) -> Words:
 
 def host_name(word: str) -> str:
     try:
-        return f"{configuration.number_of(word):#x}"
+        return f"{int(word, 16 if word.startswith('0x') else 10):#x}"
     except ValueError as fault:
         raise LabFault(f"--host {word} is no number") from fault
 
@@ -166,6 +168,6 @@ def serve_here() -> NoReturn:
     import json
     folder, lock, name, image, script, *program = sys.argv[1:]
     options = json.loads((Path(folder) / "options").read_text())
-    read = configuration.read_configuration("\n".join(options["lines"]), name, options["drivers"])
+    read = Configuration.unpacked(options["configuration"])
     place = server.Place(Path(folder), Path(lock), options["token"])
     sys.exit(server.serve(place, read, name, program, image, Path(script) if script else None))

@@ -18,7 +18,7 @@ from pathlib import Path
 from typing import Callable, Dict, List, Optional
 
 from nvmelab import entries, protocol
-from nvmelab.configuration import Configuration, number_of
+from nvmelab.configuration import Configuration
 from nvmelab.driver_host import DriverHost
 from nvmelab.faults import Ended, LabFault
 from nvmelab.host import Host, NoQueue
@@ -204,7 +204,7 @@ class Server:
         if wanted == ALL_HOSTS:
             cntlids = sorted(self.hosts)
         else:
-            cntlids = self.configuration.controllers_of(number_of(wanted))
+            cntlids = self.configuration.controllers_of(int(wanted, 16))
         if not cntlids:
             return None
         folder = self.place.folder / "hosts" / wanted

@@ -27,16 +27,11 @@ class Subsystem:
         os.set_blocking(self.process.stdin.fileno(), False)
 
     def start(self, configuration: Configuration, name: str) -> None:
-        """Describes the subsystem and starts it. There is no limit of time: the program may be built first."""
-        answers = self.ask([*configuration.handed, "start"], seconds=None)
-        for number, (line, answer) in enumerate(zip(configuration.lines, answers), 1):
-            # What is not understood is told with the number of its line, which is that of CONFIG.
-            if answer.startswith("! "):
-                raise LabFault(f"{name} {answer[2:]}")
-            if answer != "ok":
-                raise LabFault(f"{name} line {number}: `{line.strip()}` is answered `{answer}`")
-        if answers[-1] != "started":
-            raise LabFault(f"{name}: {answers[-1]}")
+        """Describes the subsystem and starts it."""
+        lines = [*configuration.handed, "start"]
+        for line, answer in zip(lines, self.ask(lines, seconds=None)):
+            if answer not in ("ok", "started"):
+                raise LabFault(f"{name}: `{line.strip()}` is answered `{answer}`")
 
     def ask(self, lines: List[str], seconds: Optional[float] = ANSWER_SECONDS) -> List[str]:
         """Hands lines in, all at once, and gives the answer of each."""

@@ -1,4 +1,5 @@
 """Trials of the lab itself: what lasts and what does not, what it says when it can't, and that it disturbs nobody."""
+import fcntl
 import json
 import os
 import re
@@ -17,6 +18,22 @@ ORDINARY = (
     "ls -U /etc | wc -l", "cat; exit 3", "kill -TERM $$",
 )
 
+
+# Each CONFIG that is refused, and what is said behind its name and a colon.
+REFUSED = (
+    ("", "1:1: there is no controller; add a line 'controller 1 host 1'"),
+    ("controller 1 host 1\nnamespace 1 blocks 0 shared\n", "2:1: namespace 1 has no blocks"),
+    ("controller 1 host 1\nnamspace 1\n", "2:1: there is no line 'namspace'; did you mean 'namespace'?"),
+    ("controller 1 host a1\n", "1:19: word 4: H, a number below 2^128, and not 'a1'; did you mean '0xa1'?"),
+    ("controller 1 host 1\nup 1\n", "2:1: up needs a 'start' before it, and there is none"),
+    ("controller 1 host 1\nstart\n\n\tup 1\n", "4:2: this line is an event, and a configuration has none"),
+    ("controller 1 host 1\nstart\nattached 1 1\n", "3:1: attached stands before 'start', which was said already"),
+    ("controller 2 host 1\n", "1:1: controller 1 has to stand here, and not 2: they are counted from 1"),
+    ("controller 1 host 1\nnamespace 1 blocks 18446744073709551615 shared\n",
+     "2:1: namespace 1 has 18446744073709551615 blocks, and 65536 is the most"),
+    ("controller 1 host 1\x0b\n",
+     "1:20: the byte \\x0b is neither a visible character nor a space, a tab or a carriage return"),
+)
 
 # What people do with a block device, and what comes of it; the last ones are tried where the program is installed.
 DISKS = (
@@ -80,9 +97,16 @@ def images(bench: Bench) -> None:
     """An image keeps the blocks; a script of all that happened runs again, and ends as the lab did."""
     for drivers in ([], ["--drivers"]):
         kept_and_run_again(bench, drivers)
+    held = bench.place / "held"
+    with open(held, "wb") as file:
+        file.truncate((2048 + 64) * 512)
+        fcntl.flock(file, fcntl.LOCK_EX)
+        said = f"nvmelive: '{held}' is in use: process {os.getpid()} ({Path('/proc/self/comm').read_text().strip()}) "
+        expect_fault(bench, ["--image", str(held)], f"{said}holds its lock")
     small = bench.place / "small"
     small.write_bytes(bytes(512))
-    expect_fault(bench, ["--image", str(small)], "refused line 9: DoesNotFit", whole=False)
+    expect_fault(bench, ["--image", str(small)], f"{CONFIG}:4:1: namespace 1 ends behind the 1 blocks of the medium, "
+                 "where the namespaces lie one after the other")
 
 
 def kept_and_run_again(bench: Bench, drivers: "list[str]") -> None:
@@ -199,6 +223,9 @@ def faults(bench: Bench) -> None:
     absent = str(bench.place / "absent")
     expect_fault(bench, ["--program", absent], f"{absent} is no program; --program names an nvmelive")
     expect_fault(bench, ["--program", "/bin/true"], "the program has ended", whole=False)
+    bench.others["NVMESIM"] = absent
+    expect_fault(bench, [], f"there is no program {absent}, which judges CONFIG; the variable NVMESIM names one")
+    del bench.others["NVMESIM"]
     parrot = bench.place / "parrot"
     parrot.write_text("#!/bin/sh\nexec cat\n")
     parrot.chmod(0o755)
@@ -209,13 +236,13 @@ def faults(bench: Bench) -> None:
     expect_fault(bench, ["--hosts"], "there is no option --hosts; --help says which there are")
     expect_fault(bench, [], f"{absent} can't be read: No such file or directory", config=Path(absent))
     config = bench.place / "config.nvme"
-    for text, said in (
-            ("", "has no controller"), ("controller 1 host 1\nnamespace 1 blocks 0 shared\n", "BadSize"),
-            ("controller 1 host 1\nnamspace 1\n", "line 2 word 1: "),
-            ("controller 1 host 1\nstart\nup 1\n", "line 3: a lab takes the lines before `start` alone"),
-            ("controller 2 host 1\n", "BadId")):
+    for text, said in REFUSED:
         config.write_text(text)
-        expect_fault(bench, [], said, whole=False, config=config)
+        expect_fault(bench, [], f"{config}:{said}", config=config)
+    bench.wait_over()
+    config.write_text("# \u00e9\n\tcontroller  1 host\t010 \r\n\nnamespace 0x1 blocks 0x10 shared\nattached 1 01\n start\n#\n")
+    done = bench.run(["cat", "/sys/block/nvme0n1/size"], ["--host", "10", "--drivers"], config=config)
+    check_is("numbers of all forms, and a last start", (done.status, done.output, done.errors), (0, "16\n", ""))
     bench.wait_over()
     for words in ([], ["--host"], [str(config), "behind"], [str(config), "--"]):
         done = bench.run_words([str(bench.lab), *words])
@@ -258,4 +285,15 @@ def without_compiler(bench: Bench) -> None:
         library.unlink()
 
 
-TRIALS = (lasting, shells, images, kept_and_explored, disks, power_cycles, undisturbed, faults, without_compiler)
+def without_python(bench: Bench) -> None:
+    """A machine without Python is told so."""
+    tools = bench.place / "tools"
+    tools.mkdir()
+    for tool in ("bash", "dirname", "realpath"):
+        (tools / tool).symlink_to(shutil.which(tool) or "absent")
+    without = Bench(bench.place, bench.program, others={"PATH": str(tools)})
+    expect_fault(without, [], "there is no python3: Python 3.9 or later is needed")
+
+
+TRIALS = (lasting, shells, images, kept_and_explored, disks, power_cycles, undisturbed, faults, without_compiler,
+          without_python)

@@ -44,13 +44,17 @@ class Bench:
     others: Dict[str, str] = field(default_factory=dict)
 
     @property
+    def simulator(self) -> str:
+        return os.environ.get("NVMESIM", "") or str(Path(self.program).with_name("nvmesim"))
+
+    @property
     def client(self) -> str:
         return str(self.place / "client")
 
     @property
     def environment(self) -> Dict[str, str]:
         return {**os.environ, "TMPDIR": str(self.place), "NVMELIVE": self.program, "PYTHONDONTWRITEBYTECODE": "1",
-                **self.others}
+                "NVMESIM": self.simulator, **self.others}
 
     def words(self, options: List[str], command: List[str], config: Path = CONFIG) -> List[str]:
         return [str(self.lab), *options, str(config), *(["--", *command] if command else [])]

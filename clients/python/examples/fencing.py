@@ -1,7 +1,7 @@
 #!/usr/bin/env python3
 """A cluster whose agents fence with reservations: what it does, and the lines that it sent.
 
-    python3 fencing.py [--nodes 2|3] [--careful] [--kept FILE]
+    python3 fencing.py [--nodes 2|3] [--careful] [--kept FILE [--force]]
 
 All nodes are registered on the disk, which is reserved as Write Exclusive - Registrants Only. Node 1 hangs, with a
 Write under way. The agents that are left have a quorum: one of them fences node 1 by a Preempt and Abort, and writes
@@ -14,10 +14,10 @@ from __future__ import annotations
 
 import argparse
 import sys
-from pathlib import Path
 from typing import List, Set
 
 from nvmesim import AcquireAction, Host, NvmeError, ReservationType, Subsystem
+from nvmesim.files import Output, add_force
 from nvmesim.hosts import Namespace
 
 TYPE = ReservationType.WRITE_EXCLUSIVE_REGISTRANTS_ONLY
@@ -116,7 +116,9 @@ def main() -> int:
     parser.add_argument("--nodes", type=int, choices=(2, 3), default=2)
     parser.add_argument("--careful", action="store_true", help="agents reset their controller before they rejoin")
     parser.add_argument("--kept", metavar="FILE", help="where the session's lines go")
+    add_force(parser)
     words = parser.parse_args()
+    kept = Output(words.kept, is_forced=words.force) if words.kept else None
     with Subsystem() as subsystem:
         try:
             print("\n".join(story(subsystem, words.nodes, words.careful)))
@@ -124,8 +126,8 @@ def main() -> int:
             print(fault, file=sys.stderr)
             return 1
         finally:
-            if words.kept:
-                Path(words.kept).write_text(subsystem.script, encoding="utf-8")
+            if kept is not None:
+                kept.write(subsystem.script)
     return 0
 
 

@@ -37,7 +37,8 @@ def up(host: LibraryHost) -> None:
 
 def done(host: LibraryHost, opcode: IoOpcode, data: bytes = b"", dw10: int = 0) -> Submitted:
     """A command on namespace 1 with these data."""
-    host.store(DATA, data)
+    if data:
+        host.store(DATA, data)
     return host.submit(1, entry(opcode, 1, DATA, dw10))
 
 

@@ -18,8 +18,8 @@ from .backends import LibraryHost, LibrarySubsystem
 from .controllers import Controller, RawHost
 from .enums import (AcquireAction, AdminOpcode, ExecuteOutcome, IoOpcode, Persistence, PollOutcome, Protection, Refusal,
                     RegisterAction, ReleaseAction, ReservationType, Rule, Status, UpOutcome)
-from .errors import (ConfigurationRefused, ExpressionError, LineError, NotDone, NvmeError, NvmesimError,
-                     ProgramDied, ProgramHangs, ProgramNotFound, ProtocolError, RequestAborted, RequestRefused,
+from .errors import (ArgumentError, ConfigurationRefused, ExpressionError, ImageInUse, LineError, NotDone, NvmeError,
+                     NvmesimError, ProgramDied, ProgramHangs, ProgramNotFound, ProtocolError, RequestAborted, RequestRefused,
                      ScriptError, SessionClosed, SessionError)
 from .history import Command, Event
 from .hosts import Host, Namespace
@@ -28,11 +28,12 @@ from .session import Session
 from .subsystem import Subsystem
 
 __all__ = [
-    "AcquireAction", "AdminOpcode", "Answer", "Command", "ConfigurationRefused", "Controller", "Event",
-    "ExecuteOutcome", "ExpressionError", "Host", "IoOpcode", "LibraryHost", "LibrarySubsystem", "LineError", "Namespace",
-    "NotDone", "NvmeError", "NvmesimError", "Persistence", "PollOutcome", "ProgramDied", "ProgramHangs", "ProgramNotFound", "Protection",
-    "ProtocolError", "RawHost", "Refusal", "RegisterAction", "ReleaseAction", "ReportedController", "RequestAborted",
-    "RequestRefused", "ReservationReport", "ReservationType", "Rule", "ScriptError", "Session", "SessionClosed",
-    "SessionError", "Status", "Subsystem", "UpOutcome", "parse_answer", "parse_report",
+    "AcquireAction", "AdminOpcode", "Answer", "ArgumentError", "Command", "ConfigurationRefused", "Controller", "Event",
+    "ExecuteOutcome", "ExpressionError", "Host", "ImageInUse", "IoOpcode", "LibraryHost", "LibrarySubsystem",
+    "LineError", "Namespace", "NotDone", "NvmeError", "NvmesimError", "Persistence", "PollOutcome", "ProgramDied",
+    "ProgramHangs", "ProgramNotFound", "Protection", "ProtocolError", "RawHost", "Refusal", "RegisterAction",
+    "ReleaseAction", "ReportedController", "RequestAborted", "RequestRefused", "ReservationReport", "ReservationType",
+    "Rule", "ScriptError", "Session", "SessionClosed", "SessionError", "Status", "Subsystem", "UpOutcome",
+    "parse_answer", "parse_report",
 ]
 __version__ = "0.1.0"

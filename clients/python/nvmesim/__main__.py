@@ -2,48 +2,72 @@
 from __future__ import annotations
 
 import argparse
+import errno
 import os
 import sys
+from contextlib import suppress
 from pathlib import Path
-from typing import Callable, NoReturn, Optional, Sequence
+from typing import Callable, List, NoReturn, Optional, Sequence, Union
 
 from . import __version__
 from .conform import command as conforming
 from .errors import NvmesimError
 from .expect import command as testing
 from .explain import causes_of, explain, run_script
-from .explore import command
+from .explore import Medium, command
+from .files import Output, add_force
 from .process import VARIABLE
+from .reading import read_with
 from .scene import MOST, scene
+from .script import configuration_of, read_lines
 from .session import SECONDS, Session
 from .shell import command as terminal
 from .texts import text_of
-from .timeline import png, svg, timeline, watched
+from .timeline import FORMS, form_of, png, svg, timeline, watched
+from .timeline.bands import Told
 
-_FAULT = 2
+_FAULT, _INTERRUPTED = 2, 130
+_OF_WRITES = (errno.ENOSPC, errno.EDQUOT, errno.EFBIG, errno.EIO, errno.EBADF)
 
 
 def main(given: Optional[Sequence[str]] = None) -> int:
-    """Carries a command out; its exit status: 0, or 1 where a check fails, or 2 where it can't be carried out."""
+    """Carries a command out; its exit status: 0, or 1 if a check fails, 2 if it can't be carried out, 130 if Ctrl-C
+    ended it."""
     words = _parser().parse_args(given)
+    read_with(words.program)
     carry_out: Callable[[argparse.Namespace], int] = words.command
     try:
         status = carry_out(words)
         sys.stdout.flush()
         return status
     except BrokenPipeError:
-        os.dup2(os.open(os.devnull, os.O_WRONLY), sys.stdout.fileno())
+        _leave_output()
         return _FAULT
-    except (NvmesimError, OSError) as fault:
+    except KeyboardInterrupt:
+        print("nvmesim: interrupted", file=sys.stderr)
+        return _INTERRUPTED
+    except OSError as fault:
+        if fault.filename is None:
+            _leave_output()
         print(f"nvmesim: {_sentence(fault)}", file=sys.stderr)
         return _FAULT
+    except NvmesimError as fault:
+        print(f"nvmesim: {fault}", file=sys.stderr)
+        return _FAULT
 
 
-def _sentence(fault: Exception) -> str:
-    """What went wrong; of a call of the system, the file and the reason."""
-    if isinstance(fault, OSError) and fault.filename is not None and fault.strerror is not None:
-        return f"{os.fsdecode(fault.filename)}: {fault.strerror}"
-    return str(fault)
+def _leave_output() -> None:
+    """Nothing more is written to standard output: the end of Python would try again."""
+    with suppress(OSError, ValueError):
+        os.dup2(os.open(os.devnull, os.O_WRONLY), sys.stdout.fileno())
+
+
+def _sentence(fault: OSError) -> str:
+    """What a call of the system did not do. All files but the standard ones are named where they are used."""
+    why = fault.strerror or str(fault)
+    if fault.filename is not None:
+        return f"can't use {os.fsdecode(fault.filename)}: {why}"
+    return f"can't write standard output: {why}" if fault.errno in _OF_WRITES else f"a call of the system fails: {why}"
 
 
 class _Parser(argparse.ArgumentParser):
@@ -62,25 +86,19 @@ def _parser() -> argparse.ArgumentParser:
     commands = parser.add_subparsers(required=True, metavar="COMMAND")
     told = commands.add_parser("explain", help="a script and its transcript side by side, with what each line means")
     _add_texts(told)
-    told.add_argument("--width", type=int, default=0, metavar="N", help="columns of a line; else those of the terminal")
+    told.add_argument("--width", type=int, default=0, metavar="N",
+                      help="columns of a line; by default those of the terminal")
     told.add_argument("--no-comments", action="store_true", help="leave the script's comments out")
     told.set_defaults(command=_explain)
     drawn = commands.add_parser("timeline", help="a picture of what happened: a page, SVG or PNG")
     _add_texts(drawn)
-    drawn.add_argument("-o", "--output", metavar="FILE", help="where the page goes; else to standard output")
-    drawn.add_argument("--format", choices=("html", "svg", "png"), help="of the file; else as the name of -o ends, or "
-                       "a page")
-    drawn.add_argument("--title", help="the heading; else the name of the script")
+    drawn.add_argument("-o", "--output", metavar="FILE", help="the output file; by default standard output")
+    drawn.add_argument("--format", choices=FORMS, help="of the file; else as the name of -o ends, .html, .svg or "
+                       ".png, and a page for a name without an ending")
+    add_force(drawn)
+    drawn.add_argument("--title", help="the heading; by default the name of the script")
     drawn.set_defaults(command=_timeline)
-    made = commands.add_parser("scene", help="a script for explore of the lines that a session was sent")
-    made.add_argument("script", metavar="KEPT", help="the lines of a session, or a script; - is standard input")
-    made.add_argument("--from", dest="begin", type=int, default=0, metavar="LINE", help="the line from which on events "
-                      "come in any order; else it is chosen")
-    made.add_argument("--apart", type=int, action="append", default=[], metavar="C",
-                      help="what controller C fetches and executes is a part of its own")
-    made.add_argument("--most", type=int, default=MOST, metavar="N", help="so many states at least the scene may have")
-    made.add_argument("-o", "--output", metavar="FILE", help="where the scene goes; else to standard output")
-    made.set_defaults(command=_scene)
+    _add_scene(commands.add_parser("scene", help="a script for explore, from the lines of a session"))
     explored = commands.add_parser("explore", help="every order of the marked events of a script")
     command.add_options(explored)
     _add_program(explored)
@@ -88,35 +106,50 @@ def _parser() -> argparse.ArgumentParser:
     tested = commands.add_parser("test", help="scripts as tests: the expectations in their comments")
     testing.add_arguments(tested)
     _add_program(tested)
-    typed = commands.add_parser("shell", help="a session at a terminal: a prompt, and looks that decode")
+    typed = commands.add_parser("shell", help="a session at a terminal: a prompt, and queries that decode")
     terminal.add_arguments(typed)
     _add_program(typed)
-    compared = commands.add_parser("conform", help="a device beside the model: the first answer that differs")
+    compared = commands.add_parser("conform", help="a device compared with the model: the first answer that differs")
     conforming.add_arguments(compared)
     _add_program(compared)
     return parser
 
 
+def _add_scene(made: argparse.ArgumentParser) -> None:
+    made.add_argument("script", metavar="KEPT", help="the lines of a session, or a script; - is standard input")
+    made.add_argument("--from", dest="begin", type=int, default=0, metavar="LINE", help="the line from which "
+                      "events come in any order; by default it is chosen")
+    made.add_argument("--apart", type=int, action="append", default=[], metavar="C",
+                      help="make what controller C fetches and executes a part of its own")
+    made.add_argument("--most", type=int, default=MOST, metavar="N", help="the most states that the scene may have")
+    made.add_argument("-o", "--output", metavar="FILE", help="the output file; by default standard output")
+    add_force(made)
+    _add_program(made)
+    made.set_defaults(command=_scene)
+
+
 def _add_program(parser: argparse.ArgumentParser) -> None:
-    parser.add_argument("--program", metavar="FILE", help=f"the program nvmelive; else the one that the variable "
+    parser.add_argument("--program", metavar="FILE", help=f"the program nvmelive; by default the one that the variable "
                         f"{VARIABLE} names, that was built in this repository, or that is on the path")
     parser.add_argument("--seconds", type=float, default=SECONDS, metavar="S", help="time limit of each answer")
 
 
 def _add_texts(parser: argparse.ArgumentParser) -> None:
     parser.add_argument("script", metavar="SCRIPT", help="a script; - is standard input")
-    parser.add_argument("transcript", metavar="TRANSCRIPT", nargs="?", help="what nvmesim printed for it; without it "
-                        "the script is run, over zeros in memory")
+    parser.add_argument("transcript", metavar="TRANSCRIPT", nargs="?", help="what nvmesim printed for it; by default "
+                        "the script is run")
+    parser.add_argument("--image", metavar="IMAGE", help="run the script over a copy of this image, which is never "
+                        "written; by default over zeros")
     _add_program(parser)
 
 
 def _explain(words: argparse.Namespace) -> int:
     script = text_of(words.script)
     if words.transcript is None:
-        transcript, causes = run_script(script, words.program, words.seconds)
+        transcript, causes = run_script(script, words.program, words.seconds, words.image)
     else:
         transcript = text_of(words.transcript)
-        causes = causes_of(script, transcript, words.program, words.seconds)
+        causes = causes_of(script, transcript, words.program, words.seconds, words.image)
     for line in explain(script, transcript, words.width or _columns(), not words.no_comments, causes):
         print(line)
     return 0
@@ -131,34 +164,44 @@ def _columns() -> int:
 
 
 def _timeline(words: argparse.Namespace) -> int:
+    output = _output(words, words.script, words.transcript, words.image, words.program)
+    form = words.format or form_of(words.output)
+    if form == "png" and output is None:
+        raise NvmesimError("a PNG file needs a name: -o FILE")
     script = text_of(words.script)
     title = words.title or Path(words.script).name
-    form = words.format or Path(words.output or "").suffix.lstrip(".").lower()
+    told: List[Told] = []
     if words.transcript is not None:
-        transcript, told = text_of(words.transcript), []
+        transcript = text_of(words.transcript)
     else:
-        with Session(program=words.program, seconds=words.seconds) as session:
-            transcript, told = watched(session, script)
+        blocks = configuration_of(read_lines(script)).blocks
+        with Medium(words.image, blocks) as medium, medium.of_a_run() as image:
+            with Session(image, words.program, words.seconds) as session:
+                transcript, told = watched(session, script)
     if form == "png":
-        if words.output is None:
-            raise NvmesimError("a PNG file needs a name: -o FILE")
-        png(script, transcript, title, Path(words.output), told)
+        _write(output, png(script, transcript, title, told))
     else:
-        _write(words.output, (svg if form == "svg" else timeline)(script, transcript, title, told))
+        _write(output, (svg if form == "svg" else timeline)(script, transcript, title, told))
     return 0
 
 
 def _scene(words: argparse.Namespace) -> int:
-    _write(words.output, scene(text_of(words.script), words.begin, words.most, words.apart))
+    output = _output(words, words.script, words.program)
+    _write(output, scene(text_of(words.script), words.begin, words.most, words.apart))
     return 0
 
 
-def _write(name: Optional[str], text: str) -> None:
+def _output(words: argparse.Namespace, *inputs: Optional[str]) -> Optional[Output]:
+    """The file of `-o`; None for standard output."""
+    return None if words.output is None else Output(words.output, inputs, words.force)
+
+
+def _write(output: Optional[Output], content: Union[str, bytes]) -> None:
     """Writes a text to a file, or to standard output."""
-    if name is None:
-        print(text, end="")
+    if output is not None:
+        output.write(content)
     else:
-        Path(name).write_text(text, encoding="utf-8")
+        print(content, end="")
 
 
 def _explore(words: argparse.Namespace) -> int:

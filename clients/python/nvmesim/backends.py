@@ -5,6 +5,7 @@ from typing import Callable, List, Tuple
 
 from . import library
 from .answers import BLOCK_BYTES, Executed, Fetched, PowerCycled, Stored, Wrote32
+from .arguments import flag, some_bytes, whole
 from .controllers import ControllerLike, number_of
 from .errors import NotDone
 from .hosts import Namespace, NamespaceLike, nsid_of
@@ -25,15 +26,15 @@ class LibraryController:
         self.number = number
 
     def fetch(self, queue: int = 1) -> Fetched:
-        """Takes the oldest command of a queue: 0 is the admin queue."""
+        """Fetches the oldest command of a queue: 0 is the admin queue."""
         return self._opened().fetch(self.number, queue)
 
     def execute(self, place: int = 0) -> Executed:
-        """Executes the command at this place, from 0, of those that were fetched."""
+        """Executes the fetched command at this place, from 0."""
         return self._opened().execute(self.number, place)
 
     def fetched(self) -> List[FetchedCommand]:
-        """The commands that were fetched and not executed, by their places. Changes nothing."""
+        """The fetched commands that were not executed, in order. Changes nothing."""
         return self._opened().fetched(self.number)
 
     def queues(self) -> List[Queue]:
@@ -41,7 +42,7 @@ class LibraryController:
         return self._opened().queues(self.number)
 
     def register(self, offset: int) -> int:
-        """What a read of 32 bits at this offset gives. Changes nothing."""
+        """What a 32-bit read at this offset returns. Changes nothing."""
         return self._opened().read32(self.number, offset)
 
     def window(self, address: int, length: int) -> bytes:
@@ -68,8 +69,8 @@ class LibraryHost:
         return self.controller.number
 
     def store(self, address: int, data: Bytes) -> Stored:
-        """Stores bytes from this address of its window on; nothing is stored where they don't lie in it."""
-        return self._opened().store(self.number, address, bytes(data))
+        """Stores bytes from this address of its window; stores nothing if they do not fit in it."""
+        return self._opened().store(self.number, address, some_bytes("data", data))
 
     def write32(self, offset: int, value: int) -> Wrote32:
         """Writes 32 bits to the register at this offset."""
@@ -77,24 +78,24 @@ class LibraryHost:
 
     def submit(self, queue: int, entry: Bytes) -> library.Submitted:
         """One command from its submission queue entry to its completion, with no other event between: store at the
-        tail of the queue, doorbell, fetch, execute, completion, doorbell. `NotDone` where something waits there, and
-        nothing has happened then."""
-        return self._opened().submit(self.number, queue, bytes(entry))
+        tail of the queue, doorbell, fetch, execute, completion, doorbell. Raises `NotDone`, with no effect, if
+        something waits there."""
+        return self._opened().submit(self.number, queue, some_bytes("entry", entry))
 
     def window(self, address: int, length: int) -> bytes:
         """Bytes of its window. Changes nothing."""
         return self.controller.window(address, length)
 
     def register(self, offset: int) -> int:
-        """What a read of the register at this offset gives, 32 bits. Changes nothing."""
+        """What a 32-bit read of the register at this offset returns. Changes nothing."""
         return self.controller.register(offset)
 
 
 class LibrarySubsystem:
     """A subsystem of the library: raw hosts, over 1,024 blocks of zeros. Use it in a `with`, or close it.
 
-    First it is described: `raw_controller`, `namespace`, `attach`. Behind `start` its hosts do things. It has no script
-    and no transcript, and its hosts no drivers: those are the program's.
+    First describe it: `raw_controller`, `namespace`, `attach`. After `start` its hosts can act. It has no script and no
+    transcript, and its hosts have no drivers: only the program has these.
 
     Attributes:
         hosts: its hosts, in the order of their controllers.
@@ -114,38 +115,41 @@ class LibrarySubsystem:
         self.close()
 
     def close(self) -> int:
-        """Closes it; 0, as of a session that ended well."""
+        """Closes it, and returns 0."""
         for it in self._open:
             it.close()
         return 0
 
     def raw_controller(self, host: int) -> LibraryHost:
-        """The next controller, which belongs to a raw host."""
+        """Adds the next controller, for a raw host."""
         self._describes()
+        whole("host", host, 128)
         self.hosts.append(LibraryHost(self._opened, len(self.hosts) + 1, host))
         return self.hosts[-1]
 
     def namespace(self, blocks: int, shared: bool = True, number: int = 0) -> Namespace:
-        """A namespace of so many blocks of 512 bytes, by the next identifier or by this one, 1 to 8."""
+        """Adds a namespace of `blocks` blocks of 512 bytes, with the next identifier or `number`, 1 to 8."""
         self._describes()
-        named = number or max((it.number for it in self._namespaces), default=0) + 1
+        whole("blocks", blocks, 64)
+        flag("shared", shared)
+        named = whole("number", number, 32) or max((it.number for it in self._namespaces), default=0) + 1
         self._namespaces.append(Namespace(named, blocks, shared))
         return self._namespaces[-1]
 
     def attach(self, controller: ControllerLike, namespace: NamespaceLike) -> None:
-        """The controller, given by its host or by its number, has the namespace from the start."""
+        """Attaches a controller, given by its host or its number, to a namespace, before `start`."""
         self._describes()
         self._attached.append((number_of(controller), nsid_of(namespace)))
 
     def start(self) -> None:
-        """Ends the description. Raises `ConfigurationRefused` where it has a fault."""
+        """Ends the description. Raises `ConfigurationRefused` if it has a fault."""
         self._describes()
         namespaces = [(it.number, it.blocks, it.is_shared) for it in self._namespaces]
         hosts = [it.host for it in self.hosts]
         self._open.append(library.Open(hosts, namespaces, self._attached, bytes(BLOCKS * BLOCK_BYTES)))
 
     def power_cycle(self) -> PowerCycled:
-        """Power is lost in the whole subsystem, and comes back."""
+        """Takes power from the whole subsystem, and returns it."""
         return self._opened().power_cycle()
 
     def blocks(self, namespace: NamespaceLike, slba: int, count: int = 1) -> bytes:
@@ -157,7 +161,7 @@ class LibrarySubsystem:
         return self._opened().reservation(nsid_of(namespace))
 
     def is_attached(self, controller: ControllerLike, namespace: NamespaceLike) -> bool:
-        """Whether a controller has a namespace. Changes nothing."""
+        """Whether a controller is attached to a namespace. Changes nothing."""
         return self._opened().is_attached(number_of(controller), nsid_of(namespace))
 
     def _opened(self) -> library.Open:

@@ -5,6 +5,7 @@ from typing import Dict, Iterable, List, Protocol, Type, TypeVar, Union
 
 from . import lines, looks
 from .answers import Executed, Fetched, Stored, Wrote32
+from .arguments import whole
 from .errors import NotDone
 from .history import Event
 from .lines import Bytes
@@ -36,12 +37,15 @@ ControllersLike = Union[ControllerLike, Iterable[ControllerLike]]
 
 def number_of(controller: ControllerLike) -> int:
     """The number of a controller."""
-    return controller if isinstance(controller, int) else controller.number
+    number = getattr(controller, "number", controller)
+    if isinstance(controller, int) or not isinstance(number, int):
+        return whole("controller", controller, 16)
+    return number
 
 
 def numbers_of(controllers: ControllersLike) -> List[int]:
     """The numbers of controllers, in their order."""
-    several = controllers if isinstance(controllers, Iterable) else [controllers]
+    several = controllers if isinstance(controllers, Iterable) and not isinstance(controllers, str) else [controllers]
     return [number_of(it) for it in several]
 
 
@@ -53,15 +57,15 @@ class Controller:
         self.number = number
 
     def fetch(self, queue: int = 1) -> Fetched:
-        """Takes the oldest command of a queue: 0 is the admin queue, 1 a driver's I/O queue."""
+        """Fetches the oldest command of a queue: 0 is the admin queue, 1 a driver's I/O queue."""
         return answer_of(self._session.event(lines.fetch(self.number, queue)), Fetched)
 
     def execute(self, place: int = 0) -> Executed:
-        """Executes the command at this place, from 0, of those that were fetched."""
+        """Executes the fetched command at this place, from 0."""
         return answer_of(self._session.event(lines.execute(self.number, place)), Executed)
 
     def fetched(self) -> List[looks.FetchedCommand]:
-        """The commands that were fetched and not executed, by their places. Changes nothing."""
+        """The fetched commands that were not executed, in order. Changes nothing."""
         return looks.fetched(self._session.look(f"?fetched {self.number}"), self.number)
 
     def queues(self) -> List[looks.Queue]:
@@ -69,8 +73,9 @@ class Controller:
         return looks.queues(self._session.look(f"?queues {self.number}"), self.number)
 
     def register(self, offset: int) -> int:
-        """What a read of 32 bits at this offset gives. Changes nothing."""
-        return looks.register(self._session.look(f"?register {self.number} {offset}"), self.number, offset)
+        """What a 32-bit read at this offset returns. Changes nothing."""
+        place = whole("offset", offset, 64)
+        return looks.register(self._session.look(f"?register {self.number} {place}"), self.number, place)
 
     def registers(self) -> Dict[str, int]:
         """The registers by their names. Changes nothing."""
@@ -78,12 +83,12 @@ class Controller:
 
     def window(self, address: int, length: int) -> bytes:
         """Bytes of the host memory that it shares with its host, at most 131,072. Changes nothing."""
-        line = f"?window {self.number} {address} {length}"
-        return looks.window(self._session.look(line), self.number, address, length)
+        begin, size = whole("address", address, 64), whole("length", length, 32)
+        return looks.window(self._session.look(f"?window {self.number} {begin} {size}"), self.number, begin, size)
 
 
 class RawHost:
-    """A host without a driver: it stores any bytes in its window, and writes any register.
+    """A host without a driver: it stores bytes in its window, and writes registers.
 
     Attributes:
         host: its identifier.
@@ -101,7 +106,7 @@ class RawHost:
         return self.controller.number
 
     def store(self, address: int, data: Bytes) -> Stored:
-        """Stores bytes from this address of its window on; nothing is stored where they don't lie in it."""
+        """Stores bytes from this address of its window; stores nothing if they do not fit in it."""
         return answer_of(self._session.event(lines.store(self.number, address, data)), Stored)
 
     def write32(self, offset: int, value: int) -> Wrote32:
@@ -113,5 +118,5 @@ class RawHost:
         return self.controller.window(address, length)
 
     def register(self, offset: int) -> int:
-        """What a read of the register at this offset gives, 32 bits. Changes nothing."""
+        """What a 32-bit read of the register at this offset returns. Changes nothing."""
         return self.controller.register(offset)

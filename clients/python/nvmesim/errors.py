@@ -6,6 +6,10 @@ from typing import Any, Dict, Optional, Tuple, Type
 from .enums import Refusal, Rule, Status
 
 
+_REFUSED = 2
+_IN_USE = "' is in use: "
+
+
 class NvmesimError(Exception):
     """The base of every exception of this package. It can be pickled, so that it comes from a worker of a cluster."""
 
@@ -18,6 +22,10 @@ def _as_it_was(kind: Type[NvmesimError], words: Tuple[Any, ...], attributes: Dic
     made = kind.__new__(kind, *words)
     made.__dict__.update(attributes)
     return made
+
+
+class ArgumentError(NvmesimError, ValueError):
+    """A call was given what it can't take: a number that is too large, data of no bytes, a text for a number."""
 
 
 class ProtocolError(NvmesimError):
@@ -71,6 +79,25 @@ class ProgramDied(SessionError):
         how = "closed its output" if status is None else f"ended with status {status}"
         super().__init__(f"the program {how} before it had answered", line, told)
         self.status = status
+
+
+class ImageInUse(ProgramDied):
+    """The program did not start, since another one has its image: two that write one image lose blocks.
+
+    Attributes:
+        why: the program's own words, with who has the image.
+    """
+
+    def __init__(self, status: Optional[int], line: str, told: str) -> None:
+        super().__init__(status, line, told)
+        self.why = told.strip().splitlines()[-1].split(": ", 1)[-1]
+        self.args = (self.why,)
+
+
+def death_of(status: Optional[int], line: str, told: str) -> ProgramDied:
+    """Why a program ended before it had answered, by its exit status and what it said on standard error."""
+    is_in_use = status == _REFUSED and told.strip() and _IN_USE in told.strip().splitlines()[-1]
+    return (ImageInUse if is_in_use else ProgramDied)(status, line, told)
 
 
 class ProgramHangs(SessionError):
@@ -171,3 +198,23 @@ class ScriptError(NvmesimError):
 
 class ExpressionError(NvmesimError):
     """An expression of `--always` or `--never` that says nothing, or names an answer that isn't there."""
+
+
+class OutputRefused(NvmesimError):
+    """A file that a command must not write: it is read too, or it exists and nobody asked to replace it."""
+
+
+class FileFault(NvmesimError):
+    """The system did not do something with a file.
+
+    Attributes:
+        action: what was to be done, such as `read`.
+        name: the file.
+        why: the system's reason.
+    """
+
+    def __init__(self, action: str, name: str, why: str) -> None:
+        super().__init__(f"can't {action} {name}: {why}")
+        self.action = action
+        self.name = name
+        self.why = why

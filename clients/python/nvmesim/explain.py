@@ -6,6 +6,7 @@ from typing import Dict, Iterable, Iterator, List, Mapping, Optional, Sequence, 
 
 from .causes import event_cause
 from .errors import NvmesimError
+from .explore.medium import Medium
 from .history import Event, follow
 from .process import PathLike
 from .script import LineKind, ScriptLine, configuration_of, read_lines
@@ -15,29 +16,32 @@ from .words import configuration_words, meaning, shortened
 _LEAST_WORDS = 30
 
 
-def run_script(script: str, program: Optional[PathLike] = None,
-               seconds: float = SECONDS) -> Tuple[str, Dict[int, str]]:
-    """Runs a script over zeros in memory: its transcript, and by their numbers why events denied a command."""
+def run_script(script: str, program: Optional[PathLike] = None, seconds: float = SECONDS,
+               image: Optional[PathLike] = None) -> Tuple[str, Dict[int, str]]:
+    """Runs a script over a copy of an image, or over zeros: its transcript, and by their numbers why events denied a
+    command."""
     lines = list(read_lines(script))
-    configuration, causes = configuration_of(lines), {}
-    with Session(program=program, seconds=seconds) as session:
-        for line in lines:
-            if line.kind is LineKind.CONFIGURATION:
-                session.configure(line.text)
-            elif line.kind is LineKind.START:
-                session.start()
-            elif line.kind is LineKind.EVENT:
-                event = session.event(line.text)
-                causes[event.number] = event_cause(event, configuration, session.look)
-        return session.transcript, {number: words for number, words in causes.items() if words}
+    configuration = configuration_of(lines)
+    causes: Dict[int, str] = {}
+    with Medium(image, configuration.blocks) as medium, medium.of_a_run() as copied:
+        with Session(copied, program, seconds) as session:
+            for line in lines:
+                if line.kind is LineKind.CONFIGURATION:
+                    session.configure(line.text)
+                elif line.kind is LineKind.START:
+                    session.start()
+                elif line.kind is LineKind.EVENT:
+                    event = session.event(line.text)
+                    causes[event.number] = event_cause(event, configuration, session.look)
+            return session.transcript, {number: words for number, words in causes.items() if words}
 
 
-def causes_of(script: str, transcript: str, program: Optional[PathLike] = None,
-              seconds: float = SECONDS) -> Dict[int, str]:
+def causes_of(script: str, transcript: str, program: Optional[PathLike] = None, seconds: float = SECONDS,
+              image: Optional[PathLike] = None) -> Dict[int, str]:
     """Why the events of a transcript denied commands, as far as a run of the script, where one can be had, is
     answered alike."""
     try:
-        came, causes = run_script(script, program, seconds)
+        came, causes = run_script(script, program, seconds, image)
     except NvmesimError:
         return {}
     pairs = enumerate(zip(came.split("\n"), transcript.split("\n")), 1)

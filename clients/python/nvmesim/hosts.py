@@ -1,4 +1,4 @@
-"""A host with a driver, as an object: one call that does all, or each event alone."""
+"""A host with a driver, as an object: one call for a whole request, or one for each event."""
 from __future__ import annotations
 
 from dataclasses import dataclass
@@ -6,6 +6,7 @@ from typing import Dict, Optional, Union
 
 from . import lines, looks
 from .answers import Polled, Refused, Reset, Rung, Up
+from .arguments import whole
 from .causes import cause_of
 from .controllers import Controller, ControllersLike, answer_of, numbers_of
 from .enums import (AcquireAction, ExecuteOutcome, Persistence, PollOutcome, Protection, RegisterAction, ReleaseAction,
@@ -13,10 +14,13 @@ from .enums import (AcquireAction, ExecuteOutcome, Persistence, PollOutcome, Pro
 from .errors import NotDone, NvmeError, RequestAborted, RequestRefused
 from .history import Command
 from .lines import Bytes
-from .reports import ReservationReport, parse_report
+from .reports import HEADER_BYTES, ReservationReport, parse_report
 from .script import Configuration
 from .session import Session
 from .words import refused_words
+
+
+_HEADER_DWORDS = HEADER_BYTES // 4
 
 
 @dataclass(frozen=True)
@@ -33,20 +37,22 @@ NamespaceLike = Union[Namespace, int]
 
 def nsid_of(namespace: NamespaceLike) -> int:
     """The identifier of a namespace."""
-    return namespace.number if isinstance(namespace, Namespace) else namespace
+    if isinstance(namespace, Namespace):
+        return namespace.number
+    return whole("namespace", namespace, 32)
 
 
 class Host:
     """A host with a driver, which places requests and delivers their answers by ticket.
 
     `place_..` place a request and return its ticket; with `ring`, `poll` and the controller's `fetch` and `execute` the
-    caller chooses the order. The calls without `place_` do all of that for one request: they return what it gives, or
+    caller chooses the order. The calls without `place_` do all of that for one request: they return its result, or
     raise `NvmeError`.
 
     Attributes:
         host: its identifier.
         controller: its controller.
-        answers: answers that were delivered while another request was waited for, by their tickets.
+        answers: answers that were delivered while waiting for another request, by their tickets.
     """
 
     def __init__(self, session: Session, number: int, host: int) -> None:
@@ -66,26 +72,26 @@ class Host:
         return answer_of(self._session.event(lines.up(self.number)), Up)
 
     def ring(self) -> Rung:
-        """Tells the controller of everything that was placed."""
+        """Writes the doorbells for everything that was placed."""
         return answer_of(self._session.event(lines.ring(self.number)), Rung)
 
     def poll(self) -> Polled:
-        """Hands one answer up, if there is any."""
+        """Delivers one answer, if there is any."""
         return answer_of(self._session.event(lines.poll(self.number)), Polled)
 
     def reset(self) -> Reset:
-        """Resets the driver and its controller: all requests that wait will be delivered as aborted."""
+        """Resets the driver and its controller: requests that were not delivered are delivered as aborted."""
         return answer_of(self._session.event(lines.reset(self.number)), Reset)
 
     def state(self) -> looks.DriverState:
-        """The driver's state and the tickets that wait. Changes nothing."""
+        """The driver's state and the tickets that were not delivered. Changes nothing."""
         return looks.driver(self._session.look(f"?driver {self.number}"), self.number)
 
     def place(self, line: str) -> int:
-        """Places the request of a line; its ticket.
+        """Places the request of a line, and returns its ticket.
 
         Raises:
-            RequestRefused: the driver did not take it.
+            RequestRefused: the driver refused it.
         """
         event = self._session.event(line)
         if isinstance(event.answer, Refused):
@@ -96,16 +102,16 @@ class Host:
         return event.command.ticket
 
     def place_read(self, namespace: NamespaceLike, slba: int, blocks: int = 1) -> int:
-        """Places a Read of 1 to 256 blocks from block `slba` on."""
+        """Places a Read of 1 to 256 blocks from block `slba`."""
         return self.place(lines.read(self.number, nsid_of(namespace), slba, blocks))
 
     def place_write(self, namespace: NamespaceLike, slba: int, data: Bytes, blocks: Optional[int] = None) -> int:
-        """Places a Write of data: of so many blocks, which zeros fill up, or as many as the data need."""
+        """Places a Write of data, padded with zeros to `blocks` blocks, by default to whole blocks."""
         count = lines.blocks_of(data) if blocks is None else blocks
         return self.place(lines.write(self.number, nsid_of(namespace), slba, count, data))
 
     def place_compare(self, namespace: NamespaceLike, slba: int, data: Bytes, blocks: Optional[int] = None) -> int:
-        """Places a Compare with data, counted as those of a Write."""
+        """Places a Compare with data, padded as those of a Write."""
         count = lines.blocks_of(data) if blocks is None else blocks
         return self.place(lines.compare(self.number, nsid_of(namespace), slba, count, data))
 
@@ -143,7 +149,7 @@ class Host:
         return self.place(lines.identify(self.number, cns, nsid_of(namespace)))
 
     def place_protect(self, namespace: NamespaceLike, state: Union[Protection, bool] = Protection.PROTECTED) -> int:
-        """Places a Set Features that protects a namespace from being written, or ends that."""
+        """Places a Set Features that sets or ends write protection of a namespace."""
         return self.place(lines.protect(self.number, nsid_of(namespace), state))
 
     def place_protection(self, namespace: NamespaceLike) -> int:
@@ -151,11 +157,11 @@ class Host:
         return self.place(lines.protection(self.number, nsid_of(namespace)))
 
     def place_attach(self, namespace: NamespaceLike, controllers: ControllersLike) -> int:
-        """Places a Namespace Attachment that attaches controllers: hosts or numbers, one or several, which rise."""
+        """Places a Namespace Attachment that attaches controllers: hosts or numbers, in ascending order."""
         return self.place(lines.attach(self.number, nsid_of(namespace), numbers_of(controllers)))
 
     def place_detach(self, namespace: NamespaceLike, controllers: ControllersLike) -> int:
-        """Places a Namespace Attachment that detaches controllers: hosts or numbers, one or several, which rise."""
+        """Places a Namespace Attachment that detaches controllers: hosts or numbers, in ascending order."""
         return self.place(lines.detach(self.number, nsid_of(namespace), numbers_of(controllers)))
 
     def read(self, namespace: NamespaceLike, slba: int, blocks: int = 1) -> bytes:
@@ -163,11 +169,11 @@ class Host:
         return self.finish(self.place_read(namespace, slba, blocks)).data or b""
 
     def write(self, namespace: NamespaceLike, slba: int, data: Bytes, blocks: Optional[int] = None) -> None:
-        """Writes data to blocks from `slba` on."""
+        """Writes data to blocks from `slba`."""
         self.finish(self.place_write(namespace, slba, data, blocks))
 
     def compare(self, namespace: NamespaceLike, slba: int, data: Bytes, blocks: Optional[int] = None) -> None:
-        """Compares blocks with data; raises `NvmeError` with Compare Failure where they differ."""
+        """Compares blocks with data; raises `NvmeError` with Compare Failure if they differ."""
         self.finish(self.place_compare(namespace, slba, data, blocks))
 
     def zeroes(self, namespace: NamespaceLike, slba: int, blocks: int) -> None:
@@ -175,13 +181,13 @@ class Host:
         self.finish(self.place_zeroes(namespace, slba, blocks))
 
     def flush(self, namespace: NamespaceLike) -> None:
-        """Brings what was written to the disk."""
+        """Flushes the medium."""
         self.finish(self.place_flush(namespace))
 
     def register(self, namespace: NamespaceLike, new_key: int = 0, current_key: int = 0,
                  action: RegisterAction = RegisterAction.REGISTER, ignore_existing_key: bool = False,
                  persist: Persistence = Persistence.KEEP) -> None:
-        """Registers, unregisters or replaces this host's key; `persist` says what outlasts a loss of power."""
+        """Registers, unregisters or replaces this host's key; `persist` says whether it survives a power loss."""
         self.finish(self.place_register(namespace, new_key, current_key, action, ignore_existing_key, persist))
 
     def acquire(self, namespace: NamespaceLike, rtype: ReservationType, key: int, preempted_key: int = 0,
@@ -195,7 +201,8 @@ class Host:
         self.finish(self.place_release(namespace, rtype, key, action))
 
     def report(self, namespace: NamespaceLike, dwords: int = 1024) -> ReservationReport:
-        """A Reservation Report of at least 16 double words, taken apart."""
+        """A decoded Reservation Report of at least 16 double words."""
+        whole("dwords", dwords, 32, least=_HEADER_DWORDS)
         return parse_report(self.finish(self.place_report(namespace, dwords)).data or b"")
 
     def identify(self, cns: int, namespace: NamespaceLike = 0) -> bytes:
@@ -203,33 +210,33 @@ class Host:
         return self.finish(self.place_identify(cns, namespace)).data or b""
 
     def protect(self, namespace: NamespaceLike, state: Union[Protection, bool] = Protection.PROTECTED) -> None:
-        """Protects a namespace from being written, or ends that. A power cycle alone ends one that lasts so long."""
+        """Sets or ends write protection. Only a power cycle ends protection until a power cycle."""
         self.finish(self.place_protect(namespace, state))
 
     def protection(self, namespace: NamespaceLike) -> Protection:
-        """How a namespace is protected from being written; `Protection.NONE`, which is false, where it is not."""
+        """The write protection of a namespace; `Protection.NONE`, which is false, if there is none."""
         return Protection(self.finish(self.place_protection(namespace)).value)
 
     def attach(self, namespace: NamespaceLike, controllers: ControllersLike) -> None:
-        """Attaches controllers to a namespace: hosts or numbers, one or several, which rise."""
+        """Attaches controllers to a namespace: hosts or numbers, in ascending order."""
         self.finish(self.place_attach(namespace, controllers))
 
     def detach(self, namespace: NamespaceLike, controllers: ControllersLike) -> None:
-        """Detaches controllers from a namespace: hosts or numbers, one or several, which rise."""
+        """Detaches controllers from a namespace: hosts or numbers, in ascending order."""
         self.finish(self.place_detach(namespace, controllers))
 
     def finish(self, ticket: int) -> Polled:
-        """Brings a request to its end from wherever it is: rings, fetches, executes and polls as far as is needed.
+        """Completes a request from any point: rings, fetches, executes and polls as needed.
 
         Other requests of the driver may be rung and fetched on the way, and answers of theirs that are delivered are
         kept in `answers`. They are not executed.
 
         Raises:
             NvmeError: the request was answered with another status than success.
-            RequestAborted: a reset or a power cycle met it.
-            NotDone: it can't be brought to its end, because nothing is fetched or executed any more.
+            RequestAborted: a reset or a power cycle aborted it.
+            NotDone: it can't be completed, because nothing is fetched or executed any more.
         """
-        command = self._commands.get(ticket)
+        command = self._commands.get(whole("ticket", ticket, 64))
         if command is None:
             raise NotDone(f"controller {self.number} has placed no request under ticket {ticket} here")
         if command.polled is not None and ticket not in self.answers:

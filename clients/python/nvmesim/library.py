@@ -1,7 +1,7 @@
 """The library libnvmesim by ctypes, in place of the program: raw hosts without a process between, some ten times as
 quick. `Subsystem(backend="library")` uses it.
 
-What a script's line could not say is a `ValueError` here: numbers that are negative or too large for their field."""
+What a script's line could not say is an `ArgumentError`: numbers that are negative or too large for their field."""
 from __future__ import annotations
 
 import ctypes
@@ -15,14 +15,15 @@ from types import TracebackType
 from typing import Any, Dict, List, Optional, Sequence, Tuple, Type
 
 from .answers import BLOCK_BYTES, Executed, Fetched, PowerCycled, Stored, Wrote32
+from .arguments import flag, some_bytes, whole
 from .enums import AdminOpcode, ExecuteOutcome, IoOpcode, Protection, ReservationType, Rule, Status
-from .errors import ConfigurationRefused, NotDone, ProgramNotFound, SessionClosed
+from .errors import ArgumentError, ConfigurationRefused, NotDone, ProgramNotFound, SessionClosed
 from .looks import FetchedCommand, Queue, ReservationState
 
 VARIABLE = "NVMESIM_LIBRARY"
 """The variable of the environment that names the shared object."""
 
-VERSION = 1
+VERSION = 2
 """The version of the library's interface that is used here."""
 
 # The numbers of answers, as nvmesim.h has them.
@@ -40,7 +41,8 @@ class _Sim(ctypes.Structure):
 
 
 class _Controller(ctypes.Structure):
-    _fields_ = [("host_low", ctypes.c_uint64), ("host_high", ctypes.c_uint64), ("cntlid", ctypes.c_uint16)]
+    _fields_ = [("host_low", ctypes.c_uint64), ("host_high", ctypes.c_uint64), ("cntlid", ctypes.c_uint16),
+                ("raw", ctypes.c_bool)]
 
 
 class _Namespace(ctypes.Structure):
@@ -182,11 +184,10 @@ def _identifier(seen: Any) -> int:
     return int(seen.host_low) | int(seen.host_high) << 64
 
 
-def fits(*given: Tuple[int, int]) -> None:
-    """Numbers and the bits that they have to fit in, which ctypes would cut them to."""
-    for number, bits in given:
-        if number >> bits:
-            raise ValueError(f"{number} does not fit in {bits} bits")
+def fits(**given: Tuple[int, int]) -> None:
+    """Numbers by their names, and the bits that they have to fit in, which ctypes would cut them to."""
+    for name, (number, bits) in given.items():
+        whole(name, number, bits)
 
 
 class Open:
@@ -206,11 +207,12 @@ class Open:
             ConfigurationRefused: by its first fault.
         """
         for host in controllers:
-            fits((host, 128))
-        for nsid, size, _ in namespaces:
-            fits((nsid, 32), (size, 64))
+            fits(host=(host, 128))
+        for nsid, size, shared in namespaces:
+            fits(namespace=(nsid, 32), blocks=(size, 64))
+            flag("shared", shared)
         for cntlid, nsid in attached:
-            fits((cntlid, 16), (nsid, 32))
+            fits(controller=(cntlid, 16), namespace=(nsid, 32))
         self._library = load(find_library())
         self._sim = _Sim(None, False)
         self._at = ctypes.byref(self._sim)
@@ -239,30 +241,31 @@ class Open:
 
     def store(self, cntlid: int, address: int, data: bytes) -> Stored:
         """The host of a controller stores bytes."""
-        fits((cntlid, 16), (address, 64))
+        fits(controller=(cntlid, 16), address=(address, 64))
+        some_bytes("data", data)
         what = self._checked(self._library.nvmesim_store(self._at, cntlid, address, data, len(data)), cntlid).what
         return Stored(cntlid, what == STORED)
 
     def write32(self, cntlid: int, offset: int, value: int) -> Wrote32:
         """It writes a register."""
-        fits((cntlid, 16), (offset, 64), (value, 32))
+        fits(controller=(cntlid, 16), offset=(offset, 64), value=(value, 32))
         self._checked(self._library.nvmesim_write32(self._at, cntlid, offset, value), cntlid)
         return Wrote32(cntlid)
 
     def read32(self, cntlid: int, offset: int) -> int:
         """It reads a register."""
-        fits((cntlid, 16), (offset, 64))
+        fits(controller=(cntlid, 16), offset=(offset, 64))
         return int(self._checked(self._library.nvmesim_read32(self._at, cntlid, offset), cntlid).value)
 
     def fetch(self, cntlid: int, queue: int) -> Fetched:
         """A controller fetches a command."""
-        fits((cntlid, 16), (queue, 16))
+        fits(controller=(cntlid, 16), queue=(queue, 16))
         answer = self._checked(self._library.nvmesim_fetch(self._at, cntlid, queue), cntlid)
         return Fetched(cntlid, queue, answer.what == TOOK)
 
     def execute(self, cntlid: int, place: int) -> Executed:
         """It executes one that it has fetched."""
-        fits((cntlid, 16), (place, 64))
+        fits(controller=(cntlid, 16), place=(place, 64))
         answer = self._checked(self._library.nvmesim_execute(self._at, cntlid, place), cntlid)
         if answer.what != POSTED:
             return Executed(cntlid, place, _OUTCOMES[answer.what])
@@ -275,9 +278,9 @@ class Open:
             NotDone: there is no such queue, the controller does not run, or something waits at the queue already;
                 nothing has happened then.
         """
-        fits((cntlid, 16), (queue, 16))
-        if len(entry) != 64:
-            raise ValueError(f"a submission queue entry has 64 bytes, not {len(entry)}")
+        fits(controller=(cntlid, 16), queue=(queue, 16))
+        if len(some_bytes("entry", entry)) != 64:
+            raise ArgumentError(f"a submission queue entry has 64 bytes, not {len(entry)}")
         room = ctypes.create_string_buffer(16)
         answer = self._library.nvmesim_submit(self._at, cntlid, queue, entry, room)
         if answer.what != POSTED:
@@ -291,14 +294,14 @@ class Open:
 
     def window(self, cntlid: int, address: int, length: int) -> bytes:
         """Bytes of the memory of a controller's host."""
-        fits((cntlid, 16), (address, 64), (length, 32))
+        fits(controller=(cntlid, 16), address=(address, 64), length=(length, 32))
         room = ctypes.create_string_buffer(max(length, 1))
         self._done(self._library.nvmesim_load(self._at, cntlid, address, room, length), cntlid)
         return room.raw[:length]
 
     def blocks(self, nsid: int, slba: int, count: int) -> bytes:
         """Blocks of a namespace as the medium has them."""
-        fits((nsid, 32), (slba, 64), (count, 17))
+        fits(namespace=(nsid, 32), slba=(slba, 64), count=(count, 17))
         length = count * BLOCK_BYTES
         room = ctypes.create_string_buffer(max(length, 1))
         self._done(self._library.nvmesim_read_blocks(self._at, nsid, slba, room, length), 0)
@@ -306,7 +309,7 @@ class Open:
 
     def queues(self, cntlid: int) -> List[Queue]:
         """The queues of a controller."""
-        fits((cntlid, 16))
+        fits(controller=(cntlid, 16))
         found: List[Queue] = []
         for number in range(5):
             sq = self._library.nvmesim_submission_queue(self._at, cntlid, number)
@@ -322,7 +325,7 @@ class Open:
 
     def fetched(self, cntlid: int) -> List[FetchedCommand]:
         """The commands that a controller has fetched and not executed."""
-        fits((cntlid, 16))
+        fits(controller=(cntlid, 16))
         first = self._library.nvmesim_fetched(self._at, cntlid, 0)
         if first.what != NO_SUCH:
             self._done(first.what, cntlid)
@@ -330,12 +333,12 @@ class Open:
 
     def is_attached(self, cntlid: int, nsid: int) -> bool:
         """Whether a controller has a namespace."""
-        fits((cntlid, 16), (nsid, 32))
+        fits(controller=(cntlid, 16), namespace=(nsid, 32))
         return bool(self._checked(self._library.nvmesim_is_attached(self._at, cntlid, nsid), cntlid).value)
 
     def reservation(self, nsid: int) -> ReservationState:
         """The reservation of a namespace."""
-        fits((nsid, 32))
+        fits(namespace=(nsid, 32))
         hold = self._library.nvmesim_reservation(self._at, nsid)
         self._done(hold.what, 0)
         registered = [self._library.nvmesim_registrant(self._at, nsid, i) for i in range(hold.registrants)]

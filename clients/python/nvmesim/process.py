@@ -11,7 +11,8 @@ import time
 from pathlib import Path
 from typing import IO, List, Optional, Sequence, Union
 
-from .errors import ProgramDied, ProgramHangs, ProgramNotFound, ProtocolError, SessionClosed
+from .arguments import a_path, one_line
+from .errors import ProgramHangs, ProgramNotFound, ProtocolError, SessionClosed, death_of
 
 PathLike = Union[str, "os.PathLike[str]"]
 
@@ -39,7 +40,7 @@ def find_program(given: Optional[PathLike] = None, name: str = "nvmelive", varia
     """
     named = given if given is not None else os.environ.get(variable) or None
     if named is not None:
-        found = shutil.which(os.fspath(named))
+        found = shutil.which(a_path("program", named))
         if found is None:
             raise ProgramNotFound(f"{os.fspath(named)} is no program that can be run")
         return Path(found)
@@ -130,9 +131,10 @@ class Process:
             ProgramDied: the program ended, or closed its output.
             ProgramHangs: an answer did not come in time; the program is killed.
             SessionClosed: the session was closed.
+            ArgumentError: a line is no text, or has a line feed in it; nothing was sent.
         """
-        if any("\n" in it for it in lines):
-            raise ValueError("a line has no line feed in it")
+        for it in lines:
+            one_line("a line", it)
         return self._talk(lines, len(lines))
 
     def receive(self, count: int) -> List[str]:
@@ -206,7 +208,7 @@ class Process:
         except subprocess.TimeoutExpired:
             status = None
         self._end()
-        raise ProgramDied(status, self._last, self.told)
+        raise death_of(status, self._last, self.told)
 
     def _give_up(self) -> None:
         """Kills a program that does not answer."""

@@ -12,6 +12,9 @@ import pytest
 from .errors import NvmesimError
 from .expect import Trial, has_marks, read_test, try_script
 from .expect.told import trial_lines
+from .explore.medium import Medium
+from .reading import read_with
+from .script import configuration_of
 from .subsystem import Subsystem
 from .texts import text_of
 
@@ -77,11 +80,13 @@ class ScriptFile(pytest.File):
 
 
 class ScriptItem(pytest.Item):
-    """A script's expectations, judged in one run over zeros in memory."""
+    """A script's expectations, judged in one run over zeros."""
 
     def runtest(self) -> None:
+        read_with(self.config.getoption("--nvmelive"))
         test = read_test(self.path.name, text_of(str(self.path)))
-        trial = try_script(test, program=self.config.getoption("--nvmelive"))
+        with Medium(blocks=configuration_of(test.lines).blocks) as medium, medium.of_a_run() as image:
+            trial = try_script(test, image, self.config.getoption("--nvmelive"))
         if not trial.is_good:
             raise ExpectationsFailed(trial)
 

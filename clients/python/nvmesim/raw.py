@@ -6,7 +6,7 @@ so an entry that a host has read into its queue from a namespace is not.
 from __future__ import annotations
 
 from dataclasses import dataclass
-from typing import Dict, Union
+from typing import Dict, Optional, Union
 
 from .enums import AdminOpcode, IoOpcode
 
@@ -46,6 +46,12 @@ class Entry:
             return self.raw[0]
 
     @property
+    def io_opcode(self) -> Optional[IoOpcode]:
+        """Its opcode where it is a known one of an I/O queue."""
+        opcode = self.opcode
+        return opcode if isinstance(opcode, IoOpcode) else None
+
+    @property
     def cid(self) -> int:
         """The command identifier."""
         return self.field(2, 2)
@@ -83,11 +89,11 @@ class RawQueues:
         """Power was lost and came back: registers and queues are as at first, and the window keeps its bytes."""
         self._registers, self._queues = {}, {}
 
-    def fetch(self, number: int) -> Entry:
-        """The entry that the controller took from this queue. An unknown queue gives one of zeros."""
+    def fetch(self, number: int) -> Optional[Entry]:
+        """The entry that the controller took from this queue; None of a queue whose creation is not known here."""
         queue = self._queues.get(number)
         if queue is None:
-            return Entry(number, bytes(ENTRY_BYTES))
+            return None
         begin = queue.base + ENTRY_BYTES * queue.head
         queue.head = (queue.head + 1) % queue.size
         return Entry(number, bytes(self._window[begin:begin + ENTRY_BYTES]).ljust(ENTRY_BYTES, b"\0"))

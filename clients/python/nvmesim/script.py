@@ -1,16 +1,15 @@
-"""Reads scripts: which lines describe the subsystem, which are events, and what each says."""
+"""Scripts: which lines describe the subsystem, which are events, and what each says. The program reads them."""
 from __future__ import annotations
 
 import enum
-import re
 from dataclasses import dataclass
 from functools import cached_property
 from typing import Dict, Iterable, Iterator, List, Optional, Tuple
 
-from .answers import BLOCK_BYTES
 from .errors import ScriptError
+from .process import PathLike
+from .reading import words_of
 
-CONFIGURATION_VERBS = ("controller", "namespace", "attached")
 ADMIN_VERBS = ("identify", "protect", "protection", "attach", "detach")
 IO_VERBS = ("read", "write", "compare", "zeroes", "flush", "register", "acquire", "release", "report")
 REQUEST_VERBS = ADMIN_VERBS + IO_VERBS
@@ -20,15 +19,6 @@ EVENT_VERBS = REQUEST_VERBS + ("up", "ring", "fetch", "execute", "poll", "reset"
 MOST_BLOCKS = 256
 """The most blocks that a Read, Write or Compare has."""
 
-_DECIMAL = re.compile(r"[0-9]+\Z")
-_HEXADECIMAL = re.compile(r"0x[0-9a-fA-F]+\Z")
-# How many words each line has, its verb among them; None: at least three.
-_WORDS: Dict[str, Optional[int]] = {
-    "controller": None, "namespace": 5, "attached": 3, "start": 1, "up": 2, "read": 5, "write": 6, "compare": 6,
-    "zeroes": 5, "flush": 3, "register": 8, "acquire": 7, "release": 6, "report": 4, "identify": 4, "protect": 4,
-    "protection": 3, "attach": None, "detach": None, "ring": 2, "fetch": 3, "execute": 3, "poll": 2, "reset": 2,
-    "store": 4, "write32": 4, "powercycle": 1,
-}
 _DATA_AT = {"write": 5, "compare": 5, "store": 3}
 
 
@@ -50,7 +40,7 @@ class ScriptLine:
         number: its place, from 1.
         text: the line as it stands, without its line feed.
         kind: what it is.
-        words: its words, none for a comment.
+        words: its words in the one form of `reading.words_of`, none for a comment.
     """
 
     number: int
@@ -66,7 +56,7 @@ class ScriptLine:
     @cached_property
     def controller(self) -> int:
         """The controller that an event names; 0, which no controller has, for an event of all."""
-        return 0 if self.is_of_all else number_of(self.words[1])
+        return 0 if self.is_of_all else number_taken(self.words[1])
 
     @property
     def is_power_cycle(self) -> bool:
@@ -82,6 +72,11 @@ class ScriptLine:
     def is_of_all(self) -> bool:
         """Whether it names no controller, and is an event of all."""
         return self.is_power_cycle or self.is_crash
+
+    @cached_property
+    def sent(self) -> str:
+        """It as a program is sent it, with single spaces."""
+        return self.verb if self.is_crash else " ".join(self.text.split())
 
     @property
     def is_request(self) -> bool:
@@ -99,81 +94,69 @@ class ScriptLine:
 
     @cached_property
     def _numbers(self) -> Tuple[int, ...]:
-        return tuple(number_of(it) for n, it in enumerate(self.words) if n and n != _DATA_AT.get(self.verb))
+        return tuple(number_taken(it) for n, it in enumerate(self.words) if n and n != _DATA_AT.get(self.verb))
 
     def data(self) -> bytes:
-        """The bytes that a `write`, `compare` or `store` spells; of `fill:`, as many as its blocks have."""
-        word = self.words[_DATA_AT[self.verb]]
-        form, _, digits = word.partition(":")
-        spelled = bytes.fromhex(digits)
-        if form == "fill" and len(spelled) == 1:
-            blocks = number_of(self.words[4])
-            return spelled * (BLOCK_BYTES * blocks) if blocks <= MOST_BLOCKS else b""
-        if form != "hex" or not spelled:
-            raise ValueError(f"{word!r} are no data")
-        return spelled
+        """The bytes that a `store` spells, or a `write` or `compare` that the program has read: without the zeros at
+        their end."""
+        return bytes.fromhex(self.words[_DATA_AT[self.verb]].partition(":")[2])
 
 
-def number_of(word: str) -> int:
-    """A number as scripts spell it. Raises `ValueError` for anything else."""
-    if _DECIMAL.match(word):
-        return int(word)
-    if _HEXADECIMAL.match(word):
-        return int(word, 16)
-    raise ValueError(f"{word!r} is no number")
+def number_taken(word: str) -> int:
+    """A number that the program has taken."""
+    return int(word, 16) if word.startswith("0x") else int(word)
 
 
-def read_lines(text: str, is_started: bool = False) -> Iterator[ScriptLine]:
-    """The lines of a script, in order.
+def read_lines(text: str, is_started: bool = False, program: Optional[PathLike] = None) -> Iterator[ScriptLine]:
+    """The lines of a script, in order, as the program reads them.
 
     Args:
         text: the script.
         is_started: whether the text goes on behind `start`.
+        program: the program `nvmelive`; None for the one of `reading.read_with`.
 
     Raises:
-        ScriptError: a line begins with no word of scripts, has another count of words, or stands on the wrong side
-            of `start`. The program judges the rest.
+        ScriptError: the program does not read a line, or it is on the wrong side of `start`.
+        SessionError: the program ended, or does not answer.
     """
     lines = text.split("\n")
-    for number, line in enumerate(lines[:-1] if lines[-1] == "" else lines, 1):
-        words = tuple(re.split(r"[ \t\r]+", line.strip(" \t\r")))
+    texts = lines[:-1] if lines[-1] == "" else lines
+    asked = [n for n, it in enumerate(texts) if it and not it.startswith("#")]
+    try:
+        words = dict(zip(asked, words_of([texts[n] for n in asked], [n + 1 for n in asked], program)))
+    except ScriptError as fault:
+        raise ScriptError(fault.number, fault.why + _hint(texts[fault.number - 1])) from None
+    for n, line in enumerate(texts):
         if line.startswith("#"):
-            yield ScriptLine(number, line, LineKind.COMMENT)
-        elif words == ("",):
-            yield ScriptLine(number, line, LineKind.BLANK)
+            yield ScriptLine(n + 1, line, LineKind.COMMENT)
+        elif not words.get(n):
+            yield ScriptLine(n + 1, line, LineKind.BLANK)
         else:
-            kind = _kind_of(number, words, is_started)
+            kind = _kind_of(n + 1, words[n][0], is_started)
             is_started = is_started or kind is LineKind.START
-            yield ScriptLine(number, line, kind, words)
+            yield ScriptLine(n + 1, line, kind, _with_blocks(words[n], line))
 
 
-def _kind_of(number: int, words: Tuple[str, ...], is_started: bool) -> LineKind:
-    """What a line with words is; refuses what can't stand there."""
-    verb = words[0]
-    if verb not in _WORDS:
-        raise ScriptError(number, f"there is no line {verb!r}")
-    wanted = _WORDS[verb]
-    if (wanted is None and len(words) < 3) or (wanted is not None and len(words) != wanted):
-        hint = "; a comment has a line of its own, which begins with '#'" if any(it[0] == "#" for it in words) else ""
-        raise ScriptError(number, f"{verb} has {wanted or 'at least 3'} words, and not {len(words)}{hint}")
+def _with_blocks(words: Tuple[str, ...], line: str) -> Tuple[str, ...]:
+    """The words of a line with the BLOCKS that it says: the program reads each that no command can say as 0."""
+    if words[0] not in ("write", "compare") or words[4] != "0":
+        return words
+    return (*words[:4], str(number_taken(line.split()[4])), words[5])
+
+
+def _hint(line: str) -> str:
+    """What may help where a line is not read."""
+    return "; a comment has a line of its own, which begins with '#'" if " #" in line else ""
+
+
+def _kind_of(number: int, verb: str, is_started: bool) -> LineKind:
+    """What a line with this verb is; refuses what can't be there."""
     is_event = verb in EVENT_VERBS
     if is_event != is_started:
         raise ScriptError(number, f"{verb} can't stand {'behind' if is_started else 'before'} start")
     if is_event:
-        _check_numbers(number, words)
         return LineKind.EVENT
     return LineKind.START if verb == "start" else LineKind.CONFIGURATION
-
-
-def _check_numbers(number: int, words: Tuple[str, ...]) -> None:
-    """Refuses an event with a word that is no number, or with data that are none."""
-    line = ScriptLine(number, " ".join(words), LineKind.EVENT, words)
-    try:
-        line.numbers()
-        if words[0] in _DATA_AT:
-            line.data()
-    except ValueError as fault:
-        raise ScriptError(number, str(fault)) from None
 
 
 def events_of(lines: Iterable[ScriptLine]) -> List[ScriptLine]:
@@ -195,6 +178,11 @@ class Configuration:
     raw: Tuple[int, ...]
     namespaces: Dict[int, int]
 
+    @property
+    def blocks(self) -> int:
+        """The blocks of the medium that its namespaces take."""
+        return sum(self.namespaces.values())
+
 
 def configuration_of(lines: Iterable[ScriptLine]) -> Configuration:
     """What a script describes. The program judges it."""
@@ -204,12 +192,9 @@ def configuration_of(lines: Iterable[ScriptLine]) -> Configuration:
     for line in lines:
         if line.kind is not LineKind.CONFIGURATION:
             continue
-        try:
-            if line.verb == "controller":
-                hosts[number_of(line.words[1])] = number_of(line.words[3])
-                raw += [number_of(line.words[1])] if line.words[-1] == "raw" else []
-            elif line.verb == "namespace":
-                namespaces[number_of(line.words[1])] = number_of(line.words[3])
-        except (ValueError, IndexError):
-            raise ScriptError(line.number, f"not understood: {line.text!r}") from None
+        if line.verb == "controller":
+            hosts[number_taken(line.words[1])] = number_taken(line.words[3])
+            raw += [number_taken(line.words[1])] if line.words[-1] == "raw" else []
+        elif line.verb == "namespace":
+            namespaces[number_taken(line.words[1])] = number_taken(line.words[3])
     return Configuration(hosts, tuple(raw), namespaces)

@@ -4,10 +4,11 @@ from __future__ import annotations
 from types import TracebackType
 from typing import List, Optional, Sequence, Type
 
-from .errors import ConfigurationRefused, LineError, NotDone, ProtocolError
+from .arguments import a_path, a_text, one_line, seconds_of, shown
+from .errors import ArgumentError, ConfigurationRefused, LineError, NotDone, ProtocolError
 from .history import Event, Follower
 from .process import PathLike, Process, find_program
-from .script import LineKind, ScriptLine, read_lines
+from .script import LineKind, ScriptLine, number_taken, read_lines
 
 SECONDS = 10.0
 """The time limit of an answer, where none is given."""
@@ -31,7 +32,9 @@ class Session:
         Raises:
             ProgramNotFound: there is no such program.
         """
-        self._process = Process([find_program(program), "-" if image is None else image], seconds)
+        medium = "-" if image is None else a_path("image", image)
+        self._program = find_program(program)
+        self._process = Process([self._program, medium], seconds_of(seconds))
         self._lines: List[str] = []
         self._answers: List[str] = []
         self._raw: List[int] = []
@@ -42,7 +45,10 @@ class Session:
 
     def __exit__(self, kind: Optional[Type[BaseException]], fault: Optional[BaseException],
                  trace: Optional[TracebackType]) -> None:
-        self.close()
+        if kind is not None and not issubclass(kind, Exception):
+            self._process.abandon()  # Ctrl-C waits for nobody
+        else:
+            self.close()
 
     def close(self) -> int:
         """Ends the session; the program's exit status, 0 for a session that ended well."""
@@ -81,6 +87,8 @@ class Session:
 
     def ask_all(self, lines: Sequence[str]) -> List[str]:
         """The answers of several lines, which are sent ahead of them. Raises as `ask` does, for the first fault."""
+        if isinstance(lines, str):
+            raise ArgumentError(f"lines is a list of texts, and not {shown(lines)}")
         answers = self._process.exchange(lines)
         for line, answer in zip(lines, answers):
             if answer.startswith("!"):
@@ -89,19 +97,21 @@ class Session:
 
     def look(self, line: str) -> str:
         """The answer of a looking line, which begins with `?`."""
-        if not line.startswith("?"):
-            raise ValueError(f"{line!r} is no looking line")
+        if not one_line("line", line).startswith("?"):
+            raise ArgumentError(f"a looking line begins with '?', and {shown(line)} does not")
         return self.ask(line)
 
     def configure(self, line: str) -> None:
         """A line that describes the subsystem, before `start`."""
+        if not one_line("line", line).split():
+            raise ArgumentError("line describes the subsystem, and this one is empty")
         answer = self.ask(line)
         if answer != "ok":
             raise ProtocolError(f"{answer!r} does not answer the line {line!r}")
         self._lines.append(line)
         words = line.split()
         if words[0] == "controller" and words[-1] == "raw":
-            self._raw.append(int(words[1], 0))
+            self._raw.append(number_taken(words[1]))
 
     def start(self) -> None:
         """Ends the description, and lets the events begin.
@@ -134,7 +144,7 @@ class Session:
             ScriptError: the text is no script; nothing was sent.
         """
         kinds = (LineKind.CONFIGURATION, LineKind.START, LineKind.EVENT)
-        wanted = [it for it in read_lines(script, self.is_started) if it.kind in kinds]
+        wanted = [it for it in read_lines(a_text("script", script), self.is_started, self._program) if it.kind in kinds]
         events: List[Event] = []
         for line in wanted:
             if line.kind is LineKind.EVENT:

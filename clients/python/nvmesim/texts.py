@@ -5,6 +5,7 @@ import sys
 from pathlib import Path
 
 from .errors import NvmesimError
+from .files import STANDARD, doing
 
 
 def text_of(name: str) -> str:
@@ -12,9 +13,10 @@ def text_of(name: str) -> str:
 
     Raises:
         NvmesimError: it is no text.
-        OSError: it can't be read.
+        FileFault: it can't be read.
     """
-    data = sys.stdin.buffer.read() if name == "-" else Path(name).read_bytes()
+    with doing("read", "standard input" if name == STANDARD else name):
+        data = sys.stdin.buffer.read() if name == STANDARD else Path(name).read_bytes()
     try:
         return data.decode("utf-8").replace("\r\n", "\n")
     except UnicodeDecodeError as fault:

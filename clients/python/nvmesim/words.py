@@ -10,7 +10,7 @@ from .enums import (AcquireAction, AdminOpcode, ExecuteOutcome, IoOpcode, Persis
 from .history import Command, Event
 from .raw import Entry
 from .reports import HEADER_BYTES, ReservationReport, parse_report
-from .script import Configuration, LineKind, ScriptLine, number_of
+from .script import Configuration, LineKind, ScriptLine
 
 _NAMES = {
     "read": "Read", "write": "Write", "compare": "Compare", "zeroes": "Write Zeroes", "flush": "Flush",
@@ -191,7 +191,7 @@ def configuration_words(line: ScriptLine) -> str:
     words = line.words
     if line.verb == "controller":
         how = "a raw host's, without a driver" if words[-1] == "raw" else "with a driver"
-        return f"controller {words[1]} belongs to {host_words(number_of(words[3]))}, {how}"
+        return f"controller {words[1]} belongs to {host_words(int(words[3], 16))}, {how}"
     if line.verb == "namespace":
         return f"namespace {words[1]} has {words[3]} blocks, {words[4]}"
     return f"controller {words[1]} may use namespace {words[2]}"

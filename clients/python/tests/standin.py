@@ -6,6 +6,7 @@ nothing is claimed of it beyond them: raw hosts, identify and lists of controlle
 """
 from __future__ import annotations
 
+import re
 import sys
 from dataclasses import dataclass, field
 from typing import BinaryIO, Dict, List, Optional, Tuple
@@ -20,8 +21,63 @@ ADMIN = ("protect", "protection")
 READERS, WRITERS = ("read", "compare"), ("write", "zeroes", "flush")
 
 
+# The words of each line behind its verb, with the bits of their numbers.
+FORMS = {
+    "controller": "N16 =host H128", "namespace": "N32 =blocks N64 =shared|private", "attached": "N16 N32", "start": "",
+    "up": "N16", "ring": "N16", "poll": "N16", "reset": "N16", "fetch": "N16 N16", "execute": "N16 N16",
+    "powercycle": "", "read": "N16 N32 N64 N32", "write": "N16 N32 N64 N32 D", "compare": "N16 N32 N64 N32 D",
+    "zeroes": "N16 N32 N64 N32", "flush": "N16 N32", "register": "N16 N32 N8 N8 N8 N64 N64",
+    "acquire": "N16 N32 N8 N8 N64 N64", "release": "N16 N32 N8 N8 N64", "report": "N16 N32 N32",
+    "identify": "N16 N8 N32", "protect": "N16 N32 N8", "protection": "N16 N32", "attach": "N16 N32 L",
+    "detach": "N16 N32 L", "store": "N16 N64 B", "write32": "N16 N64 N32",
+}
+
+
+class Unread(ValueError):  # the place of a word that no line has, and why
+    pass
+
+
 def number(word: str) -> int:
     return int(word, 16) if word.startswith("0x") else int(word)
+
+
+def read(text: str) -> str:
+    words = [it for it in re.split(r"[ \t\r]", text) if it]
+    if text.startswith("#") or not words:
+        return ""
+    if words[0] not in FORMS:
+        raise Unread(1, f"there is no line {words[0]!r}")
+    forms = FORMS[words[0]].split()
+    is_list = bool(forms) and forms[-1] == "L"
+    forms = forms[:-1] + ["N16"] * (len(words) - len(forms)) if is_list else forms
+    forms += ["=raw"] if words[0] == "controller" and len(words) == 5 else []
+    if len(words) != len(forms) + 1 or is_list and len(words) < 3:
+        raise Unread(1, f"{words[0]} takes {len(forms) + 1} words")
+    made = [one(form, word, place, words) for place, (form, word) in enumerate(zip(forms, words[1:]), 2)]
+    return " ".join((words[0], *made))
+
+
+def one(form: str, word: str, place: int, words: List[str]) -> str:
+    if form in ("D", "B"):
+        return data(form, word, place, words)
+    if form[0] == "=" and word in form[1:].split("|"):
+        return word
+    if form[0] == "=" or not re.fullmatch(r"[0-9]+|0x[0-9a-fA-F]+", word) or number(word) >= 2**int(form[1:]):
+        raise Unread(place, f"a number below 2^{form[1:]}, and not {word!r}")
+    return f"{number(word):#x}" if form[0] == "H" else str(number(word))
+
+
+def data(form: str, word: str, place: int, words: List[str]) -> str:
+    kind, _, digits = word.partition(":")
+    is_fill = form == "D" and kind == "fill" and len(digits) == 2
+    size = 512 * number(words[4]) if form == "D" else len(digits)
+    if not re.fullmatch(r"(?:[0-9a-fA-F]{2})+", digits) or not is_fill and kind != "hex" or len(digits) > 2 * size > 0:
+        wanted = "DATA, fill: and two hexadecimal digits, or hex: and pairs of them that BLOCKS have room for"
+        raise Unread(place, f"{wanted if form == 'D' else 'hex: and pairs of hexadecimal digits'}, and not {word!r}")
+    if form == "D" and size not in range(512, 512 * 257):
+        return "hex:00"
+    made = bytes.fromhex(digits) * (size if is_fill else 1)
+    return f"hex:{(made.rstrip(bytes(1)) or bytes(1)).hex() if form == 'D' else made.hex()}"
 
 
 @dataclass
@@ -103,6 +159,11 @@ class World:
         self.count = 0
 
     def answer(self, line: str) -> str:
+        if line.startswith("?line"):
+            try:
+                return f"line {read(line[len('?line '):]) or 'blank'}"
+            except Unread as fault:
+                return f"! line {self.count} word {fault.args[0]}: {fault.args[1]}"
         words = line.split()
         if not words or line.startswith("#"):
             return "ok"

@@ -2,6 +2,7 @@
 from __future__ import annotations
 
 import os
+import signal
 import sys
 import tempfile
 import unittest
@@ -24,6 +25,13 @@ def _program(variable: str) -> Optional[Path]:
 LIVE = _program("NVMELIVE")
 SIM = _program("NVMESIM")
 PROGRAMS: List[Path] = [STANDIN, *([LIVE] if LIVE else [])]
+if LIVE is None:
+    os.environ["NVMELIVE"] = str(STANDIN)  # what reads lines where no program is named
+
+
+def heed_interrupts() -> None:
+    """For a child that is interrupted, as its preexec_fn: a shell starts what it runs in the background without SIGINT."""
+    signal.signal(signal.SIGINT, signal.SIG_DFL)
 
 
 def examples() -> Iterator[Tuple[str, str, str]]:
@@ -35,6 +43,18 @@ def examples() -> Iterator[Tuple[str, str, str]]:
 def script_of(name: str) -> str:
     """The script of an example."""
     return (DATA / f"{name}.nvme").read_text(encoding="utf-8")
+
+
+READING = f"""sys.path.insert(0, {str(STANDIN.parent)!r})
+from standin import read
+def lines():
+    for line in sys.stdin:
+        if line.startswith('?line '):
+            print('line', read(line[6:-1]) or 'blank', flush=True)
+        else:
+            yield line
+"""
+"""The begin of a program that reads lines as it should, and takes all others in `lines()`."""
 
 
 class FolderCase(unittest.TestCase):

@@ -61,7 +61,7 @@ class NamesTest(unittest.TestCase):
     def test_rules_and_refusals_are_those_of_the_document(self) -> None:
         rules = re.findall(r"^\| (\d+) \| [^|]+ \| \d:", self.document, re.MULTILINE)
         self.assertEqual([int(it) for it in rules], [it.value for it in Rule if it is not Rule.NONE])
-        section = self.document[self.document.index("| Refusal | Where |"):]
+        section = self.document[self.document.index("| Refusal | When |"):]
         told = re.findall(r"^\| `(\w+)` \|", section[:section.index("\n\n")], re.MULTILINE)
         self.assertEqual(told, [it.value for it in Refusal])
 

@@ -159,7 +159,7 @@ class StepTest(unittest.TestCase):
         wrong = io.StringIO()
         with mock.patch("nvmesim.conform.device.os.open", busy), contextlib.redirect_stderr(wrong):
             self.assertEqual(main(["conform", "--device", "/dev/nvme0n1", "--destroy-data"]), 2)
-        self.assertEqual(wrong.getvalue(), "nvmesim: /dev/nvme0n1: Device or resource busy\n")
+        self.assertEqual(wrong.getvalue(), "nvmesim: can't open /dev/nvme0n1: Device or resource busy\n")
         with self.assertRaisesRegex(DeviceFault, "^/dev/null is no namespace of an NVMe device"):
             Device("/dev/null")
         with mock.patch("nvmesim.conform.device.fcntl.ioctl", side_effect=[1, OSError(errno.EINVAL, "")]):

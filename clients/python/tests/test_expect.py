@@ -12,7 +12,7 @@ from nvmesim import ScriptError
 from nvmesim.__main__ import main
 from nvmesim.expect import has_marks, read_test, try_script
 
-from .support import LIVE, PACKAGE, PROGRAMS, RACE, FolderCase
+from .support import LIVE, PACKAGE, PROGRAMS, RACE, READING, FolderCase
 
 FENCING = PACKAGE / "examples" / "fencing-test.nvme"
 HEAD = "controller 1 host 0xa1\nnamespace 1 blocks 8 shared\nattached 1 1\nstart\n"
@@ -52,13 +52,13 @@ REFUSED = {
     "# expect-blocks": "is not '# expect-blocks N SLBA COUNT HEX'",
     "# expect-blocks 1 0 1": "is not '# expect-blocks N SLBA COUNT HEX'",
     "# expect-blocks 1 0 1 - -": "is not '# expect-blocks N SLBA COUNT HEX'",
-    "# expect-blocks 1 x 1 -": "is not '# expect-blocks N SLBA COUNT HEX'",
+    "# expect-blocks 1 x 1 -": "is not '# expect-blocks N SLBA COUNT HEX': ",
     "# expect-blocks 1 0 0 -": "COUNT is 1 to 256",
     "# expect-blocks 1 0 257 -": "COUNT is 1 to 256",
     "# expect-blocks 1 0 1 4": "HEX is",
     "# expect-blocks 1 0 1 zz": "HEX is",
     "# expect-blocks 1 0 1 fill:4": "HEX is",
-    "# expect-blocks 1 0 1 " + "00" * 513: "for at most 512 bytes",
+    "# expect-blocks 1 0 1 " + "00" * 513: "that COUNT blocks have room for",
 }
 OTHER = ("# except this", "# the host is expected to come up", "# inspect", "#", "# exp", "# e x p e c t")
 
@@ -169,7 +169,7 @@ class ExpectTest(FolderCase):
         self.assertEqual(status, 2)
         self.assertIn(f"{words[0]}: REFUSED: the script has no expectation", told[0])
         self.assertIn(f"{words[1]}:6: REFUSED: '#expect up 1 ok' nearly is", told[1])
-        self.assertIn(f"{words[2]}:1: REFUSED: there is no line 'controler'", told[2])
+        self.assertIn(f"{words[2]}:1: REFUSED: word 1: there is no line 'controler'", told[2])
         self.assertIn("the configuration is refused: line 4: BadId; line 3: ", told[3])
         self.assertEqual(told[4], f"{words[3]}: FAILED, 0 of 1 expectations hold")
         self.assertEqual(told[5], f"{words[4]}: as expected, 1 of 1 expectations hold")
@@ -178,7 +178,7 @@ class ExpectTest(FolderCase):
                                     "4 scripts refused"])
 
     def test_a_program_that_dies(self) -> None:
-        program = self.program("for n, line in enumerate(sys.stdin):\n    if n > 4: sys.exit(7)\n"
+        program = self.program(READING + "for n, line in enumerate(lines()):\n    if n > 4: sys.exit(7)\n"
                                "    print(['ok', 'ok', 'ok', 'started', 'up 1 ok'][n], flush=True)\n")
         script = self.file("a.nvme", HEAD + "up 1\n# expect up 1 ok\nup 1\n# expect up 1 AlreadyUp\n")
         page = self.folder / "page.xml"

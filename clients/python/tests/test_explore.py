@@ -179,8 +179,17 @@ class PlanTest(unittest.TestCase):
             text = HEAD + "# host a\nring 1\n" + comment + "\nring 1\n"
             with self.subTest(comment):
                 self.assertEqual(Plan(text).parts, {"a": 2})
-            with self.subTest(comment), self.assertRaisesRegex(ScriptError, "^the script has no mark"):
-                Plan(HEAD + comment + "\nring 1\n")
+
+    def test_a_script_without_marks_is_one_order(self) -> None:
+        """Its comments may be what is nearly a mark elsewhere."""
+        for comment, near in (("# host b2h writes", "line 9, '# host b2h writes', is nearly '# host b2h'"),
+                              ("# Host b", "is nearly '# host b'"), ("# then c", "is nearly '# then'"), ("# any", "")):
+            plan = Plan(HEAD + comment + "\nring 1\n")
+            lines = list(Report(plan, walk_of(plan).explore()).lines())
+            with self.subTest(comment):
+                self.assertEqual((plan.orders, plan.parts, lines[0]), (1, {}, "1 order of 3 events: 1 outcome"))
+                self.assertRegex(lines[1], "^The script has no mark '# host NAME'.*, so nothing was tried")
+                self.assertIn(near, lines[1])
 
     def test_what_is_nearly_a_mark(self) -> None:
         for comment, meant in (("# Host b", "# host b"), ("# hosts b", "# host b"), ("#host c", "# host c"),

@@ -32,6 +32,9 @@ class CommandTest(FolderCase):
     def test_each_fault_is_one_sentence(self) -> None:
         text = self.folder / "text"
         text.write_bytes(b"\xff")
+        fill = self.folder / "fill"
+        fill.write_text("controller 1 host 1\nnamespace 1 blocks 8 shared\nattached 1 1\nstart\nup 1\n"
+                        "write 1 1 0 1 fill:0\n", encoding="utf-8")
         parrot = self.program("for line in sys.stdin: print(line, end='', flush=True)")
         for words, said in (
                 (["explore", str(RACE), "--bogus"], "unrecognized arguments: --bogus"),
@@ -41,11 +44,18 @@ class CommandTest(FolderCase):
                 (["explore"], "explore wants a SCRIPT, or --merge and files"),
                 (["explore", "--merge", str(text), "--image", str(text)], "--image stands where parts are explored"),
                 (["timeline", str(RACE), "--format", "png"], "a PNG file needs a name: -o FILE"),
+                (["timeline", str(RACE), "-o", "a.pdf"], "a.pdf ends with .pdf, which is no format that is written "
+                 "here: .html or .svg or .png, or no ending"),
+                (["timeline", str(RACE), "-o", "a.nvme.txt"], "a.nvme.txt ends with .txt"),
+                (["explore", str(RACE), "--page", "a.svg"], "a.svg ends with .svg, which is no format that is written "
+                 "here: .html, or no ending"),
                 (["conform", "--device", "/dev/null", "--scenes", "0"], "--scenes and --length are 1 at least"),
                 (["explore", str(self.folder / "absent")], "/absent: No such file or directory"),
+                (["explain", str(fill)], "line 6: word 6: DATA, fill: and two hexadecimal digits, or hex: and pairs of "
+                 "them that BLOCKS have room for, and not 'fill:0'"),
                 (["explain", str(text)], "is no text: its byte 0 is no UTF-8"),
                 (["timeline", str(RACE), "-o", "/absent/page"], "/absent/page: No such file or directory"),
-                (["explore", str(RACE), "--program", str(parrot)], "and neither ok nor started"),
+                (["explore", str(RACE), "--program", str(parrot)], "does not answer ?line"),
                 (["explore", str(RACE), "--always", "a.write1 =="], "'a.write1 ==' is no expression: ")):
             given = [*words[:1], "--program", str(PROGRAM), *words[1:]] if "--program" not in words else words
             status, told, wrong = self.run_command(*given)
@@ -97,6 +107,20 @@ class CommandTest(FolderCase):
         power.write_text(HEAD + "# host a\nreset 1\npoll 1\n# host b\nup 1\n# host c\nread 1 1 0 1\n", encoding="utf-8")
         self.assertIn("c.read1  refused NotReady\n   b.up1    AlreadyUp", self.explored(str(power))[1])
 
+    def test_long_values_are_told_in_short_and_told_apart_whole(self) -> None:
+        """Two outcomes whose bytes differ in the last one only are two; no line is longer than a terminal's few."""
+        script = self.folder / "long.nvme"
+        one, other = "ab" * 511 + "01", "ab" * 511 + "02"
+        script.write_text(HEAD + f"# host a\nwrite 1 1 0 1 hex:{one}\nring 1\nfetch 1 1\nexecute 1 0\n# host b\n"
+                          f"write 2 1 0 1 hex:{other}\nring 2\nfetch 2 1\nexecute 2 0\n", encoding="utf-8")
+        status, told, _ = self.explored(str(script), "--by", "block(1, 0)")
+        self.assertEqual(status, 0)
+        self.assertIn("2 outcomes", told)
+        rows = [it for it in told.splitlines() if it.startswith("   block(1, 0)")]
+        self.assertEqual(len(set(rows)), 2)
+        self.assertRegex(rows[0], r"ab\.\. \(512 bytes up to the last that is not zero, digest [0-9a-f]{8}\)$")
+        self.assertLess(max(map(len, told.splitlines())), 200)
+
     def test_the_whole_report_as_json(self) -> None:
         status, told, _ = self.explored(str(RACE), "--json", "--never", "a.write1.rule == 7", "--always", "True",
                                         "--by", "a.write1.rule")
@@ -133,6 +157,23 @@ class CommandTest(FolderCase):
             self.assertEqual(events, [str(n) for n in range(18, 33)], "from the first mark on")
         self.assertEqual(text.count("here it parts from the other order, where execute 1 0 comes next") // 2, 1)
         self.assertNotRegex(text, r"<link|<img|@import|src=|url\((?!#)")
+
+    def test_the_red_reasons_of_a_page_are_whole(self) -> None:
+        """They are not cut short, lie within their pictures by bold letters of 8 pixels, and these within the page."""
+        page = self.folder / "page.html"
+        self.explored(str(RACE), "--page", str(page), "--never", "a.write1.rule == 1")
+        text = page.read_text(encoding="utf-8")
+        self.assertIn(".pictures svg.part { max-width: 100%; height: auto; }", text)
+        reason = "denied by rule 1: a Preempt and Abort met it, and its host lost its registration"
+        found = 0
+        for width, body in re.findall(r'<svg class="part"[^>]* width="(\d+)".*?>(.*?)</svg>', text, re.DOTALL):
+            for left, line, words in re.findall(r'<g class="event denied[^<]*<title>[^<]*</title>.*?<text x="(\d+)" '
+                                                r'y="[^"]*"><tspan class="line">([^<]*)</tspan><tspan[^>]*>([^<]*)<',
+                                                body, re.DOTALL):
+                found += words.endswith(reason)
+                self.assertNotIn("..", words)
+                self.assertLess(int(left) + 7 * len(line) + 10 + 8 * len(words), int(width))
+        self.assertEqual(found, 2, "the counterexample and its outcome")
 
     def test_a_page_of_orders_that_are_not_drawn(self) -> None:
         script, page = self.folder / "crash.nvme", self.folder / "page.html"

@@ -5,11 +5,16 @@ import unittest
 from typing import List
 
 from nvmesim import ExpressionError
+from nvmesim.answers import Polled
 from nvmesim.explore import Plan
 from nvmesim.explore.expressions import Expression
+from nvmesim.explore.possible import codes_of
 from nvmesim.explore.report import Report
 from nvmesim.explore.states import Looks
+from nvmesim.history import follow
+from nvmesim.script import read_lines
 
+from .support import examples
 from .test_explore import RACE_TEXT, walk_of
 
 
@@ -55,6 +60,44 @@ class ExpressionTest(unittest.TestCase):
                      "x := 1", "exit()", "a.write1; b.poll1", "1.5 == 1", "b'x' == 1", "...", "-1 == 1"):
             with self.subTest(text), self.assertRaises(ExpressionError):
                 Expression(text, self.plan, self.blocks)
+
+    def test_what_an_answer_can_never_be(self) -> None:
+        for text, why in (
+                ("a.write1.status == '0:8'", "a.write1.status is never '0:8'; did you mean '0:8"),
+                ("'0:8' != a.write1.status", "is never '0:8'"),
+                ("a.write1.status in ('0:83', '0:8')", "is never '0:8'"),
+                ("'0:8' in (a.write1.status, b.acquire1.status)", "is never '0:8'"),
+                ("a.write1.status == '2:85'", "a.write1.status is never '2:85'"),
+                ("a.write1 == 'Compare Failure'", "a.write1 is never 'Compare Failure'"),
+                ("then.read1.status == '0:20'", "is never '0:20'"),
+                ("a.write1.executed == 'Write Falt'", "did you mean 'Write Fault'"),
+                ("a.ring1.status == '0:00'", "a.ring1.status is never '0:00'"),
+                ("a.write1.rule == 12", "a.write1.rule is never 12; it can be 0, 1, 2"),
+                ("a.execute1.request == 'a.write2'", "did you mean 'a.write1'"),
+                ("block(1, 0) == 'A1'", "is never 'A1': bytes are hexadecimal digits of lower case"),
+                ("block(1, 0) == 'a100'", "without the zeros at their end"),
+                ("then.read1.data == 'a'", "is never 'a'"),
+                ("reservation(1).rtype == 7", "is never 7"),
+                ("reservation(1).name == 'Write exclusive'", "did you mean 'Write Exclusive'"),
+                ("reservation(1).holder == 0xb3", "is never 0xb3; it can be None, 0xa1, 0xb2, 'all'"),
+                ("reservation(1).holder == 'b2'", "is never 'b2'")):
+            with self.subTest(text), self.assertRaises(ExpressionError) as caught:
+                Expression(text, self.plan, self.blocks)
+            self.assertIn(why, str(caught.exception))
+        for text in ("a.write1.status == ''", "reservation(1).holder == None", "a.execute1.request == ''",
+                     "block(1, 0) == ''", "'Conflict' in a.write1", "a.write1.status == '2:80'", "a.write1.rule < 12"):
+            self.assertEqual(len(self.truths(text)), 3)
+
+    def test_each_status_of_the_examples_is_one_that_its_request_can_have(self) -> None:
+        seen = set()
+        for _, script, transcript in examples():
+            for event in follow(list(read_lines(script)), transcript):
+                command = event.command
+                if isinstance(event.answer, Polled) and event.answer.status is not None and command is not None:
+                    assert command.line is not None
+                    self.assertIn(event.answer.status.code, codes_of(command.line), command.line.text)
+                    seen.add((command.line.verb, event.answer.status.code))
+        self.assertGreater(len(seen), 40)
 
     def test_kinds_that_can_not_be_compared(self) -> None:
         for text in ("a.write1.rule < 'x'", "a.write1 < 3", "a.write1 == 3", "a.write1.rule == '7'", "1 < 'x' < 2",

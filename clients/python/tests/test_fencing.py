@@ -25,7 +25,8 @@ class FencingTest(FolderCase):
         """What the cluster tells, and the scene of what it sent."""
         kept = self.folder / "kept"
         environment = {**os.environ, "PYTHONPATH": str(PACKAGE), "NVMELIVE": str(PROGRAMS[-1])}
-        done = subprocess.run([sys.executable, str(EXAMPLE), "--kept", str(kept), *words], capture_output=True,
+        done = subprocess.run([sys.executable, str(EXAMPLE), "--kept", str(kept), "--force", *words],
+                              capture_output=True,
                               text=True, env=environment, timeout=60)
         self.assertEqual((done.returncode, done.stderr), (0, ""))
         told = done.stdout.splitlines()

@@ -21,7 +21,7 @@ from nvmesim.explore.branches import NoFork
 from nvmesim.explore.library import NoLibrary, library
 
 from .inprocess import one_by_one, walk_of
-from .support import LIVE, PACKAGE, RACE, STANDIN, FolderCase
+from .support import LIVE, PACKAGE, RACE, STANDIN, FolderCase, heed_interrupts
 from .test_explore import POWER, SHARED, SMALL
 
 PROGRAM = LIVE or STANDIN
@@ -184,7 +184,7 @@ class ForkingTest(FolderCase):
             with self.subTest(name):
                 explorer = subprocess.Popen(
                     [sys.executable, "-m", "nvmesim", "explore", str(script), "--program", str(PROGRAM), "--jobs", "2"],
-                    cwd=PACKAGE, stdout=subprocess.PIPE, stderr=subprocess.PIPE, text=True)
+                    cwd=PACKAGE, stdout=subprocess.PIPE, stderr=subprocess.PIPE, text=True, preexec_fn=heed_interrupts)
                 sessions: Set[int] = set()
 
                 def has_forked() -> bool:

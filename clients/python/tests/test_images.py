@@ -11,6 +11,7 @@ from typing import List, Tuple
 from unittest import mock
 
 from nvmesim import ConfigurationRefused
+from nvmesim.errors import FileFault
 from nvmesim.__main__ import main
 from nvmesim.explore import Medium, Plan, Shard, explore
 from nvmesim.explore.dask import explore_on_dask
@@ -216,7 +217,7 @@ class ImagesTest(FolderCase):
     def test_what_is_no_image(self) -> None:
         with self.assertRaises(MediumError):
             Medium(self.folder)
-        with self.assertRaises(FileNotFoundError):
+        with self.assertRaisesRegex(FileFault, "can't read .*absent: No such file or directory"):
             Medium(self.folder / "absent")
         script, absent = self.script(), str(self.folder / "absent")
         for words in ((script, "--image", str(self.folder)), (script, "--image", absent),

@@ -244,4 +244,4 @@ class BackendTest(unittest.TestCase):
         self.assertRaises(ValueError, lambda: Subsystem(backend="libraries"))
         self.assertRaises(ValueError, lambda: Subsystem("disk.img", backend="library"))
         with self.assertRaises(ProgramNotFound):
-            library.load("/nowhere/libnvmesim.so.1")
+            library.load("/nowhere/libnvmesim.so.2")

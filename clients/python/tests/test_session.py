@@ -1,14 +1,15 @@
 """Sessions: what users do, what is refused, and programs that hang, die or talk nonsense."""
 from __future__ import annotations
 
+import pickle
 import subprocess
 import time
 import unittest
 from pathlib import Path
 
-from nvmesim import (AcquireAction, ConfigurationRefused, LineError, NotDone, NvmeError, Persistence, PollOutcome,
-                     ProgramDied, ProgramHangs, ProgramNotFound, Protection, ProtocolError, Refusal, RequestAborted,
-                     RequestRefused, ReservationType, Rule, Session, SessionClosed, Status, Subsystem)
+from nvmesim import (AcquireAction, ConfigurationRefused, ImageInUse, LineError, NotDone, NvmeError, Persistence,
+                     PollOutcome, ProgramDied, ProgramHangs, ProgramNotFound, Protection, ProtocolError, Refusal,
+                     RequestAborted, RequestRefused, ReservationType, Rule, Session, SessionClosed, Status, Subsystem)
 from nvmesim.process import built_program
 
 from .support import LIVE, PROGRAMS, SIM, FolderCase, examples
@@ -236,6 +237,16 @@ class BadProgramTest(FolderCase):
                          (4, "up 1", "out of memory\n"))
         with self.assertRaises(SessionClosed):
             session.ask("up 1")
+
+    def test_one_whose_image_is_in_use(self) -> None:
+        image = self.folder / "disk.img"
+        image.write_bytes(bytes(512))
+        why = f"'{image}' is in use: process 4711 (nvmesim) holds its lock; --wait waits for it"
+        program = self.program(f"print({'nvmelive: ' + why!r}, file=sys.stderr)\nsys.exit(2)\n")
+        with Subsystem(image, program=program) as subsystem, self.assertRaises(ImageInUse) as caught:
+            subsystem.controller(host=1)
+        self.assertEqual((str(caught.exception), caught.exception.why, caught.exception.status), (why, why, 2))
+        self.assertIsInstance(pickle.loads(pickle.dumps(caught.exception)), ImageInUse)
 
     def test_one_that_ends_at_once(self) -> None:
         with Session(program=self.program("sys.exit(3)\n")) as session, self.assertRaises(ProgramDied) as caught:

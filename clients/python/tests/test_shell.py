@@ -64,7 +64,7 @@ class ShellTest(FolderCase):
         self.assertEqual(told[0:4], ["before start:", "    controller namespace attached start", "after start:",
                                      "    up read write compare zeroes flush register acquire release report identify "
                                      "protect protection"])
-        self.assertIn("    ?controllers ?report ?identify ?status ?read32", told)
+        self.assertIn("    ?line ?controllers ?report ?identify ?status ?read32", told)
         self.assertEqual(told[-6:-1], ["read C N SLBA BLOCKS", "?blocks N SLBA COUNT", "?identify C CNS [NSID]",
                                        "quit               end the session, as Ctrl-D does",
                                        "! there is no line 'no': help names all"])
@@ -97,14 +97,14 @@ class ShellTest(FolderCase):
         wanted = {
             "?identify 2 1": "! controller 2 is a raw host's, and has no driver that could ask it",
             "?identify 3 1": "! there is no controller 3",
-            "?identify 1 x": "! 'x' is no number: ?identify C CNS [NSID]",
+            "?identify 1 x": "! CNS, a number below 2^8, and not 'x': ?identify C CNS [NSID]",
             "?identify 1 9": "! it is answered Invalid Field in Command (0:02)",
             "?identify 1": "! ?identify C CNS [NSID] is how it is written", "?report 5": "! there is no such namespace",
             "?report": "! ?report N is how it is written", "?controllers 1": "! ?controllers is how it is written",
             "?status": "! ?status TYPE:CODE, such as ?status 0:83 is how it is written",
             "?read32 1": "! ?read32 C OFF is how it is written", "list now": "! list stands alone",
             "drop 1": "! the session is started, and its lines can't be changed any more",
-            "save": "! save FILE is how it is written", "save image": "! image: File exists",
+            "save": "! save FILE is how it is written", "save image": "! image exists, and save replaces no file",
         }
         self.assertEqual(dict(zip(wanted, self.answers(list(wanted), self.image()))), wanted)
         status, told, _ = self.typed(["?controllers", "why", "?status 9:99", "drop 1", "drop", "change 1 x", "up 1"])
@@ -112,7 +112,7 @@ class ShellTest(FolderCase):
         self.assertIn("! 9:99 is no status of this subsystem, whose statuses are 0:00, 0:01", told[2])
         self.assertEqual(told[3:6], ["! there is no line 1: list shows them", "! drop K is how it is written",
                                      "! there is no line 1: list shows them"])
-        self.assertTrue(told[6].startswith("! line 1 word 1: "), told[6])
+        self.assertTrue(told[6].startswith("! line 7 word 1: "), told[6])
 
     def test_a_refused_start_keeps_what_was_typed(self) -> None:
         lines = ["controller 1 host 1", "", "?help", "namespace 1 blocks 70000 shared", *["attached 1 1"] * 2, "start",
@@ -184,6 +184,14 @@ class ShellTest(FolderCase):
         self.assertIn("an NVMe subsystem that hosts share, over 1,024 blocks of zeros in memory.", shown)
         self.assertIn("  1  controller 1 host 1\r\n  2  controller 1 host 1\r\n", shown)
         self.assertNotIn("Traceback", shown)
+
+    def test_lines_are_counted_as_they_are_typed(self) -> None:
+        """What the prompt asks for itself, for the key Tab and for its looks, is not counted."""
+        keys = [(b"> ", b"bad\n"), (b"! line 1 word 1: there is no line 'bad'\r\n> ", b"help up\n"),
+                (b"up C\r\n> ", b"worse\n"), (b"! line 3 word 1: there is no line 'worse'\r\n> ", b"\x04")]
+        status, shown = at_terminal([sys.executable, "-m", "nvmesim", "shell"], keys)
+        self.assertEqual(status, 0, shown)
+        self.assertIn("! line 3 word 1: there is no line 'worse'", shown)
 
 
 def at_terminal(command: Sequence[str], keys: Sequence[Tuple[bytes, bytes]]) -> Tuple[int, str]:

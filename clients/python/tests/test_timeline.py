@@ -11,7 +11,9 @@ import xml.etree.ElementTree as xml
 from unittest import mock
 
 from nvmesim import Session
-from nvmesim.script import read_lines
+from nvmesim.answers import Executed
+from nvmesim.looks import fetched
+from nvmesim.script import LineKind, read_lines
 from nvmesim.history import follow
 from nvmesim.timeline import png, svg, timeline, watched
 from nvmesim.timeline.bands import bands_of
@@ -20,7 +22,7 @@ from nvmesim.timeline.layout import ROWS_OF_A_PART, commands_of, lay_out
 from nvmesim.script import configuration_of
 
 from .standin import World
-from .support import PROGRAMS, FolderCase, examples
+from .support import LIVE, PROGRAMS, FolderCase, examples
 
 SPACE = "{http://www.w3.org/2000/svg}"
 HEAD = "controller 1 host 0xa1\nnamespace 1 blocks 8 shared\nattached 1 1\nstart\nup 1\n"
@@ -57,6 +59,33 @@ class TimelineTest(FolderCase):
                 self.assertTrue(all(it.get("aria-label") and it.find(f"{SPACE}title") is not None for it in rows))
                 self.assertEqual(len(with_class(parts, "cross")), denied)
                 self.assertEqual(page.count("<tr><td>"), denied)
+
+    @unittest.skipUnless(LIVE, "NVMELIVE does not name the program")
+    def test_executions_are_drawn_by_what_was_executed(self) -> None:
+        """Each execution of every example, of drivers and of raw hosts, by the names that `?fetched` has."""
+        touches = {"write": "changes", "write_zeroes": "changes", "read": "looks", "compare": "looks",
+                   "flush": "flushes"}
+        seen = set()
+        for name, script, transcript in examples():
+            wanted, hosts = [], configuration_of(read_lines(script)).hosts
+            with Session(program=LIVE) as session:
+                for line in read_lines(script):
+                    if line.kind is not LineKind.EVENT:
+                        session.run(line.text) if line.words else None
+                        continue
+                    number = line.controller if line.verb == "execute" else 0
+                    told = fetched(session.look(f"?fetched {number}"), number) if number in hosts else []
+                    answer = session.event(line.text).answer
+                    if isinstance(answer, Executed) and answer.rule == 0 and answer.status is not None:
+                        wanted.append(touches.get(told[answer.place].name, "other"))
+            parts = pictures(timeline(script, transcript, name))
+            shapes = [it.get("class") for part in parts for mark in with_class([part], "mark") for it in mark
+                      if it.get("class") in (*touches.values(), "other")]
+            with self.subTest(name):
+                self.assertEqual(shapes, wanted)
+                self.assertEqual(len(with_class(parts, "reach")), len(wanted) - wanted.count("other"))
+            seen |= {(name.startswith("raw"), it) for it in wanted}
+        self.assertLessEqual({(is_raw, it) for is_raw in (True, False) for it in ("changes", "looks", "other")}, seen)
 
     def test_it_needs_nothing_beside_it(self) -> None:
         script = HEAD + "flush 1 1\n"
@@ -145,20 +174,18 @@ class TimelineTest(FolderCase):
 
     def test_a_png_file(self) -> None:
         script = HEAD + "flush 1 1\n"
-        target = self.folder / "picture.png"
         path = mock.patch.dict(os.environ, PATH=str(self.folder))
         with path, self.assertRaisesRegex(NoFormat, "a browser on the path"):
-            png(script, transcript_of(script), "none", target)
+            png(script, transcript_of(script), "none")
         (self.folder / "rsvg-convert").write_text('#!/bin/sh\n/bin/cp "$3" "$2"\n', encoding="utf-8")
         (self.folder / "rsvg-convert").chmod(0o755)
         with path:
-            png(script, transcript_of(script), "one", target)
-        self.assertIn(b"<svg", target.read_bytes())  # this converter copies
+            self.assertIn(b"<svg", png(script, transcript_of(script), "one"))  # this converter copies
         (self.folder / "rsvg-convert").write_text("#!/bin/sh\necho no; exit 1\n", encoding="utf-8")
         with path, self.assertRaisesRegex(NoFormat, "makes no PNG.*: no$"):
-            png(script, transcript_of(script), "none", target)
+            png(script, transcript_of(script), "none")
         with self.assertRaisesRegex(NoFormat, "is the most"):
-            png(HEAD + "ring 1\n" * 1500, transcript_of(HEAD + "ring 1\n" * 1500), "tall", target)
+            png(HEAD + "ring 1\n" * 1500, transcript_of(HEAD + "ring 1\n" * 1500), "tall")
 
     def test_five_hundred_events(self) -> None:
         script = HEAD + "write 1 1 0 1 hex:01\nread 1 1 0 1\nring 1\nfetch 1 1\nfetch 1 1\nexecute 1 1\nexecute 1 0\n" \

@@ -1,5 +1,6 @@
 //! The structs of `nvmesim.h`, as they lie in memory.
 
+use crate::{Attachment, Controller, Namespace};
 use std::os::raw::c_void;
 
 #[repr(C)]
@@ -15,6 +16,7 @@ pub struct Bytes {
 }
 
 #[repr(C)]
+#[derive(Default)]
 pub struct Answer {
     pub value: u32,
     pub what: u32,
@@ -61,4 +63,40 @@ pub struct Registered {
     pub host_high: u64,
     pub key: u64,
     pub what: u32,
+}
+
+#[repr(C)]
+#[derive(Clone, Copy, Default)]
+pub struct Event {
+    pub at: u64,
+    pub kind: u32,
+    pub value: u32,
+    pub cntlid: u16,
+    pub qid: u16,
+}
+
+#[repr(C)]
+pub struct Written {
+    pub length: usize,
+    pub what: u32,
+}
+
+#[repr(C)]
+pub struct Read {
+    pub controllers: usize,
+    pub namespaces: usize,
+    pub attached: usize,
+    pub line: usize,
+    pub column: usize,
+    pub length: usize,
+    pub what: u32,
+}
+
+/// A configuration, as the calls take it.
+pub type Parts<'p> = (&'p [Controller], &'p [Namespace], &'p [Attachment]);
+
+/// Where the subsystem's blocks come from.
+pub enum Blocks<'b, 'a> {
+    Copied(&'b [u8]),
+    Lent(&'a mut [u8]),
 }

@@ -48,6 +48,20 @@
 //! # Ok::<(), nvmesim::OpenError>(())
 //! ```
 //!
+//! A configuration may be read from text, and events written as the lines of a script:
+//!
+//! ```
+//! # use nvmesim::{event_line, read_configuration, ConfigFault, Event};
+//! let config = read_configuration(b"controller 1 host 0xa1 raw\nnamespace 1 blocks 64 shared\n", 64)?;
+//! assert!(config.controllers[0].raw);
+//! let error = read_configuration(b"controller one host 1\n", 64).unwrap_err();
+//! assert_eq!((error.name, error.line, error.column), (ConfigFault::BadLine, 1, 12));
+//! let mut line = [0; 64];
+//! let length = event_line(&Event::Fetch { cntlid: 1, qid: 0 }, &mut line).unwrap();
+//! assert_eq!(&line[..length], b"fetch 1 0\n");
+//! # Ok::<(), nvmesim::ConfigError>(())
+//! ```
+//!
 //! Two threads share one behind a lock, and not otherwise:
 //!
 //! ```compile_fail,E0277
@@ -61,18 +75,22 @@
 #![deny(unsafe_code)]
 #![warn(missing_docs)]
 
+mod foreign;
 mod layout;
+mod lines;
 mod looks;
 #[allow(unsafe_code)]
 mod raw;
 
 use layout::Answer;
+use layout::Blocks;
+pub use lines::{answer_line, event_line, read_configuration, Answered, ConfigError, ConfigFault, Event, LineError};
 pub use looks::{status_name, Command, Holder, Queue, Registrant, Reservation};
-use raw::{Blocks, Handle};
+use raw::Handle;
 use std::fmt;
 
 /// The version of `nvmesim.h` that this crate is written for.
-const VERSION: u32 = 1;
+const VERSION: u32 = 2;
 
 /// A controller, and the host that it belongs to.
 #[repr(C)]
@@ -81,13 +99,25 @@ pub struct Controller {
     host_low: u64,
     host_high: u64,
     cntlid: u16,
+    /// Whether its line of a script says `raw`. Opening does not ask: each host is raw here.
+    pub raw: bool,
 }
 
 impl Controller {
     /// The controller with this identifier, k for the k-th of a configuration, of the host with this identifier, which
     /// is not 0.
     pub const fn new(cntlid: u16, host: u128) -> Self {
-        Controller { host_low: host as u64, host_high: (host >> 64) as u64, cntlid }
+        Controller { host_low: host as u64, host_high: (host >> 64) as u64, cntlid, raw: false }
+    }
+
+    /// Its identifier.
+    pub const fn cntlid(&self) -> u16 {
+        self.cntlid
+    }
+
+    /// The identifier of its host.
+    pub const fn host(&self) -> u128 {
+        (self.host_high as u128) << 64 | self.host_low as u128
     }
 }
 
@@ -165,7 +195,7 @@ pub enum Refusal {
 }
 
 /// What came of a fetch.
-#[derive(Clone, Copy, Debug, PartialEq, Eq)]
+#[derive(Clone, Copy, Debug, PartialEq, Eq, Hash)]
 pub enum Fetched {
     /// A command was fetched.
     Took,
@@ -174,7 +204,7 @@ pub enum Fetched {
 }
 
 /// The completion of a command.
-#[derive(Clone, Copy, Debug, PartialEq, Eq)]
+#[derive(Clone, Copy, Debug, PartialEq, Eq, Hash)]
 pub struct Completion {
     /// The Status Code Type.
     pub sct: u8,
@@ -199,7 +229,7 @@ impl Completion {
 }
 
 /// What came of an execution.
-#[derive(Clone, Copy, Debug, PartialEq, Eq)]
+#[derive(Clone, Copy, Debug, PartialEq, Eq, Hash)]
 pub enum Executed {
     /// The command was executed, and its completion posted.
     Posted(Completion),
@@ -357,7 +387,7 @@ impl fmt::Display for OpenError {
         f.write_str(match self {
             OpenError::BadVersion => "libnvmesim is of another version",
             OpenError::BadId => "an identifier of the configuration is wrong",
-            OpenError::BadSize => "a namespace has no blocks, or too many",
+            OpenError::BadSize => "a namespace has no blocks, or more than 65536",
             OpenError::TooMany => "there are too many controllers, namespaces or attachments",
             OpenError::DoesNotFit => "the namespaces have more blocks than the bytes",
             OpenError::NoMemory => "out of memory",

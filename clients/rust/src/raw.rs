@@ -1,41 +1,19 @@
-//! The calls of libnvmesim as `nvmesim.h` declares them, and all that is unsafe.
+//! The calls of libnvmesim, and all that is unsafe.
 //!
 //! What the header asks of its caller is kept here: a [`Handle`] begins closed, is neither copied nor shared, and is
 //! closed when it is dropped; references and slices are never null, and are for as many values as they say.
 
-use crate::layout::{Answer, Bytes, Command, Hold, Queue, Registered, Sim};
+use crate::foreign::{
+    nvmesim_answer_line, nvmesim_close, nvmesim_configuration_lines, nvmesim_event_line, nvmesim_load, nvmesim_look,
+    nvmesim_open, nvmesim_open_lent, nvmesim_read_blocks, nvmesim_read_configuration, nvmesim_status_name,
+    nvmesim_store, nvmesim_submit,
+};
+use crate::layout::{Answer, Blocks, Bytes, Command, Event, Hold, Parts, Queue, Read, Registered, Sim, Written};
 use crate::{Attachment, Controller, Namespace};
 #[cfg(target_arch = "x86_64")]
 use std::arch::x86_64::{_mm_prefetch, _MM_HINT_T0};
 use std::marker::PhantomData;
 use std::ptr;
-
-macro_rules! opening {
-    ($name:ident, $($bytes:ident: $kind:ty),+) => {
-        fn $name(
-            sim: *mut Sim,
-            version: u32,
-            controllers: *const Controller,
-            controller_count: usize,
-            namespaces: *const Namespace,
-            namespace_count: usize,
-            attached: *const Attachment,
-            attached_count: usize,
-            $($bytes: $kind),+
-        ) -> u32;
-    };
-}
-
-extern "C" {
-    opening!(nvmesim_open, bytes: *const u8, count: usize);
-    opening!(nvmesim_open_lent, bytes: Bytes);
-    fn nvmesim_close(sim: *mut Sim);
-    fn nvmesim_store(sim: *mut Sim, cntlid: u16, address: u64, bytes: *const u8, count: usize) -> Answer;
-    fn nvmesim_submit(sim: *mut Sim, cntlid: u16, qid: u16, entry: *const u8, completion: *mut u8) -> Answer;
-    fn nvmesim_load(sim: *mut Sim, cntlid: u16, address: u64, bytes: *mut u8, count: usize) -> u32;
-    fn nvmesim_read_blocks(sim: *mut Sim, nsid: u32, slba: u64, bytes: *mut u8, count: usize) -> u32;
-    fn nvmesim_status_name(sct: u8, sc: u8, bytes: *mut u8, count: usize) -> usize;
-}
 
 /// Declares the calls that take numbers alone, and makes each a method of a handle.
 macro_rules! plain_calls {
@@ -74,15 +52,6 @@ pub struct Handle<'a> {
     life: PhantomData<&'a mut [u8]>,
 }
 
-/// A configuration, as the calls take it.
-pub type Parts<'p> = (&'p [Controller], &'p [Namespace], &'p [Attachment]);
-
-/// What stands where the subsystem's blocks are to come from.
-pub enum Blocks<'b, 'a> {
-    Copied(&'b [u8]),
-    Lent(&'a mut [u8]),
-}
-
 impl<'a> Handle<'a> {
     /// Opens a subsystem: what the call answered, and the handle.
     pub fn open(version: u32, (cs, ns, at): Parts<'_>, blocks: Blocks<'_, 'a>) -> (u32, Self) {
@@ -119,6 +88,11 @@ impl<'a> Handle<'a> {
         unsafe { nvmesim_read_blocks(&mut self.sim, nsid, slba, bytes.as_mut_ptr(), bytes.len()) }
     }
 
+    pub fn look(&mut self, number: u64, line: &[u8], answer: &mut [u8]) -> Written {
+        let (line, answer) = ((line.as_ptr(), line.len()), (answer.as_mut_ptr(), answer.len()));
+        unsafe { nvmesim_look(&mut self.sim, number, line.0, line.1, answer.0, answer.1) }
+    }
+
     /// Has the processor fetch lent bytes, where it can. That is no access, and may be done at any address.
     #[cfg_attr(not(target_arch = "x86_64"), allow(unused_variables))]
     pub fn prefetch(&self, place: usize, count: usize) {
@@ -142,4 +116,30 @@ impl Drop for Handle<'_> {
 /// The length of the name of a status, which is written as far as it fits.
 pub fn status_name(sct: u8, sc: u8, bytes: &mut [u8]) -> usize {
     unsafe { nvmesim_status_name(sct, sc, bytes.as_mut_ptr(), bytes.len()) }
+}
+
+/// Room for the parts of a configuration.
+pub type Room<'r> = (&'r mut [Controller], &'r mut [Namespace], &'r mut [Attachment]);
+
+/// Reads a configuration into its parts, or the reason why it is refused.
+pub fn read_configuration(text: &[u8], blocks: u64, (cs, ns, at): Room<'_>, reason: &mut [u8]) -> Read {
+    let (c, n, a) = ((cs.as_mut_ptr(), cs.len()), (ns.as_mut_ptr(), ns.len()), (at.as_mut_ptr(), at.len()));
+    let (text, reason) = ((text.as_ptr(), text.len()), (reason.as_mut_ptr(), reason.len()));
+    unsafe { nvmesim_read_configuration(text.0, text.1, blocks, c.0, c.1, n.0, n.1, a.0, a.1, reason.0, reason.1) }
+}
+
+/// The lines that describe a configuration.
+pub fn configuration_lines((cs, ns, at): Parts<'_>, lines: &mut [u8]) -> Written {
+    let (c, n, a) = ((cs.as_ptr(), cs.len()), (ns.as_ptr(), ns.len()), (at.as_ptr(), at.len()));
+    unsafe { nvmesim_configuration_lines(c.0, c.1, n.0, n.1, a.0, a.1, lines.as_mut_ptr(), lines.len()) }
+}
+
+/// The line of an event, with the bytes of a store.
+pub fn event_line(event: &Event, bytes: &[u8], line: &mut [u8]) -> Written {
+    unsafe { nvmesim_event_line(event, bytes.as_ptr(), bytes.len(), line.as_mut_ptr(), line.len()) }
+}
+
+/// The line of what an event gave.
+pub fn answer_line(event: &Event, answer: &Answer, line: &mut [u8]) -> Written {
+    unsafe { nvmesim_answer_line(event, answer, line.as_mut_ptr(), line.len()) }
 }

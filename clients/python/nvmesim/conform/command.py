@@ -4,9 +4,9 @@ from __future__ import annotations
 import argparse
 import sys
 from dataclasses import replace
-from pathlib import Path
-from typing import Any, Dict, Iterator, List, Set, Tuple
+from typing import Any, Dict, Iterator, List, Optional, Set, Tuple
 
+from ..files import Output, add_force
 from ..reports import parse_report
 from .device import Abilities, Device, DeviceFault
 from .judge import Difference, Judge
@@ -31,14 +31,15 @@ def add_arguments(parser: argparse.ArgumentParser) -> None:
     parser.add_argument("--second", metavar="DEVICE", help="the same namespace by another controller, for scenes of "
                         "two hosts")
     parser.add_argument("--destroy-data", action="store_true", help="write to the device")
-    parser.add_argument("--dry-run", action="store_true", help="say what would be written, and do nothing")
-    parser.add_argument("--seed", type=int, default=1, metavar="N", help="the first scene")
-    parser.add_argument("--scenes", type=int, default=50, metavar="N", help="how many scenes")
-    parser.add_argument("--length", type=int, default=40, metavar="N", help="how many commands a scene has")
+    parser.add_argument("--dry-run", action="store_true", help="say what would be written, and write nothing")
+    parser.add_argument("--seed", type=int, default=1, metavar="N", help="the number of the first scene")
+    parser.add_argument("--scenes", type=int, default=50, metavar="N", help="the number of scenes")
+    parser.add_argument("--length", type=int, default=40, metavar="N", help="the number of commands in a scene")
     parser.add_argument("--without", metavar="NAME", action="append", default=[], choices=list(_FIELDS),
                         help=f"leave out as if a device lacked it: {', '.join(_FIELDS)}")
-    parser.add_argument("--all", action="store_true", help="go on behind a difference, and tell each kind once")
-    parser.add_argument("--output", metavar="FILE", help="write the script there as well, the last one with --all")
+    parser.add_argument("--all", action="store_true", help="continue after a difference, and report each kind once")
+    parser.add_argument("--output", metavar="FILE", help="write the script there too; with --all the last one")
+    add_force(parser)
     parser.set_defaults(command=run)
 
 
@@ -46,6 +47,8 @@ def run(words: argparse.Namespace) -> int:
     """Carries the command out; its exit status."""
     if words.scenes < 1 or words.length < 1:
         raise DeviceFault("--scenes and --length are 1 at least")
+    inputs = [words.device, words.second, words.program]
+    output = Output(words.output, inputs, words.force) if words.output else None
     devices: List[Device] = []
     try:
         for path in [words.device, *([words.second] if words.second else [])]:
@@ -61,7 +64,7 @@ def run(words: argparse.Namespace) -> int:
         if not words.destroy_data:
             raise DeviceFault("nothing was written: --destroy-data is needed for that, --dry-run for the plan alone")
         _check_free(devices[0], judge)
-        return compare(words, judge)
+        return compare(words, judge, output)
     finally:
         for device in devices:
             device.close()
@@ -97,7 +100,7 @@ def _check_free(device: Device, judge: Judge) -> None:
             raise DeviceFault(f"{device.path} has registrants: somebody uses it; nothing was written")
 
 
-def compare(words: argparse.Namespace, judge: Judge) -> int:
+def compare(words: argparse.Namespace, judge: Judge, output: Optional[Output] = None) -> int:
     """Plays the scenes, and prints the first difference, or one of each kind; the exit status."""
     told: Set[Tuple[str, str, str]] = set()
     for number in range(words.seed, words.seed + words.scenes):
@@ -113,8 +116,8 @@ def compare(words: argparse.Namespace, judge: Judge) -> int:
         told |= {_kind(found), _kind(shortest)}
         text = "".join(f"{it}\n" for it in judge.script(shortest))
         print(text, end="")
-        if words.output:
-            Path(words.output).write_text(text, encoding="utf-8")
+        if output is not None:
+            output.write(text)
         if not words.all or not is_there:
             break
     if told:

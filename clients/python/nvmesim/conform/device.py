@@ -10,6 +10,7 @@ from dataclasses import dataclass
 from typing import Protocol, Tuple
 
 from ..errors import NvmesimError
+from ..files import doing
 
 _PASSTHROUGH = struct.Struct("<BBHIIIQQIIIIIIIIII")
 _ADMIN, _IO, _IDENTIFIER = 0xC0484E41, 0xC0484E43, 0x4E40
@@ -61,9 +62,10 @@ class Device:
     """
 
     def __init__(self, path: str) -> None:
-        """Opens the device. Raises `OSError` where it can't be, and `DeviceFault` where it is no namespace."""
+        """Opens the device. Raises `FileFault` if it can't be, and `DeviceFault` if it is no namespace."""
         self.path = path
-        self._file = os.open(path, os.O_RDWR | os.O_EXCL | os.O_CLOEXEC)
+        with doing("open", path):
+            self._file = os.open(path, os.O_RDWR | os.O_EXCL | os.O_CLOEXEC)
         try:
             self.nsid = fcntl.ioctl(self._file, _IDENTIFIER)
         except OSError:

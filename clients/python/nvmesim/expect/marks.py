@@ -11,7 +11,7 @@ from typing import List, Optional, Sequence, Tuple, Union
 
 from ..answers import BLOCK_BYTES
 from ..errors import ScriptError
-from ..script import MOST_BLOCKS, LineKind, ScriptLine, number_of, read_lines
+from ..script import MOST_BLOCKS, LineKind, ScriptLine, read_lines
 from . import patterns
 
 EXPECT = "expect"
@@ -21,8 +21,6 @@ EXPECT_BLOCKS = "expect-blocks"
 
 _COMMENT = re.compile(r"#([ \t]*)(\S*)[ \t\r]*(.*?)[ \t\r]*\Z")
 _SLIPS = ("expected", "expecting", "expectation", "expectations", "expected-blocks")
-_HEX = re.compile(r"(?:[0-9a-fA-F]{2})+\Z")
-_FILL = re.compile(r"fill:([0-9a-fA-F]{2})\Z")
 
 
 @dataclass(frozen=True)
@@ -155,29 +153,23 @@ def _answer_expected(line: ScriptLine, words: Sequence[str], events: int, last: 
 
 
 def _blocks_expected(line: ScriptLine, words: Sequence[str], events: int) -> BlocksExpected:
+    """Blocks and their bytes, which are read as those of a Write."""
+    if len(words) != 4:
+        raise ScriptError(line.number, f"{line.text!r} is not '# expect-blocks N SLBA COUNT HEX'")
+    spelled = {"-": "hex:00"}.get(words[3], words[3] if words[3].startswith("fill:") else f"hex:{words[3]}")
     try:
-        nsid_word, slba_word, count_word, data_word = words
-        nsid, slba, count = number_of(nsid_word), number_of(slba_word), number_of(count_word)
-    except ValueError:
-        raise ScriptError(line.number, f"{line.text!r} is not '# expect-blocks N SLBA COUNT HEX'") from None
+        (read,) = read_lines(" ".join(("write 1", *words[:3], spelled)), True)
+    except ScriptError as fault:
+        place, _, why = fault.why.partition(": ")
+        if place == "word 6":
+            why = ("HEX is an even number of hexadecimal digits that COUNT blocks have room for, '-' for zeros, or "
+                   "fill:HH")
+        raise ScriptError(line.number, f"{line.text!r} is not '# expect-blocks N SLBA COUNT HEX': {why}") from None
+    _, nsid, slba, count = read.numbers()
     if not 1 <= count <= MOST_BLOCKS:
         raise ScriptError(line.number, f"{line.text!r}: COUNT is 1 to {MOST_BLOCKS}")
-    data = _data_of(data_word, count * BLOCK_BYTES)
-    if data is None:
-        raise ScriptError(line.number, f"{line.text!r}: HEX is an even number of hexadecimal digits for at most "
-                                       f"{count * BLOCK_BYTES} bytes, '-' for zeros, or fill:HH")
+    data = read.data().ljust(count * BLOCK_BYTES, b"\0")
     return BlocksExpected(line.number, line.text, events, nsid, slba, count, data)
-
-
-def _data_of(word: str, size: int) -> Optional[bytes]:
-    """The bytes that a word spells, with zeros up to the size; None where it spells none or more."""
-    fill = _FILL.match(word)
-    if fill:
-        return bytes.fromhex(fill[1]) * size
-    if word != "-" and not _HEX.match(word):
-        return None
-    spelled = b"" if word == "-" else bytes.fromhex(word)
-    return spelled.ljust(size, b"\0") if len(spelled) <= size else None
 
 
 def _is_near(word: str, wanted: str) -> bool:

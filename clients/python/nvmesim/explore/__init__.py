@@ -28,7 +28,7 @@ def explore(plan: Plan, program: Optional[PathLike] = None, prefixes: Sequence[O
         jobs: so many events are run at once.
         seconds: the time limit of each answer.
         report: is told what was done, while it goes on.
-        medium: what each run begins with; None for 1,024 blocks of zeros in memory.
+        medium: what each run begins with; None for zeros, as many blocks as its namespaces take.
         is_reduced: whether the second order of two events that commute is spared.
     """
     with programs_of(plan, program, seconds, medium) as programs:
@@ -50,7 +50,7 @@ def programs_of(plan: Plan, program: Optional[PathLike] = None, seconds: float =
             raise NoLibrary(f"{fault}, so no call of the image can fail") from None
         loaded = None
         tell(str(fault))
-    medium = medium or Medium()
+    medium = medium or Medium(blocks=plan.blocks)
     if plan.has_crash or plan.fails:
         medium.make_file()
     return Programs(found, plan.setup, seconds, medium, loaded, tell, plan.fails)

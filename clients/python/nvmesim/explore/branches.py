@@ -15,8 +15,8 @@ from pathlib import Path
 from types import TracebackType
 from typing import IO, Callable, Collection, Dict, List, Optional, Protocol, Sequence, Set, Tuple, Type
 
-from ..errors import (ConfigurationRefused, NvmesimError, ProgramDied, ProgramHangs, ProgramNotFound, ProtocolError,
-                      ScriptError)
+from ..errors import (ConfigurationRefused, NvmesimError, ProgramHangs, ProgramNotFound, ProtocolError, ScriptError,
+                      death_of)
 from .channels import Channel, Ended, wait_for
 from .marks import CRASH
 from .medium import Medium
@@ -282,7 +282,7 @@ class Programs:
                 status = branch.child.wait(1.0)
             except subprocess.TimeoutExpired:
                 pass
-        return ProgramDied(status, branch.channel.line, self._told())
+        return death_of(status, branch.channel.line, self._told())
 
     def _told(self) -> str:
         """The last of what stood on standard error."""

@@ -7,11 +7,12 @@ import os
 import sys
 import time
 from pathlib import Path
-from typing import Callable, List, Optional, Sequence, Tuple
+from typing import Callable, Dict, List, Optional, Sequence, Tuple
 
 from ..errors import NvmesimError
+from ..files import Output, add_force
 from ..session import Session
-from ..timeline import watched
+from ..timeline import form_of, watched
 from ..timeline.bands import Told
 from . import Medium, Plan, Shard, Statistics, Walk, programs_of
 from .dask import explore_on_dask
@@ -30,43 +31,45 @@ TextOf = Callable[[str], str]
 
 def add_options(parser: argparse.ArgumentParser) -> None:
     """The options of the command; those of the program come beside them."""
-    parser.description = ("Runs the marked parts of a script in every order that keeps each part's own, and says what "
-                          "they come to. Exit status 1: something of --always or --never fails. 2: it could not be "
-                          "carried out, or was stopped before its end.")
+    parser.description = ("Runs the marked parts of a script in every order that keeps each part's own, and prints the "
+                          "outcomes. Exit status 1: a check of --always or --never fails. 2: the exploration could not "
+                          "be run, or was stopped early.")
     parser.add_argument("script", metavar="SCRIPT", nargs="?", help="a script whose parts begin with comments "
                         "'# host NAME' and end with '# then'")
-    parser.add_argument("--always", action="append", default=[], metavar="EXPR", help="must hold of every order")
-    parser.add_argument("--never", action="append", default=[], metavar="EXPR", help="must hold of no order")
+    parser.add_argument("--always", action="append", default=[], metavar="EXPR", help="must hold in every order")
+    parser.add_argument("--never", action="append", default=[], metavar="EXPR", help="must hold in no order")
     parser.add_argument("--by", metavar="EXPR,..", help="group outcomes by these: a.write1,block(1,0)")
-    parser.add_argument("--trifles", action="store_true", help="tell outcomes apart by each event's answer, also by a "
+    parser.add_argument("--trifles", action="store_true", help="distinguish outcomes by each event's answer, also by a "
                         "poll that finds nothing")
     parser.add_argument("--json", action="store_true", help="print the whole report as JSON")
     parser.add_argument("--page", metavar="FILE", help="write the outcomes as a page, with a timeline of each")
     parser.add_argument("--counterexample", metavar="FILE", help="write the first counterexample there, as a script")
+    add_force(parser)
     parser.add_argument("--shrink", action="store_true", help="cut counterexamples down to the fewest events that "
                         "still show it")
-    parser.add_argument("--image", metavar="IMAGE", help="each run begins with a copy of this image, which is never "
-                        "written; without it, with zeros in memory")
+    parser.add_argument("--image", metavar="IMAGE", help="start each run with a copy of this image, which is never "
+                        "written; by default with zeros")
     parser.add_argument("--fail", type=int, default=0, metavar="K", help="the K-th read, write or sync of the image "
                         "fails")
     parser.add_argument("--jobs", type=int, default=os.cpu_count() or 1, metavar="N",
-                        help="events that are run at once; else one for each processor")
+                        help="run N events at once; by default one for each processor")
     parser.add_argument("--all-orders", action="store_true", help="run both orders of two events also where they "
                         "commute; the report is the same")
     parser.add_argument("--within", type=float, metavar="S", help="stop after S seconds, with a partial report")
     parser.add_argument("--shard", metavar="K/N", help="explore the K-th of N parts, and print JSON lines")
-    parser.add_argument("--merge", nargs="+", metavar="FILE", help="join what --shard printed; no script is wanted")
-    parser.add_argument("--dask", metavar="ADDRESS", help="hand the parts to a Dask cluster")
-    parser.add_argument("--shards", type=int, default=32, metavar="N", help="with --dask: so many parts")
-    parser.add_argument("--statistics", action="store_true", help="say on standard error what it took")
+    parser.add_argument("--merge", nargs="+", metavar="FILE", help="join what --shard printed; takes no script")
+    parser.add_argument("--dask", metavar="ADDRESS", help="run the parts on a Dask cluster")
+    parser.add_argument("--shards", type=int, default=32, metavar="N", help="with --dask: the number of parts")
+    parser.add_argument("--statistics", action="store_true", help="report states and events on standard error")
 
 
 def run(words: argparse.Namespace, text_of: TextOf) -> int:
     """Explores; the exit status."""
     _check_words(words)
+    outputs = _outputs(words)  # refused before anything is run
     if words.merge is not None:
         plan, found = merge([text_of(it).splitlines() for it in words.merge], words.merge)
-        return _report(words, plan, _checks(words, plan), found)
+        return _report(words, outputs, plan, _checks(words, plan), found)
     plan = Plan(text_of(words.script), words.fail)
     checks = _checks(words, plan)
     _by(words, plan)  # refused before anything is run
@@ -74,10 +77,20 @@ def run(words: argparse.Namespace, text_of: TextOf) -> int:
         return _shard(words, plan)
     if words.dask is not None:
         found = explore_on_dask(plan, words.dask, words.shards, words.program, words.seconds, words.image)
-        return _report(words, plan, checks, found)
-    with Medium(words.image) as medium:
+        return _report(words, outputs, plan, checks, found)
+    with Medium(words.image, plan.blocks) as medium:
         found, is_whole = _found(words, plan, Shard(1, 1), medium)
-    return _report(words, plan, checks, found, is_whole)
+    return _report(words, outputs, plan, checks, found, is_whole)
+
+
+def _outputs(words: argparse.Namespace) -> Dict[str, Output]:
+    """The files that are written, by their options."""
+    names = {"--page": words.page, "--counterexample": words.counterexample}
+    inputs = [words.script, words.image, words.program, *(words.merge or ())]
+    outputs = {option: Output(name, [*inputs, *(it for other, it in names.items() if other != option)], words.force)
+               for option, name in names.items() if name is not None}
+    form_of(words.page, ("html",))
+    return outputs
 
 
 def _check_words(words: argparse.Namespace) -> None:
@@ -99,7 +112,7 @@ def _check_words(words: argparse.Namespace) -> None:
 def _shard(words: argparse.Namespace, plan: Plan) -> int:
     """Explores one part, and prints what it found."""
     shard = Shard.parse(words.shard)
-    with Medium(words.image) as medium:
+    with Medium(words.image, plan.blocks) as medium:
         found, is_whole = _found(words, plan, shard, medium)
     if not is_whole:
         raise NvmesimError("the part was stopped before its end, and nothing of it is printed")
@@ -115,24 +128,25 @@ def _checks(words: argparse.Namespace, plan: Plan) -> List[Check]:
             for texts, is_wanted in ((words.always, True), (words.never, False)) for text in texts]
 
 
-def _write_page(words: argparse.Namespace, report: Report) -> None:
-    """Writes the outcomes as a page; the orders that it shows are run."""
-    with Medium(words.image) as medium:
+def _page(words: argparse.Namespace, report: Report) -> str:
+    """The outcomes as a page; the orders that it shows are run."""
+    with Medium(words.image, report.plan.blocks) as medium:
         def run_script(script: str) -> Tuple[str, List[Told]]:
             with medium.of_a_run() as image:
                 with Session(None if image == "-" else image, words.program, words.seconds) as session:
                     return watched(session, script)
 
         title = Path(words.script).name if words.script else "What was merged"
-        Path(words.page).write_text(page(report, title, run_script), encoding="utf-8")
+        return page(report, title, run_script)
 
 
 def _shrink(words: argparse.Namespace, plan: Plan, report: Report) -> None:
     """Cuts the counterexamples down."""
-    with Medium(words.image) as medium, programs_of(plan, words.program, words.seconds, medium) as programs:
-        for check in report.checks:
-            for _, ways in report.broken(check)[:1]:
-                report.shorter[check.name] = list(script_of(*shrunk(plan, programs, check, ways.order)))
+    with Medium(words.image, plan.blocks) as medium:
+        with programs_of(plan, words.program, words.seconds, medium) as programs:
+            for check in report.checks:
+                for _, ways in report.broken(check)[:1]:
+                    report.shorter[check.name] = list(script_of(*shrunk(plan, programs, check, ways.order)))
 
 
 def _by(words: argparse.Namespace, plan: Plan) -> List[Expression]:
@@ -159,20 +173,20 @@ def _found(words: argparse.Namespace, plan: Plan, shard: Shard, medium: Medium) 
     return found, walk.is_whole
 
 
-def _report(words: argparse.Namespace, plan: Plan, checks: Sequence[Check], found: Findings,
-            is_whole: bool = True) -> int:
+def _report(words: argparse.Namespace, outputs: Dict[str, Output], plan: Plan, checks: Sequence[Check],
+            found: Findings, is_whole: bool = True) -> int:
     """Prints what was found; 1 where something is not as it must be, 2 where too little was judged to say so."""
     report = Report(plan, found, checks, is_whole, _by(words, plan), words.trifles)
     if words.shrink and not report.is_good:
         _shrink(words, plan, report)
     if words.page:
-        _write_page(words, report)
+        outputs["--page"].write(_page(words, report))
     if words.json:
         print(json.dumps(json_report(report), indent=1))
     else:
         print("\n".join(report.lines()))
     if words.counterexample and not report.is_good:
-        Path(words.counterexample).write_text(report.counterexample(), encoding="utf-8")
+        outputs["--counterexample"].write(report.counterexample())
     if not report.is_good:
         return 1
     if not is_whole:

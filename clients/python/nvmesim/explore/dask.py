@@ -4,6 +4,7 @@ from __future__ import annotations
 from typing import Any, Callable, List, Optional
 
 from ..errors import NvmesimError
+from ..reading import read_with
 from . import Shard, explore_shard
 from .medium import Medium, MediumError
 from .outcomes import Findings, joined
@@ -57,7 +58,8 @@ def explore_on_dask(plan: Plan, address: str, shards: int, program: Optional[str
 def _task(given: Any) -> Findings:
     """One part, on a worker."""
     text, shard, program, seconds, image, digest = given
-    with Medium(image) as medium:
+    read_with(program)
+    with Medium(image, Plan(text).blocks) as medium:
         if medium.digest != digest:
             raise MediumError(f"{image} has other bytes on a worker than where the exploration began")
         return explore_shard(text, shard, program, 1, seconds, medium)

@@ -10,13 +10,15 @@ from __future__ import annotations
 
 import ast
 import difflib
+import hashlib
 import operator
-from typing import Any, Callable, Dict, Iterable, List, Set, Tuple, Type, Union
+from typing import AbstractSet, Any, Callable, Dict, Hashable, Iterable, List, Optional, Set, Tuple, Type, Union
 
 from ..errors import ExpressionError
 from .kinds import fault_of
 from .plan import Plan
-from .values import FIELDS, Value, Values, texts_of
+from .possible import hint_for, is_hexadecimal, pairs_of, reservation_values, spelled, values_of
+from .values import FIELDS, Value, Values
 
 Scalar = Union[str, int, bool, None]
 
@@ -25,6 +27,7 @@ _OPERATORS: Dict[Type[ast.cmpop], Callable[[Any, Any], bool]] = {
     ast.Eq: operator.eq, ast.NotEq: operator.ne, ast.Lt: operator.lt, ast.LtE: operator.le, ast.Gt: operator.gt,
     ast.GtE: operator.ge, ast.In: lambda one, many: one in many, ast.NotIn: lambda one, many: one not in many,
 }
+_MOST_TOLD = 64
 _CALLS = {"implies": 2, "reservation": 1, "block": 2}
 
 
@@ -77,16 +80,24 @@ class Expression:
         return tuple(repr(self._evaluate(it, values)) for it in ast.walk(self._tree) if isinstance(it, names)
                      and not (isinstance(it, ast.Call) and ast.unparse(it.func) == "implies"))
 
-    def told(self, values: Values) -> str:
-        """What it comes to in an outcome, in short."""
+    def value(self, values: Values) -> Hashable:
+        """What it comes to in an outcome."""
         try:
-            found = self._evaluate(self._tree, values)
+            found: Hashable = self._evaluate(self._tree, values)
         except TypeError as fault:
             raise ExpressionError(f"{self.text!r} compares what can't be compared: {fault}") from None
+        return found
+
+    def told(self, values: Values) -> str:
+        """The same in short: of many bytes the first ones, how many there are, and a digest."""
+        found = self.value(values)
         if isinstance(found, Value):
             return str(found)
         if found == "" and self.text.startswith("block"):
             return "zeros"
+        if isinstance(found, str) and len(found) > _MOST_TOLD:
+            digest = hashlib.sha256(found.encode("utf-8")).hexdigest()[:8]
+            return f"{found[:30]}.. ({len(found) // 2} bytes up to the last that is not zero, digest {digest})"
         is_host = isinstance(found, int) and self.text.endswith(".holder")
         return f"{found:#x}" if is_host else found if isinstance(found, str) and found else repr(found)
 
@@ -103,7 +114,7 @@ class Expression:
             self._check_all([node.left, *node.comparators])
             if why := fault_of(node):
                 raise self._fault(why)
-            self._check_texts(node)
+            self._check_values(node)
         elif isinstance(node, ast.Attribute):
             self._check_attribute(node)
         elif isinstance(node, ast.Call):
@@ -146,20 +157,30 @@ class Expression:
         if name == "block" and tuple(numbers) not in self._watched:
             raise self._fault(f"the script writes no block {', '.join(map(ast.unparse, node.args))}")
 
-    def _check_texts(self, node: ast.Compare) -> None:
-        """Refuses a comparison with a text that the answer can never be."""
-        sides = [node.left, *node.comparators]
-        lines = [self._plan.by_name[name].line for name in map(_answer_name, sides) if name in self._plan.by_name]
-        constants: List[ast.expr] = []
-        for side in sides:
-            constants += side.elts if isinstance(side, (ast.Tuple, ast.List, ast.Set)) else [side]
-        for text in (it.value for it in constants if isinstance(it, ast.Constant) and isinstance(it.value, str)):
-            for line in lines:
-                known = texts_of(line)
-                if text not in known:
-                    near = difflib.get_close_matches(text, sorted(known), 1, 0.5)
-                    also = f"; did you mean {near[0]!r}?" if near else ""
-                    raise self._fault(f"no answer of a {line.verb} is {text!r}{also}")
+    def _check_values(self, node: ast.Compare) -> None:
+        """Refuses a comparison with what an answer, a reservation or a block can never be."""
+        for value, constant in pairs_of(node):
+            known = self._known(value)
+            if known is not None and constant not in known:
+                is_host = isinstance(value, ast.Attribute) and value.attr == "holder"
+                raise self._fault(f"{ast.unparse(value)} is never {spelled(constant, is_host)}"
+                                  f"{hint_for(constant, known, is_host)}")
+            is_bytes = isinstance(value, ast.Call) or isinstance(value, ast.Attribute) and value.attr == "data"
+            if is_bytes and not is_hexadecimal(constant):
+                raise self._fault(f"{ast.unparse(value)} is never {constant!r}: bytes are hexadecimal digits of lower "
+                                  "case, without the zeros at their end")
+
+    def _known(self, node: ast.expr) -> Optional[AbstractSet[Any]]:
+        """What a value can be; None where that is not known."""
+        if not isinstance(node, ast.Attribute):
+            return None
+        if isinstance(node.value, ast.Call):
+            return reservation_values(node.attr, frozenset(self._plan.configuration.hosts.values()))
+        name, field = (ast.unparse(node), "text") if isinstance(node.value, ast.Name) else (
+            ast.unparse(node.value), node.attr)
+        step = self._plan.by_name.get(name)
+        requests = frozenset(it.name for it in self._plan.steps if it.line.is_request)
+        return None if step is None else values_of(step.line, field, requests)
 
     def _evaluate(self, node: ast.expr, values: Values) -> Any:
         """The value of an expression that was checked."""
@@ -202,15 +223,6 @@ class Expression:
     def _plain(self, value: Any) -> Any:
         """An answer as its text."""
         return value.text if isinstance(value, Value) else value
-
-
-def _answer_name(node: ast.expr) -> str:
-    """The name of an answer that stands for its text, or an empty text."""
-    if isinstance(node, ast.Attribute) and isinstance(node.value, ast.Name):
-        return f"{node.value.id}.{node.attr}"
-    if isinstance(node, ast.Attribute) and node.attr == "text":
-        return _answer_name(node.value)
-    return ""
 
 
 def _watched(lines: Iterable[str]) -> Set[Any]:

@@ -2,7 +2,7 @@
 from __future__ import annotations
 
 import re
-from typing import List, Optional
+from typing import List, Optional, Sequence
 
 from ..errors import ScriptError
 from ..script import LineKind, ScriptLine
@@ -25,12 +25,28 @@ _OTHER_WORDS = frozenset(("cost", "hose", "hot", "lost", "most", "post", "hen", 
                           "when", "clash", "crass"))
 
 
-def mark_of(line: ScriptLine, is_started: bool) -> Optional[str]:
+def has_marks(lines: Sequence[ScriptLine]) -> bool:
+    """Whether a script has a mark, or the comment `# crash`. One that has none is one order, and its comments are no
+    slips."""
+    return any(it.kind is LineKind.COMMENT and (is_crash(it) or _MARK.match(it.text)) for it in lines)
+
+
+def nearest_mark(lines: Sequence[ScriptLine]) -> str:
+    """The first comment behind `start` that is nearly a mark, with its line, for a script that has none; else an empty
+    text."""
+    events = [it.number for it in lines if it.kind is LineKind.START]
+    behind = (it for it in lines if it.kind is LineKind.COMMENT and events and it.number > events[0])
+    return next((f"line {it.number}, {it.text!r}, is nearly {nearest!r}" for it in behind
+                 if (nearest := _nearest(it.text))), "")
+
+
+def mark_of(line: ScriptLine, is_started: bool, is_marked: bool = True) -> Optional[str]:
     """The name that a mark gives, or `then`; None for another comment, and for a line that is none.
 
     Args:
         line: the line.
         is_started: whether it stands behind `start`, as a mark has to; before that only a mark itself is refused.
+        is_marked: whether its script has marks: a comment that nearly is one is refused only there.
 
     Raises:
         ScriptError: it is nearly a mark, stands before `start`, or gives a name that no part can have.
@@ -40,7 +56,7 @@ def mark_of(line: ScriptLine, is_started: bool) -> Optional[str]:
     found = _MARK.match(line.text)
     if found is None:
         nearest = _nearest(line.text)
-        if nearest and is_started:
+        if nearest and is_started and is_marked:
             raise ScriptError(line.number, f"{line.text!r} is nearly the mark {nearest!r}: write that, or a comment "
                               f"that begins with another word")
         return None

@@ -1,11 +1,13 @@
-"""The medium that each run begins with: zeros in memory, or a copy of an image as it was when the exploration began.
+"""The medium that each run begins with: zeros, or a copy of an image as it was when the exploration began.
 
-The image is copied once, and that copy once for each run. So the file itself is never written, and what becomes of it
-meanwhile does not matter. Holes of a file stay holes: an image that is mostly zeros takes little room and time.
+Zeros are in memory if the program's own blocks are enough, and else in a file of holes. An image is copied once, and
+that copy once for each run. So the file itself is never written, and what becomes of it meanwhile does not matter. Holes
+of a file stay holes: an image that is mostly zeros takes little room and time.
 """
 from __future__ import annotations
 
 import errno
+import fcntl
 import hashlib
 import os
 import stat
@@ -14,11 +16,15 @@ from contextlib import contextmanager
 from types import TracebackType
 from typing import Iterator, Optional, Tuple, Type
 
+from ..answers import BLOCK_BYTES
 from ..errors import NvmesimError
+from ..files import doing
 from ..process import PathLike
 
+IN_MEMORY = 1024
+"""The blocks of zeros that the program has in memory."""
 _PIECE = 1 << 20
-_ZEROS = 1024 * 512
+_MOST_BLOCKS = 1 << 54
 
 
 class MediumError(NvmesimError):
@@ -32,24 +38,27 @@ class Medium:
     them stays.
 
     Attributes:
-        digest: what tells images apart, in hexadecimal digits; an empty text for zeros in memory.
+        digest: what tells images apart, in hexadecimal digits; an empty text for zeros.
     """
 
-    def __init__(self, image: Optional[PathLike] = None) -> None:
-        """Takes a copy of an image; None for 1,024 blocks of zeros in memory.
+    def __init__(self, image: Optional[PathLike] = None, blocks: int = 0) -> None:
+        """Takes a copy of an image; None for zeros: as many blocks as these, and 1,024 at least.
 
         Raises:
-            MediumError: the image is no regular file.
-            OSError: it can't be read, or not be copied.
+            MediumError: the image is no regular file, or in use by a program that may write it.
+            FileFault: it can't be read, or not be copied.
         """
         self.digest = ""
         self._kept: Optional[int] = None
         if image is None:
+            self._kept = None if blocks <= IN_MEMORY else _file_of(blocks)
             return
-        if not stat.S_ISREG(os.stat(image).st_mode):
-            raise MediumError(f"{os.fspath(image)} is no regular file, as an image has to be")
-        with open(image, "rb") as file:
-            self._kept = self.copy_of(file.fileno())
+        with doing("read", image):
+            if not stat.S_ISREG(os.stat(image).st_mode):
+                raise MediumError(f"{os.fspath(image)} is no regular file, as an image has to be")
+            with open(image, "rb") as file:
+                _share(file.fileno(), os.fspath(image))
+                self._kept = self.copy_of(file.fileno())
         self.digest = _digest_of(self._kept)
 
     def __enter__(self) -> Medium:
@@ -70,9 +79,10 @@ class Medium:
         return None if self._kept is None else self.copy_of(self._kept)
 
     @contextmanager
-    def of_a_run(self) -> Iterator[str]:
-        """The word IMAGE of the program for one run: `-`, or a copy of the run's own, which goes with it."""
-        copy = self.fresh()
+    def of_a_run(self, blocks: int = 0) -> Iterator[str]:
+        """The word IMAGE of the program for one run: `-`, or a copy of the run's own, which goes with it. Where there
+        is no image, it has these blocks at least."""
+        copy = _file_of(blocks) if self._kept is None and blocks > IN_MEMORY else self.fresh()
         if copy is None:
             yield "-"
             return
@@ -84,20 +94,37 @@ class Medium:
     def make_file(self) -> None:
         """Puts the zeros in memory into a file, as an image that outlasts its program."""
         if self._kept is None:
-            with tempfile.TemporaryFile(buffering=0) as file:
-                file.truncate(_ZEROS)
-                self._kept = os.dup(file.fileno())
+            self._kept = _file_of(IN_MEMORY)
 
     def copy_of(self, source: int) -> int:
         """A copy of an open file, which the caller closes: the number of an open file."""
-        with tempfile.TemporaryFile(buffering=0) as file:
-            target = os.dup(file.fileno())
-        try:
-            _copy(source, target)
-        except OSError:
-            os.close(target)
-            raise
+        with doing("write", f"a copy of the image in {tempfile.gettempdir()}"):
+            with tempfile.TemporaryFile(buffering=0) as file:
+                target = os.dup(file.fileno())
+            try:
+                _copy(source, target)
+            except OSError:
+                os.close(target)
+                raise
         return target
+
+
+def _file_of(blocks: int) -> Optional[int]:
+    """A file of so many blocks of zeros, all of it a hole, which the caller closes; None for more than a file has: the
+    program says so better."""
+    if blocks > _MOST_BLOCKS:
+        return None
+    with doing("make", f"an image of {blocks} blocks"), tempfile.TemporaryFile(buffering=0) as file:
+        file.truncate(blocks * BLOCK_BYTES)
+        return os.dup(file.fileno())
+
+
+def _share(file: int, name: str) -> None:
+    """Locks an image against programs that write it, as long as it is open here."""
+    try:
+        fcntl.flock(file, fcntl.LOCK_SH | fcntl.LOCK_NB)
+    except BlockingIOError:
+        raise MediumError(f"{name} is in use: another program has it locked, and may write it") from None
 
 
 def _copy(source: int, target: int) -> None:

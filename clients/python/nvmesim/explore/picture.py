@@ -40,7 +40,7 @@ def _table_of(report: Report) -> str:
     names = list(dict.fromkeys(name for it in rows for name in it))
     heads = "".join(f'<th scope="col">{escape(it)}</th>' for it in ("Outcome", "Orders", *names))
     body = "\n".join(
-        f'<tr><td><a href="#outcome-{number}">{number}</a></td><td>{group.ways.count:,}</td>'
+        f'<tr><td><a href="#outcome-{number}">{number}</a></td><td>{group.ways.count}</td>'
         + "".join(f"<td>{escape(row.get(name, ''))}</td>" for name in names) + "</tr>"
         for number, (group, row) in enumerate(zip(report.groups, rows), 1))
     alike = "".join(f"<tr><td>{escape(name)}</td><td>{escape(text)}</td></tr>" for name, text in same.items())
@@ -59,7 +59,7 @@ class _Drawing:
         """Each outcome with one of its orders, and where that parts from the nearest of another outcome."""
         groups = self.report.groups
         for number, group in enumerate(groups, 1):
-            yield f'<h2 id="outcome-{number}">Outcome {number}: {group.ways.count:,} orders, such as this</h2>'
+            yield f'<h2 id="outcome-{number}">Outcome {number}: {group.ways.count} orders, such as this</h2>'
             others = [(n, it.ways.order) for n, it in enumerate(groups, 1) if n != number]
             if number <= _MOST_DRAWN:
                 yield self._picture(group.ways.order, self._nearest(group.ways.order, others))
@@ -69,8 +69,8 @@ class _Drawing:
         for check in self.report.checks:
             broken = self.report.broken(check)
             count = sum(ways.count for _, ways in broken)
-            told = f"fails in {count:,} of {self.report.orders:,} orders" if broken else (
-                f"holds in all {self.report.orders:,} orders")
+            told = f"fails in {count} of {self.report.orders} orders" if broken else (
+                f"holds in all {self.report.orders} orders")
             yield f'<h2 class="{"broken" if broken else "met"}"><code>{escape(check.name)}</code> {told}</h2>'
             if broken:
                 yield self._beside(check, broken[0][1].order)
@@ -125,8 +125,8 @@ def _alike(order: Order, other: Order) -> int:
 
 _STYLE = """
 .beside { display: flex; gap: 28px; overflow-x: auto; align-items: flex-start; }
-.beside > div { flex: 1 0 600px; min-width: 0; } .beside svg.part { width: 100%; height: auto; }
-@media (max-width: 1250px) { .beside { flex-direction: column; } .beside > div { flex: none; width: 100%; } }
+.beside > div { flex: 1 0 600px; min-width: 0; } .pictures svg.part { max-width: 100%; height: auto; }
+@media (max-width: 1600px) { .beside { flex-direction: column; } .beside > div { flex: none; width: 100%; } }
 .wide { overflow-x: auto; } h2.broken { color: var(--denied); } h2.met { color: var(--up); }
 h2 code { font-size: .9em; } h3 { margin: 4px 0; } pre { background: var(--lane); padding: 10px; }
 """

@@ -2,7 +2,7 @@
 
 A comment `# host NAME` begins a part: its events keep their order, and come in any order with those of other parts. A
 comment `# then` ends the parts before it: what follows comes behind them, in its own order. Events before the first
-mark come first, in their order.
+mark come first, in their order; a script without marks is one order.
 """
 from __future__ import annotations
 
@@ -10,9 +10,8 @@ from dataclasses import dataclass
 from math import comb, prod
 from typing import Dict, Iterator, List, NamedTuple, Tuple
 
-from ..errors import ScriptError
 from ..script import Configuration, LineKind, ScriptLine, configuration_of, read_lines
-from .marks import BEFORE, CRASH, THEN, is_crash, mark_of
+from .marks import BEFORE, CRASH, THEN, has_marks, is_crash, mark_of, nearest_mark
 
 Choice = int
 Order = Tuple[Choice, ...]
@@ -62,6 +61,7 @@ class Plan:
         text: the script.
         fails: the call of the image that fails in each order, 0 where none does.
         setup: its lines up to `start`, without comments.
+        nearest: of a script without marks, the comment that nearly is one, in words; else an empty text.
         phases: its phases; the first one has the events before all marks, and may be empty.
         configuration: what it says before `start`.
     """
@@ -70,13 +70,14 @@ class Plan:
         """Reads a script; the call of the image that fails in each order, or 0.
 
         Raises:
-            ScriptError: it is no script, has no mark or a comment that is nearly one, or a part has a name that it
-                can't have.
+            ScriptError: it is no script, has marks and a comment that is nearly one, or a part has a name that it can't
+                have.
         """
         self.text, self.fails = text, fails
         lines = list(read_lines(text))
         self.configuration: Configuration = configuration_of(lines)
         self.setup = [it.text for it in lines if it.kind in (LineKind.CONFIGURATION, LineKind.START)]
+        self.nearest = "" if has_marks(lines) else nearest_mark(lines)
         self.phases = tuple(_phases(lines))
         self.steps = [step for phase in self.phases for part in phase.parts for step in part]
         self.by_name = {it.name: it for it in self.steps}
@@ -85,6 +86,11 @@ class Plan:
     def length(self) -> int:
         """How many events each order has."""
         return len(self.steps)
+
+    @property
+    def blocks(self) -> int:
+        """The blocks of the medium that its namespaces take."""
+        return self.configuration.blocks
 
     @property
     def has_crash(self) -> bool:
@@ -169,10 +175,10 @@ def _phases(lines: List[ScriptLine]) -> Iterator[Phase]:
     phases: List[Dict[str, List[Step]]] = [{BEFORE: []}]
     counts: Dict[Tuple[str, str], int] = {}
     part = BEFORE
-    is_started = False
+    is_started, is_marked = False, has_marks(lines)
     for it in lines:
         line = ScriptLine(it.number, it.text, LineKind.EVENT, (CRASH,)) if is_started and is_crash(it) else it
-        mark = mark_of(line, is_started)
+        mark = mark_of(line, is_started, is_marked)
         if mark is not None:
             if part in (BEFORE, THEN) or mark == THEN:
                 phases.append({})
@@ -182,7 +188,5 @@ def _phases(lines: List[ScriptLine]) -> Iterator[Phase]:
             number = counts[part, line.verb] = counts.get((part, line.verb), 0) + 1
             phases[-1][part].append(Step(f"{part}.{line.verb}{number}", part, line))
         is_started = is_started or line.kind is LineKind.START
-    if all(part in (BEFORE, THEN) for parts in phases for part in parts):
-        raise ScriptError(0, "the script has no mark: a comment '# host NAME' begins the events of a host")
     for parts in phases:
         yield Phase(tuple(tuple(it) for it in parts.values()))

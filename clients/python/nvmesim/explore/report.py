@@ -73,7 +73,7 @@ class Report:
     def _key(self) -> Callable[[Values], Hashable]:
         """What outcomes are alike in that are told together."""
         if self.by:
-            return lambda it: tuple(expression.told(it) for expression in self.by)
+            return lambda it: tuple(_exactly(expression.value(it)) for expression in self.by)
         rows = dict(zip(map(id, self.values), self._table))
         return lambda it: tuple(rows[id(it)].items())
 
@@ -90,11 +90,15 @@ class Report:
     def why_one_order(self) -> str:
         """Why there is but one order: a script of one part, or parts that have no events beside one another."""
         names = list(self.plan.parts)
+        if not names:
+            nearest = f" ({self.plan.nearest})" if self.plan.nearest else ""
+            return f"The script has no mark '# host NAME'{nearest}"
         return f"The script has one part, {names[0]}" if len(names) == 1 else "The script's parts have one order"
 
     def lines(self) -> Iterator[str]:
         """The whole report."""
         told = ", ".join(f"{name} {_count(count, 'event')}" for name, count in self.plan.parts.items())
+        told = told or _count(self.plan.length, "event")
         total = self.orders
         if not self.is_whole:
             yield f"PARTIAL: {_count(total, 'order')} of {self.plan.orders} were judged, and others may come to more."
@@ -168,7 +172,7 @@ class Report:
         steps = [it for it in self.plan.steps_of(order) if it.part not in (BEFORE, THEN)]
         width = max((len(it.part) for it in steps), default=1)
         for part, group in groupby(steps, key=lambda it: it.part):
-            text = "; ".join(shortened(" ".join(it.line.words), 48) for it in group)
+            text = "; ".join(shortened(it.line.sent, 48) for it in group)
             head = f"     {part:<{width}}  "
             yield from textwrap.wrap(text, _COLUMNS, initial_indent=head, subsequent_indent=" " * len(head),
                                      break_on_hyphens=False)
@@ -203,6 +207,11 @@ class Report:
             if self.broken(check):
                 return "".join(f"{it}\n" for it in self.example(check))
         return ""
+
+
+def _exactly(value: Hashable) -> Hashable:
+    """What tells values of an expression apart: their text, since 0 and False are equal."""
+    return repr(value)
 
 
 def script_of(plan: Plan, order: Order) -> Iterator[str]:

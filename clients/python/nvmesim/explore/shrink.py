@@ -99,7 +99,7 @@ def _run(plan: Plan, looks: Looks, branches: Branches, branch: Branch,
             branch = branches.reopen(branch)
             answer, told = CRASH, _asked(branches, branch, behind)
         else:
-            answer, *told = _asked(branches, branch, [" ".join(step.line.words), *behind])
+            answer, *told = _asked(branches, branch, [step.line.sent, *behind])
         label, state = state.next(plan, looks, choice, answer, dict(zip(behind, told)))
         labels.append((step.name, label))
     if plan.fails:

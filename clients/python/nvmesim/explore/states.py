@@ -14,7 +14,6 @@ from typing import Dict, Iterator, List, Tuple
 
 from ..history import check_fits
 from ..looks import fetched
-from ..script import number_of
 from .plan import Plan, Position, Step
 from .tracks import Track, labelled
 
@@ -173,6 +172,6 @@ def _executing(step: Step, told: str, number: int) -> str:
     """The opcode's name of the command that an execution is about; an empty text where there is none."""
     if step.line.verb != "execute" or not told:
         return ""
-    place = number_of(step.line.words[2])
+    place = step.line.numbers()[1]
     commands = fetched(told, number)
     return commands[place].name if place < len(commands) else ""

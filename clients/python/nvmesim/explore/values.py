@@ -2,40 +2,14 @@
 from __future__ import annotations
 
 from dataclasses import dataclass
-from typing import Dict, FrozenSet, List, Optional, Tuple
+from typing import Dict, List, Optional, Tuple
 
 from ..answers import data_in, status_in
-from ..enums import Refusal, Status, UpOutcome
 from ..looks import ReservationState, blocks, reservation
 from ..script import ScriptLine
 from .outcomes import Outcome
 from .plan import Plan
-
-UNANSWERED = "unanswered"
-ABORTED = "aborted"
-NOT_EXECUTED = "not executed"
-
-_STATUSES = frozenset(it.text for it in Status)
-_MISSES = frozenset(("nocontroller", "nodriver", "notraw"))
-_TEXTS: Dict[str, FrozenSet[str]] = {
-    "up": frozenset(it.value for it in UpOutcome if it is not UpOutcome.REFUSED) | _STATUSES,
-    "ring": frozenset(("rung", "NotUp")),
-    "fetch": frozenset(("took", "idle")),
-    "execute": _STATUSES | {"none", "full"},
-    "poll": _STATUSES | {ABORTED, "nothing", "NotUp", "UnknownCommand"},
-    "reset": frozenset(("reset",)),
-    "store": frozenset(("stored", "outside")),
-    "write32": frozenset(("wrote32",)),
-    "powercycle": frozenset(("powercycle",)),
-    "crash": frozenset(("crash",)),
-}
-_OF_REQUESTS = _STATUSES | {ABORTED, UNANSWERED} | {f"refused {it.value}" for it in Refusal}
-
-
-def texts_of(line: ScriptLine) -> FrozenSet[str]:
-    """All texts that the answer of a line can be."""
-    misses = frozenset() if line.is_of_all else _MISSES
-    return (_OF_REQUESTS if line.is_request else _TEXTS[line.verb]) | misses
+from .possible import ABORTED, NOT_EXECUTED, UNANSWERED
 
 
 @dataclass(frozen=True)

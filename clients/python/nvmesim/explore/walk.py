@@ -179,7 +179,7 @@ class Walk:
             branch = self.branches.reopen(branch)
         self._running[branch] = asked
         self._is_begun.add((node, choice))
-        event = () if step.line.is_crash else (" ".join(step.line.words),)
+        event = () if step.line.is_crash else (step.line.sent,)
         lines = [*event, *looked, *(self.looks.last() if is_last and not self.plan.fails else ())]
         branch.ask(lines)
         self.statistics.events += 1
@@ -190,7 +190,7 @@ class Walk:
         """A branch at a state that may go on from there: the one that waits there, where nothing else wants it."""
         waiting = node.branch
         if waiting is None:
-            return self.branches.begin([" ".join(it.line.words) for it in self.plan.steps_of(node.path)])
+            return self.branches.begin([it.line.sent for it in self.plan.steps_of(node.path)])
         if node.left and self.branches.can_fork:
             return waiting.fork()
         node.branch = None

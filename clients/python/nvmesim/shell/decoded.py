@@ -6,9 +6,8 @@ from typing import Callable, Dict, Iterator, List, NamedTuple, Tuple
 from .. import lines, looks
 from ..answers import Fetched, Placed, Polled, Up, parse_answer
 from ..enums import ReservationType, UpOutcome
-from ..errors import NotDone
+from ..errors import NotDone, ScriptError
 from ..process import Process
-from ..script import number_of
 from ..words import hexadecimal, host_words, register_words, status_words
 from .identify import identify_lines
 from .statuses import status_lines
@@ -39,8 +38,8 @@ def shown(talk: Talk, line: str) -> Iterator[str]:
         raise NotDone("nothing is started yet")
     try:
         yield from look.shown(talk, rest)
-    except ValueError as fault:
-        raise NotDone(f"{fault}: {look.form}") from None
+    except ScriptError as fault:
+        raise NotDone(f"{fault.why.split(': ', 1)[-1]}: {look.form}") from None
 
 
 def _controllers(talk: Talk, _: List[str]) -> Iterator[str]:
@@ -58,7 +57,7 @@ def _controllers(talk: Talk, _: List[str]) -> Iterator[str]:
 
 
 def _report(talk: Talk, rest: List[str]) -> Iterator[str]:
-    nsid = number_of(rest[0])
+    _, nsid = talk.numbers(f"flush 1 {rest[0]}")
     told = looks.reservation(talk.look(f"?reservation {nsid}"), nsid)
     if told.rtype is ReservationType.NONE:
         held = "nobody holds it"
@@ -75,7 +74,7 @@ def _report(talk: Talk, rest: List[str]) -> Iterator[str]:
 
 
 def _identify(talk: Talk, rest: List[str]) -> Iterator[str]:
-    controller, cns, nsid = number_of(rest[0]), number_of(rest[1]), number_of((rest + ["0"])[2])
+    controller, cns, nsid = talk.numbers(" ".join(("identify", *(*rest, "0")[:3])))
     if controller not in talk.configuration.hosts:
         raise NotDone(f"there is no controller {controller}")
     if controller in talk.configuration.raw:
@@ -118,7 +117,7 @@ def _status(_: Talk, rest: List[str]) -> Iterator[str]:
 
 
 def _read32(talk: Talk, rest: List[str]) -> Iterator[str]:
-    controller, offset = number_of(rest[0]), number_of(rest[1])
+    controller, offset, _ = talk.numbers(f"write32 {rest[0]} {rest[1]} 0")
     value = looks.register(talk.look(f"?register {controller} {offset}"), controller, offset)
     yield f"{_REGISTERS.get(offset) or register_words(offset)}: {value:#010x}"
 

@@ -1,18 +1,22 @@
 """The prompt: reads what is typed, has the program answer it, and answers what is about the session itself."""
 from __future__ import annotations
 
+import os
+import re
 import textwrap
-from pathlib import Path
 from typing import Callable, Dict, Iterable, Iterator, List
 
 from ..causes import event_cause
-from ..errors import NotDone, NvmesimError, SessionError
+from ..errors import ArgumentError, NotDone, NvmesimError, SessionError
+from ..files import Output
 from ..words import meaning
 from .decoded import LOOKS, shown
 from .talk import Talk
 
 PROMPT = "> "
 """What stands before a line that is typed."""
+
+_LINE = re.compile(r"\A! line [0-9]+ ")
 
 HELP = {
     "help": "help [WORD]        all lines, or how those are written that begin with WORD",
@@ -31,6 +35,7 @@ class Shell:
 
     def __init__(self, talk: Talk) -> None:
         self._talk = talk
+        self._count = 0
         self.is_done = False
         self._own: Dict[str, Callable[[List[str]], Iterable[str]]] = {
             "help": self._help, "list": self._list, "change": self._change, "drop": self._drop, "why": self._why,
@@ -48,6 +53,7 @@ class Shell:
         Raises:
             SessionError: the program ended, or does not answer.
         """
+        self._count += 1
         words = line.split()
         if not words:
             return []
@@ -59,13 +65,14 @@ class Shell:
             return list(self._said(line))
         except SessionError:
             raise
-        except UnicodeEncodeError:
+        except ArgumentError:
             return ["! the line is no text"]
         except NvmesimError as fault:
             return [f"! {fault}"]
 
     def _said(self, line: str) -> Iterator[str]:
-        answer = self._talk.say(line)
+        # The program counts what the prompt itself asks too.
+        answer = _LINE.sub(f"! line {self._count} ", self._talk.say(line))
         yield answer
         if answer.startswith("refused line"):
             yield "what was typed is kept: list shows it, change K LINE and drop K mend it, and start tries it again"
@@ -133,11 +140,8 @@ class Shell:
     def _save(self, rest: List[str]) -> Iterator[str]:
         _check(len(rest) == 1, "save FILE is how it is written")
         lines = self._talk.script
-        try:
-            with Path(rest[0]).open("x", encoding="utf-8") as file:
-                file.write("".join(f"{it}\n" for it in lines))
-        except OSError as fault:
-            raise NotDone(f"{rest[0]}: {fault.strerror}") from None
+        _check(not os.path.lexists(rest[0]), f"{rest[0]} exists, and save replaces no file")
+        Output(rest[0]).write("".join(f"{it}\n" for it in lines))
         yield f"{len(lines)} lines in {rest[0]}"
 
     def _quit(self, rest: List[str]) -> Iterator[str]:

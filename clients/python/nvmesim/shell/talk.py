@@ -33,6 +33,7 @@ class Talk:
         """
         self._command: List[PathLike] = [program, *(["--image"] if is_meant else []), image]
         self._seconds = seconds
+        self._program = program
         self.setup: List[str] = []
         self.events: List[Event] = []
         self.configuration = Configuration({}, (), {})
@@ -73,7 +74,7 @@ class Talk:
             ProgramDied: the program refuses it, and says why.
         """
         try:
-            lines = list(read_lines(text))
+            lines = list(read_lines(text, program=self._program))
         except ScriptError:
             lines = []  # the program says better what is wrong
         self.close()
@@ -112,6 +113,11 @@ class Talk:
             raise NotDone(answer[1:].strip().split(": ", 1)[-1])
         return answer
 
+    def numbers(self, line: str) -> List[int]:
+        """The numbers of a line as the program reads it. Raises `ScriptError` with its reason."""
+        (read,) = read_lines(line, True, self._program)
+        return read.numbers()
+
     def change(self, setup: Sequence[str]) -> None:
         """Begins again with these lines before `start`."""
         self._process.close()
@@ -131,7 +137,7 @@ class Talk:
         return answer
 
     def _follow(self) -> None:
-        self.configuration = configuration_of(read_lines("\n".join(self.setup)))
+        self.configuration = configuration_of(read_lines("\n".join(self.setup), program=self._program))
         self._follower = Follower(self.configuration.raw)
 
     def _taken(self, line: ScriptLine, answer: str) -> Event:

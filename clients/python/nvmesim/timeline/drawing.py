@@ -5,16 +5,19 @@ from html import escape
 from typing import Dict, Iterator, List, Optional, Sequence, Tuple
 
 from ..answers import Executed, Fetched, Polled, PowerCycled, Reset, Rung, Up
-from ..enums import ExecuteOutcome, UpOutcome
+from ..enums import ExecuteOutcome, IoOpcode, UpOutcome
 from ..history import Command, Event
 from ..words import (command_label, command_words, rule_words, short_meaning, shortened, status_words, tickets_words,
                      verdict_words)
 from .bands import Band
 from .layout import HEAD, ROW, Layout, begin_of
 
-_ALTERING = ("write", "zeroes")
-_READING = ("read", "compare")
-_MOST_WORDS = 112
+_TOUCHING = {IoOpcode.WRITE: "changes", IoOpcode.WRITE_ZEROES: "changes", IoOpcode.READ: "looks",
+             IoOpcode.COMPARE: "looks", IoOpcode.FLUSH: "flushes"}
+_VERBS = {"write": IoOpcode.WRITE, "zeroes": IoOpcode.WRITE_ZEROES, "read": IoOpcode.READ,
+          "compare": IoOpcode.COMPARE, "flush": IoOpcode.FLUSH}
+MOST_WORDS = 112
+"""The most letters of a text beside an event, and of a caption."""
 _FEW_WORDS = 44
 
 
@@ -27,6 +30,16 @@ def state_of(command: Command) -> str:
     if command.status is not None:
         return "done" if command.status.is_success else "failed"
     return "waiting"
+
+
+def touch_of(command: Command) -> str:
+    """What a command does with blocks: `changes`, `looks` or `flushes`, by the opcode that the controller fetched; an
+    empty text where it touches none."""
+    if command.line is not None:
+        opcode = _VERBS.get(command.line.verb)
+    else:
+        opcode = command.entry.io_opcode if command.entry is not None else None
+    return _TOUCHING[opcode] if opcode in _TOUCHING else ""
 
 
 def command_story(command: Command) -> str:
@@ -94,7 +107,7 @@ class Part:
             y = self.y(number) - ROW
             yield (f'<g class="caption"><title>{escape(text)}</title><rect x="0" y="{y - ROW / 2 + 2}" '
                    f'width="{self.layout.width}" height="{ROW - 4}"/>'
-                   f'<text x="{self.layout.text_left}" y="{y + 4}">{escape(shortened(text, _MOST_WORDS))}</text></g>')
+                   f'<text x="{self.layout.text_left}" y="{y + 4}">{escape(shortened(text, MOST_WORDS))}</text></g>')
 
     def _rows(self) -> Iterator[str]:
         """The rows: what takes the focus, and the words beside the lanes."""
@@ -103,10 +116,10 @@ class Part:
             y, top = self.y(event.number), self.y(event.number) - ROW / 2
             where = f"Event {event.number}, line {event.line.number}"
             told = escape(f"{where}: {event.line.text} — {event.text} — {words}", quote=True)
-            is_denied = isinstance(event.answer, (Executed, Polled)) and any(it.is_denied for it in event.commands)
+            is_red = is_denied(event)
             place = self.layout.hosts.get(event.line.controller)
             lane = place.left if place is not None else 0
-            look = "plain" if not is_denied else "denied stopped" if isinstance(event.answer, Executed) else "denied"
+            look = "plain" if not is_red else "denied stopped" if isinstance(event.answer, Executed) else "denied"
             yield (f'<g class="event {look}" data-event="{event.number}" data-x="{lane}" tabindex="0" role="listitem" '
                    f'aria-label="{told}">'
                    f'<title>{told}</title>'
@@ -174,21 +187,21 @@ class Part:
         return []
 
     def _executed(self, command: Command, y: float) -> List[str]:
-        """An execution reaches the media, or is stopped at its controller by a rule."""
+        """An execution reaches the media if it touches blocks; a denied one is stopped at its controller by a rule."""
         x, media = self.layout.held_left(command) + 4.5, self.layout.media
         if command.is_denied:
             number, lane = command.rule.value, self.layout.controllers[command.controller]
             return [f'<path class="cross" d="M{x - 7} {y - 7}l14 14M{x - 7} {y + 7}l14 -14"/>',
                     f'<text class="rule" x="{lane.left + lane.width - 6}" y="{y + 4}">rule {number}</text>']
-        verb = command.line.verb if command.line is not None else ""
-        shape = "changes" if verb in _ALTERING else "looks" if verb in _READING else "other"
-        end = media.middle
+        touch, end = touch_of(command), media.middle
+        if not touch:
+            return [f'<path class="other" d="M{x} {y - 6}l6 6l-6 6l-6 -6z"/>']
         shapes = {
             "changes": f'<rect class="changes" x="{end - 6}" y="{y - 6}" width="12" height="12"/>',
             "looks": f'<circle class="looks" cx="{end}" cy="{y}" r="6"/>',
-            "other": f'<path class="other" d="M{end} {y - 7}l7 7l-7 7l-7 -7z"/>',
+            "flushes": f'<path class="flushes" d="M{end - 7} {y - 5}h14l-7 11z"/>',
         }
-        return [f'<path class="reach" d="M{x + 7} {y}H{end - 9}"/>', shapes[shape]]
+        return [f'<path class="reach" d="M{x + 7} {y}H{end - 9}"/>', shapes[touch]]
 
     def _band(self, number: int, kind: str, y: float) -> List[str]:
         """A host and its controller go down, or come up."""
@@ -204,11 +217,17 @@ def _arrow(begin: float, end: float, y: float, kind: str) -> str:
     return f'<path class="arrow {kind}" d="M{begin} {y}H{end}m{back} -4l{-back} 4l{back} 4"/>'
 
 
+def is_denied(event: Event) -> bool:
+    """Whether an event tells of a command that a rule denied: its words are red and bold."""
+    return isinstance(event.answer, (Executed, Polled)) and any(it.is_denied for it in event.commands)
+
+
 def event_texts(event: Event, is_short: bool = False) -> Tuple[str, str]:
-    """What stands beside an event: its line, and in few words what came of it; of both less where `is_short`."""
+    """What stands beside an event: its line, and in few words what came of it; of both less where `is_short`, but the
+    reason of a denial stays whole."""
     if is_short:
         line, words = event_texts(event)
-        return shortened(line, 22), shortened(words, _FEW_WORDS)
+        return shortened(line, 22), words if is_denied(event) else shortened(words, _FEW_WORDS)
     line = shortened(event.line.text, 34)
     answer, command = event.answer, event.command
     if isinstance(answer, Executed) and command is not None:
@@ -222,8 +241,8 @@ def event_texts(event: Event, is_short: bool = False) -> Tuple[str, str]:
     if isinstance(answer, Fetched) and command is not None:
         return line, f"takes {command_label(command)}"
     if event.line.is_request and command is not None:
-        return line, shortened(f"ticket {command.ticket}: {command_words(command)}", _MOST_WORDS)
-    return line, shortened(short_meaning(event), _MOST_WORDS)
+        return line, shortened(f"ticket {command.ticket}: {command_words(command)}", MOST_WORDS)
+    return line, shortened(short_meaning(event), MOST_WORDS)
 
 
 def _short_verdict(command: Command) -> str:

@@ -8,13 +8,15 @@ import subprocess
 import tempfile
 from html import escape
 from pathlib import Path
-from typing import List, Sequence
+from typing import List, Optional, Sequence
 
 from ..errors import NvmesimError
 from .bands import Told
 from .picture import Picture
 from .style import STYLE
 
+FORMS = ("html", "svg", "png")
+"""What a picture can be written as."""
 _GAP = 12
 _HEAD = 34
 _MOST_PIXELS = 30_000
@@ -24,6 +26,20 @@ _CONVERTER = "rsvg-convert"
 
 class NoFormat(NvmesimError):
     """A picture can't be had in a format."""
+
+
+def form_of(name: Optional[str], forms: Sequence[str] = FORMS) -> str:
+    """The format that the ending of a file's name says: a page where there is no file, or its name has no ending.
+
+    Raises:
+        NoFormat: it ends otherwise.
+    """
+    ending = Path(name or "").suffix.lower()
+    form = {"": "html", ".htm": "html"}.get(ending, ending[1:])
+    if form not in forms:
+        known = " or ".join(f".{it}" for it in forms)
+        raise NoFormat(f"{name} ends with {ending}, which is no format that is written here: {known}, or no ending")
+    return form
 
 
 def svg(script: str, transcript: str, title: str, told: Sequence[Told] = ()) -> str:
@@ -51,8 +67,8 @@ def _style() -> str:
     return rules.replace("svg.part", "svg .part").replace("&", "&amp;").replace("<", "&lt;")
 
 
-def png(script: str, transcript: str, title: str, target: Path, told: Sequence[Told] = ()) -> None:
-    """Writes the picture as a PNG file, by a browser or a converter on the path.
+def png(script: str, transcript: str, title: str, told: Sequence[Told] = ()) -> bytes:
+    """The picture as a PNG file, by a browser or a converter on the path.
 
     Raises:
         NoFormat: there is none, it fails, or the picture is too tall for one.
@@ -79,7 +95,7 @@ def png(script: str, transcript: str, title: str, target: Path, told: Sequence[T
         if done.returncode != 0 or not os.path.exists(made):
             said = done.stdout.strip().splitlines() or ["it says nothing"]
             raise NoFormat(f"{command[0]} makes no PNG file of the picture: {said[-1]}")
-        shutil.copyfile(made, target)
+        return Path(made).read_bytes()
 
 
 _STRIPES = ('<defs><pattern id="stripes" width="6" height="6" patternUnits="userSpaceOnUse" '

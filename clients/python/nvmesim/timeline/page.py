@@ -133,7 +133,8 @@ _LEGEND = """<ul class="legend" aria-label="Legend">
 </g></svg> without an answer</li>
 <li><svg width="16" height="20"><rect class="changes" x="2" y="4" width="12" height="12"/></svg> changes blocks</li>
 <li><svg width="16" height="20"><circle class="looks" cx="8" cy="10" r="6"/></svg> reads blocks</li>
-<li><svg width="16" height="20"><path class="other" d="M8 3l7 7l-7 7l-7 -7z"/></svg> else</li>
+<li><svg width="16" height="20"><path class="flushes" d="M1 5h14l-7 11z"/></svg> flushes blocks</li>
+<li><svg width="16" height="20"><path class="other" d="M8 4l6 6l-6 6l-6 -6z"/></svg> touches no blocks</li>
 <li><svg width="14" height="20"><g class="access key"><rect x="3" y="1" width="7" height="18"/></g></svg>
 registered</li>
 <li><svg width="14" height="20"><g class="access holds"><rect x="2" y="1" width="9" height="18"/></g></svg> holds the

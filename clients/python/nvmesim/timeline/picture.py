@@ -6,10 +6,15 @@ from typing import List, Sequence
 from ..answers import Executed
 from ..history import Event, follow
 from ..script import configuration_of, read_lines
+from ..words import shortened
 from .bands import Told, bands_of
 from .captions import captions_of
-from .drawing import Part, event_texts
+from .drawing import MOST_WORDS, Part, event_texts, is_denied
 from .layout import ROWS_OF_A_PART, commands_of, is_wide, lay_out
+
+
+_BOLDER = 5
+"""Bold words are longer than others by one letter in so many."""
 
 
 class Picture:
@@ -38,7 +43,9 @@ class Picture:
         self.texts = [event_texts(it, is_short or is_wide(self.configuration)) for it in self.events]
         self.head, captions = captions_of(lines)
         bands = bands_of(told, len(self.events))
-        beside = [f"{line}  {words}" for line, words in self.texts]
+        beside = [f"{line}  {words}" + " " * (len(words) // _BOLDER if is_denied(it) else 0)
+                  for it, (line, words) in zip(self.events, self.texts)]
+        beside += [shortened(text, MOST_WORDS) for number, text in captions.items() if number >= begin]
         self.layout = lay_out(self.events, self.configuration, beside, bands)
         self.parts: List[Part] = [
             Part(self.layout, self.events[n:n + ROWS_OF_A_PART], self.texts[n:n + ROWS_OF_A_PART], self.commands,

@@ -43,7 +43,7 @@ svg .words { fill: var(--faint); }
 .mark { pointer-events: none; }
 .arrow { fill: none; stroke: var(--faint); stroke-width: 1.3; } .arrow.poll { stroke-dasharray: 5 2; }
 .reach { fill: none; stroke: var(--done); stroke-width: 1.3; }
-.changes { fill: var(--done); } .looks, .other { fill: var(--ground); stroke: var(--done); stroke-width: 2; }
+.changes { fill: var(--done); } .looks, .flushes, .other { fill: var(--ground); stroke: var(--done); stroke-width: 2; }
 svg .rule { fill: var(--denied); font-size: 10.5px; font-weight: 600; text-anchor: end; }
 .band { fill: none; stroke: var(--up); stroke-width: 1.5; } .band.reset,
 .band.power { fill: var(--aborted); stroke: none; }

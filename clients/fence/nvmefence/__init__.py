@@ -1,0 +1,1 @@
+"""The fence agent fence_nvme_pr: nodes of a cluster are fenced off NVMe disks by reservations."""

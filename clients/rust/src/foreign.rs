@@ -1,0 +1,70 @@
+//! The calls of libnvmesim that take pointers, as `nvmesim.h` declares them. `raw.rs` makes them.
+
+use crate::layout::{Answer, Bytes, Event, Read, Sim, Written};
+use crate::{Attachment, Controller, Namespace};
+
+macro_rules! opening {
+    ($name:ident, $($bytes:ident: $kind:ty),+) => {
+        pub fn $name(
+            sim: *mut Sim,
+            version: u32,
+            controllers: *const Controller,
+            controller_count: usize,
+            namespaces: *const Namespace,
+            namespace_count: usize,
+            attached: *const Attachment,
+            attached_count: usize,
+            $($bytes: $kind),+
+        ) -> u32;
+    };
+}
+
+extern "C" {
+    opening!(nvmesim_open, bytes: *const u8, count: usize);
+    opening!(nvmesim_open_lent, bytes: Bytes);
+    pub fn nvmesim_close(sim: *mut Sim);
+    pub fn nvmesim_store(sim: *mut Sim, cntlid: u16, address: u64, bytes: *const u8, count: usize) -> Answer;
+    pub fn nvmesim_submit(sim: *mut Sim, cntlid: u16, qid: u16, entry: *const u8, completion: *mut u8) -> Answer;
+    pub fn nvmesim_load(sim: *mut Sim, cntlid: u16, address: u64, bytes: *mut u8, count: usize) -> u32;
+    pub fn nvmesim_read_blocks(sim: *mut Sim, nsid: u32, slba: u64, bytes: *mut u8, count: usize) -> u32;
+    pub fn nvmesim_status_name(sct: u8, sc: u8, bytes: *mut u8, count: usize) -> usize;
+    pub fn nvmesim_read_configuration(
+        text: *const u8,
+        text_count: usize,
+        medium_blocks: u64,
+        controllers: *mut Controller,
+        controller_count: usize,
+        namespaces: *mut Namespace,
+        namespace_count: usize,
+        attached: *mut Attachment,
+        attached_count: usize,
+        reason: *mut u8,
+        reason_count: usize,
+    ) -> Read;
+    pub fn nvmesim_configuration_lines(
+        controllers: *const Controller,
+        controller_count: usize,
+        namespaces: *const Namespace,
+        namespace_count: usize,
+        attached: *const Attachment,
+        attached_count: usize,
+        lines: *mut u8,
+        line_count: usize,
+    ) -> Written;
+    pub fn nvmesim_event_line(
+        event: *const Event,
+        bytes: *const u8,
+        count: usize,
+        line: *mut u8,
+        room: usize,
+    ) -> Written;
+    pub fn nvmesim_look(
+        sim: *mut Sim,
+        number: u64,
+        line: *const u8,
+        count: usize,
+        answer: *mut u8,
+        room: usize,
+    ) -> Written;
+    pub fn nvmesim_answer_line(event: *const Event, answer: *const Answer, line: *mut u8, room: usize) -> Written;
+}
