@@ -1,17 +1,14 @@
 # How nvmesim and nvmelive find their programs where they are installed: beside these lines, in a file of their name.
-# Who takes these lines in has set `name` and `support`, and has `tell`, `give_up` and `bad_words`.
+# Who takes these lines in has set `name` and `support`, and has `give_up` and `bad_words`.
 
 readonly help_on_builds=()
 # The folder of the Python package.
 readonly package=$support/python
 
-# Makes the program ready to be run: `program` is its path.
+# Makes a program ready to be run, by default the one of this name: `program` is its path.
 prepare() {
-    local how
-    program=$support/$name
+    program=$support/${1:-$name}
     [ -x "$program" ] || give_up "is not installed: there is no $program"
-    read -r how <"$support/build"
-    [[ $how == proved* || ${NVMESIM_UNPROVED:-} == 1 ]] || tell 'built without its proofs'
 }
 
 # Becomes the program, which `prepare` made ready.

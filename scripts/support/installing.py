@@ -1,5 +1,5 @@
-"""Puts the programs, their manual pages, the Python package, the lab, examples and documents under a prefix, with a
-manifest of all files."""
+"""Puts the programs, their manual pages, the Python package, the lab, the fence agent, examples and documents under a
+prefix, with a manifest of all files."""
 import os
 import re
 import shutil
@@ -18,8 +18,7 @@ MANIFEST = f"{SHARE}/MANIFEST"
 SUM = re.compile(r"^[0-9a-f]{64}  (.+)$", re.M)
 # What a wrapper of the repository says, and what it says where it is installed.
 MOVED = (('top=$(dirname "$(realpath "${BASH_SOURCE[0]}")")', 'top=$(dirname "$(dirname "$(realpath "${BASH_SOURCE[0]}")")")'),
-         ("support=$top/scripts/support", f"support=$top/{LIBRARY}"),
-         ("keywords_file=$top/crates/nvme_grammar/src/keyword.rt", "keywords_file=$support/keywords"))
+         ("support=$top/scripts/support", f"support=$top/{LIBRARY}"))
 LAB = """#!/usr/bin/env bash
 # nvmelab: the lab, in which nvme-cli finds the subsystem as its disks; `--help` says more.
 set -euo pipefail
@@ -88,13 +87,6 @@ def wrapper_of(top: Path, name: str) -> str:
     return text
 
 
-def keywords_of(top: Path) -> str:
-    """The words that lines of scripts begin with, as the wrappers read them from the source."""
-    places = [str(top / "scripts/support/words.sh"), str(top / "crates/nvme_grammar/src/keyword.rt")]
-    words = ["bash", "-c", '. "$1"; keywords_file=$2; keywords', "-", *places]
-    return subprocess.run(words, stdout=subprocess.PIPE, text=True, check=True).stdout.strip() + "\n"
-
-
 def put_programs(top: Path, stage: Path) -> None:
     """The programs, behind scripts that judge their words, and the lab."""
     for name in PROGRAMS:
@@ -103,7 +95,6 @@ def put_programs(top: Path, stage: Path) -> None:
         copy(top / "man" / f"{name}.1", stage / "share/man/man1" / f"{name}.1")
     copy(top / "scripts/support/words.sh", stage / LIBRARY / "words.sh")
     copy(top / "scripts/support/installed.sh", stage / LIBRARY / "program.sh")
-    put(keywords_of(top), stage / LIBRARY / "keywords")
     put(version_of(top) + "\n", stage / LIBRARY / "version")
     put(asked(top, "scripts/build", "describe", PROGRAMS[0]).split("; ")[0] + "\n", stage / LIBRARY / "build")
     copy_tree(top / "clients/nvme-cli", stage / LIBRARY / "lab", "test", "tests", "README.md")
@@ -118,6 +109,13 @@ def put_package(top: Path, stage: Path) -> None:
     subprocess.run([sys.executable, "-Bc", words, str(stage / SHARE)], cwd=top / "clients/python/packaging", check=True)
     copy_tree(top / "clients/python/nvmesim", stage / LIBRARY / "python/nvmesim")
     copy_tree(top / "clients/python/examples", stage / SHARE / "examples")
+
+
+def put_fence(top: Path, stage: Path) -> None:
+    """The fence agent, which Pacemaker finds by a link in its own folder, and its manual page."""
+    copy(top / "clients/fence/fence_nvme_pr", stage / LIBRARY / "fence/fence_nvme_pr")
+    copy_tree(top / "clients/fence/nvmefence", stage / LIBRARY / "fence/nvmefence")
+    copy(top / "man/fence_nvme_pr.8", stage / "share/man/man8/fence_nvme_pr.8")
 
 
 def put_others(top: Path, stage: Path, others: Others) -> None:
@@ -159,6 +157,7 @@ def fill(top: Path, stage: Path, others: Others = OTHERS) -> None:
     """Puts all there is into an empty folder."""
     put_programs(top, stage)
     put_package(top, stage)
+    put_fence(top, stage)
     put_others(top, stage, others)
     put(manifest(top, stage), stage / MANIFEST)
 
@@ -166,6 +165,11 @@ def fill(top: Path, stage: Path, others: Others = OTHERS) -> None:
 def names_in(path: Path) -> List[str]:
     """The files that a manifest lists."""
     return SUM.findall(path.read_text(encoding="utf-8"))
+
+
+def build_of(prefix: Path) -> str:
+    """How the installed programs were built: proved or not, and of which sources."""
+    return (prefix / LIBRARY / "build").read_text(encoding="utf-8").strip()
 
 
 def commands_of(prefix: Path) -> List[str]:

@@ -1,6 +1,6 @@
 # How ./nvmesim and ./nvmelive find their programs, and build them: scripts/build keeps each build in out/ by the digest
-# of its sources. A proved program runs where there is one, else one that is built without its proofs, of which a line
-# on standard error tells. Who takes these lines in has set `name` and `top`, and has `tell` and `give_up`.
+# of its sources. A proved program runs if there is one, else one that is built without its proofs: a line on standard
+# error says so when it is built, and --version always. Callers must set `name` and `top`, and have `tell` and `give_up`.
 
 readonly builds=$top/out
 # The folder of the Python package.
@@ -12,8 +12,9 @@ readonly help_on_builds=(
     'The first run builds both without their proofs, in about a minute; --prove takes 15 to 30 minutes.'
 )
 
-# Calls scripts/build, which says itself what goes wrong.
+# Calls scripts/build, which reports its own failures.
 build() {
+    need_python 'to build'
     NVMESIM_TELLS=$name "$top/scripts/build" "$@"
 }
 
@@ -29,19 +30,7 @@ find_digest() {
             return
         fi
     fi
-    command -v python3 >/dev/null || give_up 'could not be built: there is no python3'
     digest=$(build digest) || exit 70
-}
-
-# Tells that the program has no proofs, and how far they are where they are being made.
-tell_unproved() {
-    local far=
-    [ ! -e "$builds/proving" ] || far=$(build progress 2>/dev/null) || true
-    if [ -n "$far" ]; then
-        tell "built without its proofs, which are being made: $far"
-    elif [ "${NVMESIM_UNPROVED:-}" != 1 ]; then
-        tell 'built without its proofs; ./nvmesim --prove proves it'
-    fi
 }
 
 # Whether a process builds these programs.
@@ -50,22 +39,21 @@ is_building() {
     { read -r process <"$builds/$digest.lock"; } 2>/dev/null && [ -d "/proc/$process" ]
 }
 
-# Makes the program ready to be run: `program` is its path.
+# Makes a program ready to be run, by default the one of this name: `program` is its path.
 prepare() {
-    local folder
+    local wanted=${1:-$name} folder
     find_digest
-    program=$builds/proved/$digest/$name
+    program=$builds/proved/$digest/$wanted
     [ ! -x "$program" ] || [ ! -e "$builds/proved/$digest/record" ] || return 0
     folder=$builds/unproved/$digest
-    program=$folder/$name
+    program=$folder/$wanted
     if [ -x "$program" ]; then
-        tell_unproved
-        # What optimizes it goes on, if it was stopped.
-        [ ! -e "$folder/$name.parts/module.bc" ] || is_building || build unproved "$name" || true
+        # Resumes an optimization that was stopped.
+        [ ! -e "$folder/$wanted.parts/module.bc" ] || is_building || (build unproved "$wanted") || true
         return 0
     fi
     command -v rt >/dev/null || give_up 'could not be built: there is no rt, the command of the toolchain'
-    build unproved "$name" || exit 70
+    build unproved "$wanted" || exit 70
     [ -x "$program" ] || give_up "could not be built: there is no program $program"
 }
 
@@ -76,15 +64,13 @@ run_program() {
 
 # The newest heading of CHANGELOG.md says the version; that of clients/python is tested to be the same.
 show_version() {
-    local line
-    while IFS= read -r line; do
-        if [[ $line == '## '* ]]; then
-            echo "$name ${line#\#\# }"
-            build describe "$name"
-            return
-        fi
+    local line version=
+    while [ -z "$version" ] && IFS= read -r line; do
+        [[ $line != '## '* ]] || version=${line#\#\# }
     done 2>/dev/null <"$top/CHANGELOG.md" || true
-    give_up 'CHANGELOG.md names no version'
+    [ -n "$version" ] || give_up 'CHANGELOG.md names no version'
+    echo "$name $version"
+    build describe "$name"
 }
 
 # Proves both programs, here or in the background.

@@ -8,7 +8,7 @@ SECONDS = {
     "nvme_driver": 116, "nvme_exec": 72, "nvme_admin": 91, "nvme_ctrl": 60, "nvme_subsys": 60, "nvme_event": 12,
     "nvme_mailbox": 40, "nvme_refinement": 34, "nvme_fleet": 200, "script_text": 90, "nvme_transcript": 93,
     "nvme_grammar": 330, "nvme_program": 290, "nvme_script": 160, "nvmesim": 120, "live_text": 45, "live_views": 132,
-    "nvme_live": 320, "nvmelive": 120,
+    "nvme_live": 320, "nvmelive": 120, "nvme_lines": 60, "nvme_premises": 15, "library_text": 90,
 }
 LINES_A_SECOND = 25
 

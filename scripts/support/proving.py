@@ -81,18 +81,53 @@ class Progress:
     def begin(self, name):
         self.tell(f"{name}: begun, {self.done} of {self.count} crates done, {self.minutes()} minutes so far")
 
-    def end(self, name, words=""):
+    def end(self, name, words):
         self.done += 1
-        self.tell(f"{name}: {words or 'proved'}, {self.done} of {self.count} crates, {self.minutes()} minutes so far")
+        self.tell(f"{name}: {words}, {self.done} of {self.count} crates, {self.minutes()} minutes so far")
 
     def minutes(self):
         return f"{(time.monotonic() - self.begun) / 60:.1f}"
 
 
-def build_program(rt, crate, flags):
-    """Proves and builds a program, which then runs on the input of its crate and has to print what that says."""
+def build(rt, crate, flags):
+    """Proves and builds a crate: a library, a static one or a program; whether it did."""
     Path(crate.folder, "out").mkdir(exist_ok=True)
-    return not crate.run(flags, [], input=crate.stream("stdin") or b"", stdout=subprocess.PIPE, timeout=rt.rtlib.LIMIT)
+    if crate.is_static:
+        return crate.build_static(flags) == 0
+    if not crate.is_program:
+        return crate.build_rlib(flags, anew=False) == 0
+    # The toolchain runs what it has built in the crate's folder; `true` stands in for that, since runs_well has the
+    # program's files around it.
+    return crate.run(flags, [], executable=shutil.which("true"), input=b"", timeout=rt.rtlib.LIMIT) == 0
+
+
+def runs_well(rt, crate):
+    """Runs a built program as `rt ci` does, in a copy of the crate's folder data/, on its input and its words; whether it
+    prints what the crate says, and ends with its status."""
+    words = (crate.stream("args") or b"").decode().splitlines()
+    status = int(crate.stream("status") or crate.said.get("status", 0))
+    with tempfile.TemporaryDirectory() as room:
+        data, kept = Path(room, "data"), Path(crate.folder, "data")
+        if kept.is_dir():
+            shutil.copytree(kept, data)
+        else:
+            data.mkdir()
+        try:
+            ran = subprocess.run([str(Path(crate.folder, "out", crate.name).resolve()), *words], cwd=data,
+                                 input=crate.stream("stdin") or b"", stdout=subprocess.PIPE, timeout=rt.rtlib.LIMIT,
+                                 check=False)
+        except subprocess.TimeoutExpired:
+            return False
+    return ran.returncode == status and ran.stdout == (crate.stream("stdout") or b"")
+
+
+def outcome(rt, crate, flags):
+    """What becomes of a crate: whether all was well, and the words for it."""
+    if not build(rt, crate, flags):
+        return False, "NOT PROVED"
+    if crate.is_program and not runs_well(rt, crate):
+        return False, "proved and built, and its run is WRONG"
+    return True, "proved and built" if crate.is_program or crate.is_static else "proved"
 
 
 class Processors:
@@ -127,28 +162,28 @@ def lowly(call):
 
 def prove(rt, wanted, jobs, tell, log):
     """Proves the crates and all that they stand on, side by side, and keeps the work of each in its out/. What is a
-    program is built there; what the first one waits for comes before the rest."""
+    program or a static library is built there, and a program is run; what the first one waits for comes before the
+    rest."""
     crates = cone_of(wanted)
     lacking = [it for it in crates if it.is_program or not it.is_built()]
     progress, processors = Progress(len(lacking), tell), Processors(rt)
     first = {it.name for it in cone_of([it for it in wanted if it.is_program][:1] or wanted)}
 
-    def build(crate, least):
+    def prove_one(crate, least):
         progress.begin(crate.name)
         with processors.some(least) as jobs, tempfile.TemporaryFile("w+", errors="replace") as crate.out:
-            flags = ["--jobs", str(jobs)]
-            is_well = build_program(rt, crate, flags) if crate.is_program else not crate.build_rlib(flags, anew=False)
+            is_well, words = outcome(rt, crate, ["--jobs", str(jobs)])
             crate.out.seek(0)
             with WRITING:
                 log.write(f"== {crate.name}\n")
                 shutil.copyfileobj(crate.out, log)
                 log.flush()
         crate.out = log
-        progress.end(crate.name, "NOT PROVED" if not is_well else "proved and built" if crate.is_program else "")
+        progress.end(crate.name, words)
         return is_well
 
     def build_in_turn(crate, least):
-        return (build if crate.name in first else lowly(build))(crate, least)
+        return (prove_one if crate.name in first else lowly(prove_one))(crate, least)
 
     held = rt.rtlib.lock(lacking)
     is_well = side_by_side(rt, (lacking, build_in_turn), first, jobs)

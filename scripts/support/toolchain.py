@@ -41,6 +41,9 @@ def load(root):
     os.chdir(root)
     # Its first call sets a signal's handler, as only the main thread may. What it guards ends when this process does.
     module.rtlib.guarded()
+    # What checks in other checkouts on this machine proved is taken from there, as `rt check` does.
+    if hasattr(module, "share_work"):
+        module.share_work(True)
     # Python's own handler would wait for the checks that threads have begun.
     signal.signal(signal.SIGINT, signal.SIG_DFL)
     return module

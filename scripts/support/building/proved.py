@@ -118,7 +118,7 @@ def prove_in_background(top: Path, tell: Tell) -> None:
     with open(store.folder / "background.log", "w", encoding="utf-8") as log:
         words = [sys.executable, str(top / "scripts" / "build"), "prove"]
         subprocess.Popen(words, stdin=subprocess.DEVNULL, stdout=log, stderr=log, start_new_session=True, cwd="/")
-    tell("proving in the background; ./nvmesim --prove follows it, and each run says how far it is")
+    tell("proving in the background; ./nvmesim --prove follows it, and --version says how far it is")
 
 
 def tail(log: Path) -> str:

@@ -1,30 +1,34 @@
-"""docs/WORKING.md has each public call that takes memory, and no other."""
+"""docs/ARCHITECTURE.md has each public call that takes memory, and no other."""
 import re
 from pathlib import Path
 from typing import Dict, Iterator, List, Tuple
 
+from support.documents.allowed import lists
 from support.documents.names import code_of
-from support.documents.texts import OTHERS, Document, Finding, crates
+from support.documents.taking import TESTS
+from support.documents.texts import Document, Finding, crates
 
-TABLE = "docs/WORKING.md"
-HEADING = "Which calls take memory"
-# A function that anyone may call, up to its parameters' end; and the type or trait that it belongs to.
+TABLE = "docs/ARCHITECTURE.md"
+HEADING = "Memory"
+# A function that anyone may call, with its indentation, up to its parameters' end; the type or trait that it belongs to;
+# and an allocator, or a runtime that has one: what a module has for its crate alone may have another that gives it.
 CALL = re.compile(r"^( *)pub fn (\w+)[^({]*(?:<[^(]*>)?\(([^)]*)\)", re.M)
 OWNER = re.compile(r"^(?:pub )?(?:impl(?:<.*?>)? (?:[\w:<>, ]+ for )?|trait )(\w+)", re.M)
-# An allocator, or a runtime that has one.
-TAKES = re.compile(r"\balloc: |\brt: &")
+GIVEN = re.compile(r"\balloc: |\brt: &")
 
 
 def calls(top: Path) -> Iterator[Tuple[str, str]]:
-    """Each public call that takes memory, as documents name it, and its file."""
-    for name in (it for it in crates(top) if not OTHERS.match(it)):
+    """Each public call that takes memory by the list of these, as documents name it, and its file."""
+    taking = {key for key, row in lists().rows.items() if row.is_taking}
+    for name in (it for it in crates(top) if not TESTS.match(it)):
         for path in sorted((top / "crates" / name / "src").glob("**/*.rt")):
-            text = code_of(path.read_text(encoding="utf-8"))
+            text, file = code_of(path.read_text(encoding="utf-8")), str(path.relative_to(top))
             owners = [(it.start(), it[1]) for it in OWNER.finditer(text)]
             for found in CALL.finditer(text):
-                if TAKES.search(found[3]):
-                    owner = [it for at, it in owners if at < found.start()][-1:] if found[1] else []
-                    yield "::".join([*owner, found[2]]), str(path.relative_to(top))
+                owner = [it for at, it in owners if at < found.start()][-1:] if found[1] else []
+                function = "::".join([*owner, found[2]])
+                if (file, function) in taking and GIVEN.search(found[3]):
+                    yield function, file
 
 
 def rows(document: Document) -> Dict[str, int]:

@@ -20,13 +20,14 @@ ASIDE = re.compile(r"^(?:Lib|Example\w*|\w+(?:Examples|Laws))$")
 SAVED = re.compile(r"^<!-- file: (\S+) -->$", re.M)
 CARRIED = re.compile(r"Carried by ((?:`[\w:]+`(?:,| and)? ?)+)")
 # The documents that cite definitions, and the picture.
-CITING = ("README.md", "docs/PROVED.md", "docs/THEOREMS.md", "docs/WORKING.md")
+CITING = ("README.md", "docs/ARCHITECTURE.md", "docs/CONTRIBUTING.md", "docs/DECISIONS.md", "docs/PROOFS.md",
+          "docs/PROVED.md", "docs/THEOREMS.md")
 PICTURE = "docs/pictures/layers.svg"
 # The timeline in README, and the script that it shows.
 TIMELINE = "docs/pictures/timeline.svg"
 TIMED = "crates/nvme_examples/data/fenced.nvme"
 # Where each crate, each module of definitions, and what is proved of each crate are.
-CRATES = "docs/WORKING.md"
+CRATES = "docs/ARCHITECTURE.md"
 CONTRACTS = "docs/PROVED.md"
 SECTION = "Crate by crate"
 # Each manual page, and the part of a document whose tables have the forms of its lines.
@@ -129,6 +130,9 @@ def check_contracts(top: Path, found: List[Document]) -> Iterator[Finding]:
 
 SPANS = re.compile(r"`(\w+)`")
 WORDS: Dict[Path, Set[str]] = {}
+# Words of proofs, which only the page on proofs may cite.
+PROOFS = "docs/PROOFS.md"
+PROOF_WORDS: Dict[Path, Set[str]] = {}
 
 
 def is_word(top: Path, name: str) -> bool:
@@ -140,6 +144,14 @@ def is_word(top: Path, name: str) -> bool:
             if "/proofs/" not in str(path):
                 WORDS[top] |= set(WORD.findall(code_of(path.read_text(encoding="utf-8"))))
     return name in WORDS[top]
+
+
+def is_of_proofs(top: Path, name: str) -> bool:
+    """Whether a proof has this word: a lemma, a tactic, a part of a goal's name."""
+    if top not in PROOF_WORDS:
+        paths = top.glob("crates/*/proofs/**/*.antt")
+        PROOF_WORDS[top] = {word for it in paths for word in WORD.findall(code_of(it.read_text(encoding="utf-8")))}
+    return name in PROOF_WORDS[top]
 
 
 def code_of(text: str) -> str:
@@ -154,7 +166,8 @@ def check_definitions(top: Path, document: Document) -> Iterator[Finding]:
     for n, span in document.spans:
         for name in [] if "/" in span or FILE.match(span) else WORD.findall(span):
             is_name = not name.isupper() and ("_" in name or name[:1].isupper())
-            if is_name and not is_word(top, name):
+            is_cited = is_word(top, name) or document.path == PROOFS and is_of_proofs(top, name)
+            if is_name and not is_cited:
                 yield Finding(document.path, n, f"no definition or function is called {name}")
     laws = "\n".join(it.read_text(encoding="utf-8") for it in top.glob("crates/*/src/laws.rt"))
     for first, paragraph in document.paragraphs():

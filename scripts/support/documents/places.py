@@ -1,6 +1,6 @@
-"""The lists of docs/WORKING.md have each file of code and of definitions that names what they look for.
+"""The lists of docs/CONTRIBUTING.md have each file of code and of definitions that names what they look for.
 
-A list begins with words such as: `Compare` is the one to look for. The compiler and the check name most places of a new
+A list begins with words such as: Search for `Compare`. The compiler and the check name most places of a new
 member, but a list that lacks one says that there is none.
 """
 import re
@@ -10,8 +10,8 @@ from typing import Iterator, List
 from support.documents.names import code_of
 from support.documents.texts import Document, Finding
 
-LISTS = "docs/WORKING.md"
-SOUGHT = re.compile(r"`(\w+)` is the one to look for")
+LISTS = "docs/CONTRIBUTING.md"
+SOUGHT = re.compile(r"[Ss]earch for `(\w+)`")
 HEADING = re.compile(r"^Adding ")
 IMPORT = re.compile(r"^(?:ghost )?(?:pub )?use .*$", re.M)
 # Files that speak of a member by choice: examples, laws, tests and measurements.

@@ -5,11 +5,12 @@ from pathlib import Path
 from typing import Dict, Iterator, List, Set, Tuple
 
 from support.documents.definitions import Definition, Key, Library, take_import, Module
-from support.documents.names import CARRIED
 from support.documents.texts import Document, Finding, crates
 
 THEOREMS = "docs/THEOREMS.md"
 ENSURES = re.compile(r"ensures(?: \w+)? \{ (\w+)[^}]*\}")
+# A link to a law: its name and its crate.
+LAW = re.compile(r"\[`(\w+)`\]\(\S*?crates/(\w+)/src/laws\.rt\)")
 # What steps are, which every theorem speaks of: the heading, and the definitions.
 STEPS = (
     ("What a subsystem's events are", (("crates/nvme_machine/specs/Subsystems", "Run"),)),
@@ -42,14 +43,15 @@ def law_of(top: Path, crate: str, name: str, library: Library) -> List[Definitio
     return [it for it in map(library.found, cited) if it]
 
 
-def theorems(top: Path, document: Document, library: Library) -> Iterator[Tuple[str, List[str], List[Definition]]]:
-    """Each theorem that laws carry: its heading, what carries it, and the definitions of these contracts."""
+def theorems(top: Path, document: Document, library: Library) -> Iterator[Tuple[str, Dict[str, List[Definition]]]]:
+    """Each section that links to laws: its heading, and for each law the definitions that its contract cites. Laws of
+    one name in several crates are one."""
     for heading, first, end in document.innermost_sections():
-        text = " ".join(document.lines[first:end - 1])
-        laws = [it for found in CARRIED.finditer(text) for it in re.findall(r"`(\w+)`", found[1])]
-        of_crates = dict.fromkeys(re.findall(r"<!-- excerpt: crates/(\w+)/", text))
-        if laws and of_crates:
-            yield heading, laws, [it for law in laws for crate in of_crates for it in law_of(top, crate, law, library)]
+        laws: Dict[str, List[Definition]] = {}
+        for name, crate in dict.fromkeys(LAW.findall(" ".join(document.lines[first:end - 1]))):
+            laws.setdefault(name, []).extend(law_of(top, crate, name, library))
+        if laws:
+            yield heading, laws
 
 
 def order_of(top: Path, cone: Dict[Key, Definition], library: Library) -> List[str]:
@@ -109,7 +111,8 @@ def page(top: Path, found: List[Document], library: Library) -> str:
         pieces.append(section(top, heading, f"{said}, with what they are made of: ", cone, library))
         known.update(cone)
     document = next(it for it in found if it.path == THEOREMS)
-    for heading, laws, begin in theorems(top, document, library):
+    for heading, laws in theorems(top, document, library):
+        begin = [it for cited in laws.values() for it in cited]
         cone = {key: it for key, it in library.cone(begin).items() if key not in known}
         stated = ", ".join(dict.fromkeys(called(it, begin) for it in begin))
         said = f"{' and '.join(f'`{it}`' for it in laws)} states {stated}; beyond the events: "
@@ -127,9 +130,9 @@ def check(top: Path, found: List[Document]) -> Iterator[Finding]:
     """The page can be made: each theorem has a statement, and each definition that one is made of is found."""
     library = Library(top)
     document = next(it for it in found if it.path == THEOREMS)
-    for heading, laws, begin in theorems(top, document, library):
-        if not begin:
-            yield Finding(THEOREMS, 1, f"{heading}: no definition is stated by {' and '.join(laws)}")
+    for heading, laws in theorems(top, document, library):
+        for law in (name for name, cited in laws.items() if not cited):
+            yield Finding(THEOREMS, 1, f"{heading}: no definition is stated by {law}")
     page(top, found, library)
     for file, name in sorted(library.lost):
         yield Finding(THEOREMS, 1, f"{name} of {file} is imported, and not found there")

@@ -4,6 +4,7 @@ import tempfile
 from pathlib import Path
 from typing import Callable, Iterator, List
 
+from support.documents import spellings, wording
 from support.documents.names import PICTURE
 from support.documents.texts import FOLDERS, TOP_TEXTS, Finding
 
@@ -11,6 +12,9 @@ from support.documents.texts import FOLDERS, TOP_TEXTS, Finding
 APPENDED = (
     ("[a link](docs/GONE.md)", "a link to docs/GONE.md, which is not there"),
     ("[a link](docs/USING.md#gone)", "a link to #gone, which docs/USING.md has not"),
+    ("[`sq_tail`](crates/nvme_gone/src/lib.rt)", "a link to crates/nvme_gone/src/lib.rt, which is not there"),
+    ("[`run_is_determined`](crates/nvme_ring/src/lib.rt)",
+     "a link to run_is_determined, which nvme_ring/src/lib.rt does not define"),
     ("`docs/GONE.md`", "docs/GONE.md is not there"),
     ("`nvme_spec/specs/Gone`", "nvme_spec/specs/Gone is not there"),
     ("words, and `scripts/gone\n--all`", "scripts/gone is not there"),
@@ -28,7 +32,7 @@ APPENDED = (
     ("words " * 20 + "words", "125 columns, where 120 are the most"),
     ("words\n" * 40, "lines, where 120 are the most"),
     ("blanks ", "blanks at the end of the line"),
-    ("it lies in /" + "work/there", "a path of a machine: /" + "work"),
+    ("it is in /" + "work/there", "a path of a machine: /" + "work"),
 )
 # A file, a text in it, what is put in its place, and what must be told of it.
 CHANGED = (
@@ -37,39 +41,39 @@ CHANGED = (
     # A premise is left out, a last clause is, and an elision stands for another premise.
     ("docs/THEOREMS.md", "    → DifferIn n old.world old.device medium\n", "",
      "Secrecy.antt: abbrev pub FencedReading "),
-    ("docs/THEOREMS.md", "RunKeeping tells j old m (event ∷ events) [] new l = ⊥\n", "",
-     "Preempted.antt: abbrev pub RunKeeping"),
+    ("docs/THEOREMS.md", "Run tells old (event ∷ events) [] new = ⊥\n", "", "Subsystems.antt: abbrev pub Run "),
     ("docs/THEOREMS.md", "FencingHolds =\n    (old new : Subsystem)",
      "FencingHolds =\n    ..\n    (old mid : Subsystem)", "Fencing.antt: abbrev pub FencingHolds"),
+    ("docs/THEOREMS.md", "[`OpeningIsLaidOut`](", "[`Places`](",
+     "a link to Places, which nvme_spec/specs/Layout.antt does not define"),
     ("docs/PROVED.md", "### nvme_mem\n", "### nvme_memory\n", "nvme_memory is no crate, or is not here exactly once"),
     ("docs/PROVED.md", "`nvme_refusals` and `nvme_bench` have no", "`nvme_refusals` have no",
      "nvme_bench is no crate, or is not here exactly once"),
     ("docs/PROVED.md", "| `Statuses`, `Limits` |", "| `Statuses` |", "no table has the module Limits"),
-    ("docs/WORKING.md", "`nvme_exec/specs/Carrying.antt`", "`nvme_exec/specs`",
+    ("docs/CONTRIBUTING.md", "`nvme_exec/specs/Carrying.antt`", "`nvme_exec/specs`",
      "no list has crates/nvme_exec/specs/Carrying.antt, which names Compare"),
-    ("docs/WORKING.md", "| `nvme_ring` |", "| `nvme_wire` |", "no table has the crate nvme_ring"),
-    ("docs/WORKING.md", "| `Window::new` |", "| `Window::store` |", "no public call Window::store takes memory"),
-    ("crates/nvme_ring/src/sq_head.rt", "    pub fn ", "    pub fn kept(alloc: Global) {}\n    pub fn ",
-     "kept takes memory, and no row"),
+    ("docs/ARCHITECTURE.md", "| `nvme_ring` |", "| `nvme_wire` |", "no table has the crate nvme_ring"),
+    # The table of calls, the list of those that take memory, and one spelling of each rule; spellings.py has the others.
+    ("docs/ARCHITECTURE.md", "| `Window::new`, `MemMedium", "| `Window::store`, `MemMedium", "no public call Window::store takes memory"),
     ("crates/nvme_medium/src/file.rt", "\nimpl<F: RawFile> FileMedium<F> {",
-     "\nimpl<F>\n    Drop for FileMedium<F> {\n    fn drop(self) {}\n}\n\nimpl<F: RawFile> FileMedium<F> {",
-     "file.rt:14: no clause speaks of what goes"),
+     "\nimpl<F: RawFile> Drop /* as it goes */ for FileMedium<F> { fn drop(self) {} }\n\nimpl<F: RawFile> FileMedium<F> {",
+     "file.rt:13: FileMedium has a Drop of its own"),
     ("crates/nvme_subsys/src/power.rt", "controllers[i].power_cycle();",
-     "let _kept = ManuallyDrop::new(&controllers[i]); controllers[i].power_cycle();",
-     "never does: let _kept = ManuallyDrop"),
-    ("crates/nvme_live/src/session.rt", "\nuse ", "\nuse std::mem::{replace, forget};\nuse ",
-     "never does: use std::mem::{replace, forget};"),
-    ("crates/nvme_mem/src/window.rt", "        if !is_inside(addr, len) {\n            return Err",
-     "        let _copy = self.bytes.clone();\n        if !is_inside(addr, len) {\n            return Err",
-     "store is given no allocator, and has .clone("),
+     "mem :: forget(&controllers[i]); controllers[i].power_cycle();", "never does: mem::forget"),
+    ("crates/nvme_live/src/session.rt", "\nuse ", "\nuse std::mem::*;\nuse ", "std::mem::* is not known to take no memory"),
+    ("crates/nvme_exec/src/lanes.rt", "\nfn ", "\nmacro_rules! grow { () => {} }\n\nfn ", "a macro, whose uses no check reads"),
     ("crates/nvme_medium/src/memory.rt", "        let at = 512 * i as usize;\n        self.",
-     "        let at = 512 * i as usize;\n        let _more = self.bytes.reserve(1 << 30);\n        self.",
-     "write is given no allocator, and has .reserve("),
-    ("crates/nvme_fleet/src/fleet.rt", "        &self.buffer[..self.filled]",
-     "        let _grown = self.buffer.push(0);\n        &self.buffer[..self.filled]",
-     "data is given no allocator, and has .push("),
-    ("crates/nvme_live/src/reading.rt", "line.extend_from_slice(&bytes[..room])",
-     "line.extend_from_slice(&bytes[..room + 1])", "has no line line.extend_from_slice"),
+     "        let at = 512 * i as usize;\n        let _more = Vec::reserve(&mut self.bytes, 1 << 30);\n        self.",
+     "MemMedium::write has Vec::reserve 1 times, and 0 are listed"),
+    ("crates/nvme_library/src/events.rt", "    happen(alloc, sim, Event::PowerCycle)",
+     "    let _ = nvme_medium::MemMedium::new(alloc, &[]);\n    happen(alloc, sim, Event::PowerCycle)",
+     "nvmesim_power_cycle has MemMedium::new 1 times, and 0 are listed"),
+    ("crates/nvme_medium/src/host.rt", "//! A file", "//!\n//! A file", "crates/nvme_medium/src/host.rt has"),
+    ("crates/nvme_ring/src/cq_head.rt", "\nuse ", "\nuse std::fs::File;\nuse ", "cq_head.rt calls the system, and no row"),
+    ("docs/PROVED.md", "| `crates/nvmelive/src/main.rt` |", "| `crates/nvme_mem/src/window.rt` |",
+     "window.rt does not call the system"),
+    ("crates/nvme_live/src/reading.rt", "line.extend_from_slice(&bytes[..room])", "line.is_empty()",
+     "keep has .extend_from_slice 0 times, and 1 are listed"),
     ("crates/nvme_ring/src/sq_tail.rt", "    pub fn ",
      "    pub fn long() {\n" + "        let _one = 1;\n" * 38 + "    }\n\n    pub fn ",
      "long has 40 lines, where 39 are the most"),
@@ -79,11 +83,17 @@ CHANGED = (
     ("crates/nvme_ring/src/lib.rt", "//! ", "//! \n" * 500 + "//! ", "lines, where 499 are the most"),
     ("crates/controller_tests/src/tests/ns.rt", "        nsid: 3,\n        blocks: 0,\n", "        nsid: 3, blocks: 0,\n",
      "tests::ns::faults_are_named') has 42, and 43 are allowed"),
+    # A word that has a better form; wording.py has a sentence for each.
+    ("bench/FIGURES.md", "the gate does not measure them", "the gate\ndoes not look behind them",
+     "FIGURES.md:4: 'behind': write after"),
     (PICTURE, ">nvme_ring<", ">nvme_rings<", "nvme_rings stands there twice, or is no crate"),
     (PICTURE, 'x="438" y="120">controller_tests', 'x="316" y="120">controller_tests',
      "controller_tests lies over another crate"),
     ("man/nvmesim.1", "\nfetch C Q\n", "\nfetch C\n", "no line fetch C Q"),
     ("man/nvmelive.1", "\n?queues C\n", "\n?queue C\n", "no line ?queues C"),
+    ("nvmesim", "print the path of the program", "show the path of the program", "man/nvmesim.1:1: its options are not"),
+    ("clients/nvme-tcp/src/options.rs", "print the path of the program", "show the path of the program",
+     "man/nvmetcp.1:1: its options are not"),
     ("README.md", "docs/pictures/timeline.svg", PICTURE, "does not show docs/pictures/timeline.svg"),
     ("docs/pictures/timeline.svg", ">ring 2<", ">ring 1<", "its events are not those of crates/nvme_examples"),
     ("docs/TUTORIAL.md", "<!-- file: agent.py -->", "<!-- file: agents.py -->", "no file is called agent.py"),
@@ -95,7 +105,9 @@ CHANGED = (
 # What else is told of these.
 ALSO = ("no definition or function is called nvme_gone", "layers.svg:1: nvme_ring is not there",
         "nvme_mem is no crate, or is not here exactly once", "Window::new takes memory, and no row",
-        "is given no allocator, and has .extend_from_slice(")
+        "crates/nvmelive/src/main.rt calls the system",
+        # What these spellings have beside the one that they are told by.
+        "nvme_subsys/src/power.rt", "nvme_library/src/events.rt", "nvme_medium/src/memory.rt")
 
 
 def copy_of(top: Path, room: Path) -> Path:
@@ -129,10 +141,12 @@ def run(top: Path, findings: Callable[[Path], Iterator[Finding]]) -> int:
         wanted = spoil(copy)
         told = [it for it in findings(copy) if it.what not in before]
     missed = [what for what in wanted if not any(what in str(it) for it in told)]
+    missed += [*spellings.missed(top), *wording.missed()]
     others = [it for it in told if not any(what in str(it) for what in (*wanted, *ALSO))]
     for what in missed:
         print(f"documents: not found: {what}")
     for it in others:
         print(f"documents: found without a fault: {it}")
-    print("documents: self-test: " + ("failed" if missed or others else f"{len(wanted)} faults found, and no other"))
+    count = len(wanted) + spellings.count() + len(wording.RULES)
+    print("documents: self-test: " + ("failed" if missed or others else f"{count} faults found, and no other"))
     return 1 if missed or others else 0

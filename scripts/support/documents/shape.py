@@ -17,7 +17,7 @@ LONG_FILES: Dict[str, Tuple[int, str]] = {}
 TABLE = "a table, of a line or two for each case"
 LONG_BODIES: Dict[Tuple[str, str], Tuple[int, str]] = {
     ("crates/nvme_grammar/src/keyword.rt", "Keyword::places"): (67, TABLE),
-    ("crates/nvme_program/src/reason.rt", "ReasonDisplay::fmt"): (61, TABLE),
+    ("crates/nvme_program/src/reason.rt", "ReasonDisplay::fmt"): (59, TABLE),
     ("crates/controller_tests/src/tests/ns.rt", "tests::ns::faults_are_named"): (43, TABLE),
     ("crates/controller_tests/src/tests/driver.rt", "tests::driver::an_unknown_completion_fails_the_driver"):
         (43, TABLE),
@@ -30,6 +30,8 @@ MANY_PARAMETERS: Dict[Tuple[str, str], Tuple[int, str]] = {
     ("crates/nvme_exec/src/execution.rt", "execution::execute_marking"): (7, LENT),
     ("crates/nvme_exec/src/execution.rt", "execution::perform"): (7, LENT),
     ("crates/nvme_library/src/opening.rt", "opening::nvmesim_open"): (7, "what C hands over: lists and their lengths"),
+    ("crates/nvme_library/src/reading.rt", "reading::nvmesim_read_configuration"):
+        (7, "what C hands over: lists and their lengths"),
     ("crates/nvme_library/src/opening.rt", "opening::nvmesim_open_lent"):
         (7, "what C hands over: lists and their lengths"),
     ("crates/nvme_script/src/run.rt", "run::run_event"): (8, LENT),

@@ -12,9 +12,10 @@ from pathlib import Path
 from typing import Any, Callable, Dict, Iterable, Iterator, List, Optional, Sequence
 
 # The kinds of calls that the library counts, in its order.
-KINDS = ("alloc", "open", "stat", "read", "write", "pread", "pwrite", "sync")
-# What it counts behind these: the requests for memory since the last read.
-SINCE_READ = "since read"
+KINDS = ("alloc", "open", "stat", "read", "write", "pread", "pwrite", "sync", "lock")
+# What it counts beside these: the requests for memory since the last read, how often memory was given back, and how
+# often since the last read.
+SINCE_READ, FREED, FREED_SINCE_READ = OTHERS = ("since read", "freed", "freed since read")
 # How many seconds a run may take; it takes a few hundredths.
 WITHIN = 60
 # A line that gives the reason: it is of the program, or of a place in the script.
@@ -55,6 +56,7 @@ class Bench:
 
     def __init__(self, folder: Path, program: Path, lie: str = "") -> None:
         self.folder, self.lie, self.numbers = folder, lie, count()
+        self.origin = program
         self.program = folder / "nvmesim"
         self.library = folder / "refuse.so"
         if not self.program.exists():
@@ -83,6 +85,14 @@ class Bench:
         """Starts the program in a folder."""
         return subprocess.Popen([str(self.program), *words], cwd=room, env=self.environment(room, plan), **streams)
 
+    def live(self) -> Path:
+        """The built nvmelive, which is beside the program or in the folder of its own crate."""
+        places = [self.origin.with_name("nvmelive"), self.origin.parents[2] / "nvmelive/out/nvmelive"]
+        found = next((it for it in places if it.is_file()), None)
+        if not found:
+            raise Wrong(f"there is no nvmelive beside {self.origin}, nor at {places[1]}")
+        return found
+
     def run(self, script: bytes, image: Optional[bytes] = None, plan: Optional[Plan] = None,
             by_stdin: bool = False) -> Shown:
         """Runs a script over an image of these bytes, or over zeros in memory."""
@@ -97,18 +107,19 @@ class Bench:
         shutil.rmtree(room)
         return shown
 
-    def finish(self, room: Path, started: subprocess.Popen) -> Shown:
-        """Waits for a run, and gathers what it showed and left."""
+    def finish(self, room: Path, started: subprocess.Popen, lines: Optional[bytes] = None) -> Shown:
+        """Waits for a run, which is given these lines by a pipe if there are any, and gathers what it showed and left."""
         try:
-            output, errors = started.communicate(timeout=WITHIN)
+            output, errors = started.communicate(lines, timeout=WITHIN)
         except subprocess.TimeoutExpired:
             started.kill()
             started.communicate()
             raise Wrong(f"a run that did not end within {WITHIN} seconds") from None
         image, told, counted = room / "image", room / "told", room / "counted"
-        counts = struct.unpack(f"{len(KINDS) + 1}Q", counted.read_bytes()) if counted.exists() else ()
+        names = (*KINDS, *OTHERS)
+        counts = struct.unpack(f"{len(names)}Q", counted.read_bytes()) if counted.exists() else ()
         return Shown(started.returncode, output or b"", errors or b"", image.read_bytes() if image.is_file() else None,
-                     told.stat().st_size if told.exists() else 0, dict(zip((*KINDS, SINCE_READ), counts)))
+                     told.stat().st_size if told.exists() else 0, dict(zip(names, counts)))
 
 
 # A check of a group over the repository: it says what was tried, or that something is wrong.

@@ -6,30 +6,31 @@ import time
 from pathlib import Path
 from typing import Dict, List
 
-from support.faults import (calls, commands, cuts, device, files, killed, memory, moments, mounts, script, steady,
-                            transcript)
+from support.faults import (calls, commands, cuts, device, files, killed, locks, memory, moments, mounts, script,
+                            session, steady, transcript)
 from support.faults.bench import Bench, Check, Wrong
 
 USAGE = """Tries what a user of storage fears on the built program.
 
 Each request for memory, each call on the image, each read of the script and each write of the transcript fails in
-turn; many events take as much memory as none; the program is killed at any moment; images are cut, removed or not
+turn; a million events take as much memory as none; the program is killed at any moment; images are cut, removed or not
 files, and are on file systems that are full or read-only; scripts are cut. The expected result is computed from what docs/USING.md promises. The status is 1 at the
 first thing that is wrong, and 2 where nothing could be tried. A small library is compiled for it, by $CC, `cc` or the
 toolchain's compiler."""
 
 GROUPS: Dict[str, Dict[str, Check]] = {
-    "memory": memory.CHECKS, "steady": steady.CHECKS, "calls": calls.CHECKS, "device": device.CHECKS,
+    "memory": memory.CHECKS, "steady": steady.CHECKS, "session": session.CHECKS,
+    "calls": calls.CHECKS, "device": device.CHECKS,
     "commands": commands.CHECKS,
-    "script": script.CHECKS, "transcript": transcript.CHECKS, "files": files.CHECKS, "mounts": mounts.CHECKS,
-    "cuts": cuts.CHECKS, "killed": killed.CHECKS, "moments": moments.CHECKS,
+    "script": script.CHECKS, "locks": locks.CHECKS, "transcript": transcript.CHECKS, "files": files.CHECKS,
+    "mounts": mounts.CHECKS, "cuts": cuts.CHECKS, "killed": killed.CHECKS, "moments": moments.CHECKS,
 }
 # What the program is made to do wrong in the self-test, and the checks that must not let it pass, group by group;
 # refuse.c says what each lie is.
 LIES: Dict[str, Dict[str, str]] = {
     "unharmed": {"memory": "turns onward", "calls": "each", "device": "reads writes syncs onward unkept",
                  "commands": "blocks raw", "script": "reads", "transcript": "writes", "files": "opening",
-                 "killed": "calls writes"},
+                 "locks": "refused", "killed": "calls writes"},
     "lost": {"memory": "turns onward", "device": "reads writes syncs onward unkept", "commands": "blocks raw",
              "transcript": "writes gone leaving", "files": "paths opening limit", "mounts": "full", "cuts": "each",
              "killed": "calls writes"},
@@ -49,7 +50,8 @@ LIES: Dict[str, Dict[str, str]] = {
     "bold": {"files": "rights opening", "mounts": "read-only"},
     "smooth": {"device": "writes onward", "commands": "blocks", "files": "limit", "mounts": "full"},
     "filled": {"files": "changed"},
-    "hungry": {"steady": "rounds"},
+    "hungry": {"steady": "rounds", "session": "lines"},
+    "unlocked": {"locks": "held"},
 }
 
 
@@ -60,7 +62,7 @@ def words_of(given: List[str]) -> argparse.Namespace:
     parser.add_argument("program", metavar="PROGRAM", help="a built nvmesim, such as `./nvmesim --where` prints")
     parser.add_argument("groups", nargs="*", metavar="GROUP", help=f"one of {', '.join(GROUPS)}; else all")
     parser.add_argument("--self-test", action="store_true",
-                        help="make the program do wrong, in eleven ways: each check that can see one must find it, and "
+                        help="make the program do wrong, in twelve ways: each check that can see one must find it, and "
                              "each must find one")
     return parser.parse_args(given)
 

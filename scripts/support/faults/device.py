@@ -2,7 +2,8 @@
 
 What a script must come to is computed, call by call: a call that fails is told by its own command, 2:80 or 2:81, and
 by no other line but those of commands that read a block whose write was lost; the exit status is 0; the image has what
-those events leave; and no other call is made of it. A call that moves fewer bytes is followed by one for the rest, and
+those events leave; and no other call is made of it. A Read that goes on after its fault shows in its calls
+alone, since nobody sees the blocks that it reads. A call that moves fewer bytes is followed by one for the rest, and
 nobody notices.
 """
 from functools import partial

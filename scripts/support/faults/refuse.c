@@ -1,12 +1,14 @@
 // Makes calls of the C library fail in the program that it is loaded into by LD_PRELOAD.
 //
 // FAULTS_PLAN says which: KIND:N:HOW, the N-th call of a kind, from 1, or KIND:N+:HOW, that one and all behind it.
-// KIND is alloc (every request for memory), open, stat, read, write (to standard output alone), pread, pwrite or sync.
+// KIND is alloc (every request for memory), open, stat, read, write (to standard output alone), pread, pwrite, sync or
+// lock.
 // HOW is the number of an errno; `none`, which moves nothing and is no error; `fewer`, a third of the bytes and one at
 // least; `torn`, half of the bytes and then EIO; or `kill`, which ends the program by SIGKILL before the call.
 // FAULTS_TOLD names a file that gets a byte for each call that was made to fail. FAULTS_COUNTED names one that gets,
 // when the program ends by itself, how many calls of each kind it made, as numbers of eight bytes in their order, and
-// behind them how many requests for memory it made since its last read.
+// then how many requests for memory it made since its last read, how often it gave memory back, and how often since its
+// last read.
 //
 // FAULTS_LIE is for trying the checks themselves: the program then does something that no check may let pass.
 //   unharmed  no call is made to fail, though that is told
@@ -20,6 +22,7 @@
 //   smooth    what the system refuses to write to the image is told as written
 //   filled    what is read of the image behind its end is told to be zeros
 //   hungry    memory is taken whenever a part of the transcript is written
+//   unlocked  the image is not locked, though the program is told so
 //
 // It includes nothing and links with nothing, so that a compiler without headers can make it: what it takes of the C
 // library and of Linux on x86-64 is declared here.
@@ -34,7 +37,7 @@ enum {
 };
 enum {
     SYS_read = 0, SYS_write = 1, SYS_close = 3, SYS_lseek = 8, SYS_mmap = 9, SYS_pread64 = 17, SYS_pwrite64 = 18,
-    SYS_getpid = 39, SYS_kill = 62, SYS_fsync = 74, SYS_fdatasync = 75, SYS_openat = 257, SYS_statx = 332
+    SYS_getpid = 39, SYS_kill = 62, SYS_flock = 73, SYS_fsync = 74, SYS_fdatasync = 75, SYS_openat = 257, SYS_statx = 332
 };
 
 long syscall(long number, ...);
@@ -45,19 +48,19 @@ int strcmp(const char *a, const char *b);
 int strncmp(const char *a, const char *b, size_t length);
 unsigned long strtoul(const char *text, char **rest, int base);
 void *memcpy(void *to, const void *from, size_t length);
-void free(void *memory);
 __attribute__((noreturn)) void _exit(int status);
 
-enum kind { ALLOC, OPEN, STAT, READ, WRITE, PREAD, PWRITE, SYNC, KINDS };
+enum kind { ALLOC, OPEN, STAT, READ, WRITE, PREAD, PWRITE, SYNC, LOCK, KINDS };
 enum how { BY_ERRNO, NONE, FEWER, TORN, KILL };
 
-static const char *const names[KINDS] = {"alloc", "open", "stat", "read", "write", "pread", "pwrite", "sync"};
+static const char *const names[KINDS] = {"alloc", "open", "stat", "read", "write", "pread", "pwrite", "sync",
+                                          "lock"};
 static enum kind planned_kind = KINDS;
 static unsigned long planned_at;
 static int is_onward;
 static enum how planned_how;
 static int planned_errno;
-static unsigned long counts[KINDS], taken_at_read;
+static unsigned long counts[KINDS], taken_at_read, freed, freed_at_read;
 static const char *told, *counted;
 static const char *lie = "";
 static int is_ready;
@@ -136,6 +139,7 @@ extern void *__libc_malloc(size_t);
 extern void *__libc_calloc(size_t, size_t);
 extern void *__libc_realloc(void *, size_t);
 extern void *__libc_memalign(size_t, size_t);
+extern void __libc_free(void *);
 
 void *malloc(size_t size) {
     return fails(ALLOC) ? 0 : __libc_malloc(size);
@@ -147,6 +151,12 @@ void *calloc(size_t count, size_t size) {
 
 void *realloc(void *old, size_t size) {
     return fails(ALLOC) ? 0 : __libc_realloc(old, size);
+}
+
+// No call of this fails. It is counted, since memory that is given back again and again was taken.
+void free(void *memory) {
+    freed += is_ready && memory;
+    __libc_free(memory);
 }
 
 void *aligned_alloc(size_t alignment, size_t size) {
@@ -197,6 +207,7 @@ int statx(int folder, const char *path, int flags, unsigned mask, void *found) {
 
 ssize_t read(int fd, void *bytes, size_t length) {
     taken_at_read = counts[ALLOC];
+    freed_at_read = freed;
     if (!fails(READ))
         return syscall(SYS_read, fd, bytes, length);
     size_t part = part_of(length);
@@ -209,7 +220,7 @@ static ssize_t write_changed(int fd, const void *bytes, size_t length, size_t at
     memcpy(copy, bytes, length);
     copy[at] ^= 1;
     ssize_t moved = syscall(SYS_write, fd, copy, length);
-    free(copy);
+    __libc_free(copy);
     return moved;
 }
 
@@ -284,6 +295,12 @@ int fdatasync(int fd) {
     return fails(SYNC) ? -1 : (int)syscall(SYS_fdatasync, fd);
 }
 
+int flock(int fd, int how) {
+    if (fails(LOCK))
+        return -1;
+    return lies("unlocked") ? 0 : (int)syscall(SYS_flock, fd, how);
+}
+
 // What the program calls where its C library has other names for the same.
 ssize_t pread64(int, void *, size_t, off_t) __attribute__((alias("pread")));
 ssize_t pwrite64(int, const void *, size_t, off_t) __attribute__((alias("pwrite")));
@@ -296,9 +313,9 @@ __attribute__((destructor)) static void end(void) {
     for (size_t i = 0; i < late_count; i++)
         syscall(SYS_pwrite64, fd, late[i].bytes, late[i].length, late[i].at);
     if (counted) {
-        unsigned long taken = counts[ALLOC] - taken_at_read;
+        unsigned long others[] = {counts[ALLOC] - taken_at_read, freed, freed - freed_at_read};
         put(counted, O_TRUNC, counts, sizeof counts);
-        put(counted, O_APPEND, &taken, sizeof taken);
+        put(counted, O_APPEND, others, sizeof others);
     }
     if (lies("calm"))
         _exit(0);

@@ -1,17 +1,19 @@
-"""Events take no memory: a script takes as much for every kind of event two hundred times as for none.
+"""Events take no memory and give none back: a million lines of every kind of event as little as none.
 
-The requests for memory are counted, over zeros in memory and over an image, whose cache takes some for each block that
-is new to it. A longer text takes more before it is whole, since its room is doubled; nothing else may take more.
+What is taken and given back is counted, over zeros in memory and over an image, whose cache takes some for each block
+that is new to it. A longer text takes more before it is whole, since its room is doubled; nothing else may take more.
 """
 from pathlib import Path
 from typing import Dict, List, Optional
 
-from support.faults.bench import SINCE_READ, Bench, Check, Shown, Wrong
+from support.faults.bench import FREED_SINCE_READ, SINCE_READ, Bench, Check, Shown, Wrong
 from support.faults.model import pattern, plan
 
-FEW, MANY = 10, 200
-# How many blocks a round reads or writes.
-BLOCKS = 4
+FEW = 10
+# How many lines all scripts together have, and how many one has at most: with more its text would be too long.
+LINES, MOST = 1_000_000, 100_000
+# How many blocks a round reads or writes, and how many there are: each script has others.
+BLOCKS, ALL_BLOCKS = 4, 16
 KEYWORDS = "crates/nvme_grammar/src/keyword.rt"
 SETUP = """controller 1 host 0xa1
 controller 2 host 0xb2
@@ -26,11 +28,11 @@ PLACED = """register 1 1 0 0 0 0 0xaa
 register 2 1 0 0 0 0 0xbb
 acquire 2 1 0 1 0xbb 0
 
-write 1 1 0 2 fill:5a
-write 2 1 0 2 fill:5b
-read 2 1 0 2
-compare 2 1 0 2 fill:5b
-zeroes 2 1 2 2
+write 1 1 {0} 2 fill:5a
+write 2 1 {0} 2 fill:5b
+read 2 1 {0} 2
+compare 2 1 {0} 2 fill:5b
+zeroes 2 1 {1} 2
 flush 2 1
 report 1 1 64
 
@@ -64,9 +66,10 @@ def turn(requests: List[str]) -> str:
     return "\n".join(lines) + "\n"
 
 
-def round_of_events() -> str:
-    """Every kind of event."""
-    return "up 1\nup 2\n" + "".join(turn(it.split("\n")) for it in PLACED.strip().split("\n\n")) + OTHERS
+def round_of_events(first: int = 0) -> str:
+    """Every kind of event, on the blocks from this one on."""
+    placed = PLACED.format(first, first + 2).strip().split("\n\n")
+    return "up 1\nup 2\n" + "".join(turn(it.split("\n")) for it in placed) + OTHERS
 
 
 def all_kinds(top: Path) -> List[str]:
@@ -81,19 +84,22 @@ def answers(shown: Shown) -> List[str]:
     return [line.split(" ", 3)[3] for line in shown.output.decode().splitlines() if line.startswith("execute ")]
 
 
-def counted(bench: Bench, rounds: int, image: Optional[bytes]) -> Dict[str, int]:
+def counted(bench: Bench, rounds: int, first: int, image: Optional[bytes]) -> Dict[str, int]:
     """How many calls a run of so many rounds makes; each must go as the first does."""
-    shown = bench.run((SETUP + rounds * round_of_events()).encode(), image, plan("sync", 10 ** 9, "EIO"))
+    shown = bench.run((SETUP + rounds * round_of_events(first)).encode(), image, plan("sync", 10 ** 9, "EIO"))
     if shown.status != 0 or answers(shown) != rounds * ANSWERS:
         raise Wrong(f"{rounds} rounds: status {shown.status}, and executions that are not {rounds} times {ANSWERS}")
     return shown.counts
 
 
-def must_take(wanted: int, counts: Dict[str, int], what: str) -> Dict[str, int]:
-    """The counts of a run, which must have so many requests for memory behind its text."""
-    if counts[SINCE_READ] != wanted:
-        raise Wrong(f"{what}: {counts[SINCE_READ]} requests for memory behind the text, where {wanted} are wanted")
-    return counts
+def must_be_as_few(what: str, few: Dict[str, int], many: Dict[str, int], rounds: int) -> None:
+    """A run of many rounds takes as much behind its text as one of a few, and gives as much back."""
+    for name in (SINCE_READ, FREED_SINCE_READ):
+        if many[name] != few[name]:
+            raise Wrong(f"{what}, {rounds} rounds: {many[name]} {name}, where a run of {FEW} rounds has {few[name]}")
+    more = many["alloc"] - few["alloc"]
+    if not 0 < more <= (rounds // FEW).bit_length():
+        raise Wrong(f"{what}: {more} requests more to read the text of {rounds} rounds")
 
 
 def try_rounds(bench: Bench, top: Path) -> str:
@@ -102,15 +108,19 @@ def try_rounds(bench: Bench, top: Path) -> str:
     if lacking or "powercycle" not in all_kinds(top):
         raise Wrong(f"no round has the events {sorted(lacking)}")
     told = []
-    for what, image in (("over zeros", None), ("over an image", pattern(3, 16, 0))):
-        wanted = counted(bench, 0, image)[SINCE_READ] + (BLOCKS if image else 0)
-        few, many = (must_take(wanted, counted(bench, rounds, image), f"{what}, {rounds} rounds")
-                     for rounds in (FEW, MANY))
-        more = many["alloc"] - few["alloc"]
-        if not 0 < more <= (MANY // FEW).bit_length():
-            raise Wrong(f"{what}: {more} requests more to read the text of {MANY} rounds")
-        told.append(f"{what} {wanted} behind the text, {few['alloc']} and {many['alloc']} with it")
-    return f"requests for memory of {FEW} and of {MANY} rounds of all events: {', '.join(told)}: as they must be"
+    for what, image, least in (("over zeros", None, LINES), ("over an image", pattern(3, ALL_BLOCKS, 0), LINES // 20)):
+        nothing, lines, first = counted(bench, 0, 0, image)[SINCE_READ], 0, 0
+        while lines < least:
+            each = round_of_events(first).count("\n")
+            rounds = -(-min(MOST, least - lines) // each)
+            few, many = counted(bench, FEW, first, image), counted(bench, rounds, first, image)
+            if few[SINCE_READ] != nothing + (BLOCKS if image else 0):
+                raise Wrong(f"{what}: {few[SINCE_READ]} requests behind the text of {FEW} rounds, and {nothing} of none")
+            must_be_as_few(what, few, many, rounds)
+            lines += rounds * each
+            first = (first + BLOCKS) % ALL_BLOCKS
+        told.append(f"{what} {few[SINCE_READ]} for {lines} lines, {nothing} for none")
+    return f"requests for memory behind the text: {', '.join(told)}: as they must be"
 
 
 CHECKS: Dict[str, Check] = {"rounds": try_rounds}

@@ -17,6 +17,10 @@ OPENED, MOST = 1000, 700 << 20
 TIME = 300
 # The random events of hostile hosts.
 EVENTS = 50000
+# The events and looks during which requests for memory are counted, and what the linker has come by the counter.
+COUNTED = 1000000
+WRAPPED = "-Wl," + ",".join(f"--wrap={it}" for it in
+                            ("malloc", "calloc", "realloc", "aligned_alloc", "posix_memalign", "free"))
 # The lines of the crate's file that may be unsafe, at most.
 UNSAFE = 150
 
@@ -92,6 +96,22 @@ class Trial:
             problem = (status or text) and f"status {status}\n{text}"
         self.check(what, problem)
 
+    def steady(self):
+        """No event and no look takes memory or gives any back; a library whose memcpy takes some is found."""
+        program, source = self.room / "steady", self.clients / "tests/steady.c"
+        # Without the compiler's own knowledge of malloc and memcpy, which would leave out calls of them.
+        words = ["cc", *STRICT, "-O2", "-fno-builtin", f"-I{self.prefix}/include", source, self.archive, "-o", program]
+        problem = self.compiled([*words, WRAPPED])
+        if not problem:
+            status, text = self.run([program, str(COUNTED)])
+            problem = status and text
+        self.check(f"requests for memory of {COUNTED} events and looks", problem)
+        problem = self.compiled([*words, "-DPLANTED", f"{WRAPPED},--wrap=memcpy"])
+        if not problem:
+            status, text = self.run([program, str(COUNTED)])
+            problem = "it is not found" if status == 0 else text.count("not so") and text
+        self.check("a memcpy that takes memory", problem)
+
     def unproved(self):
         """The library that is built without its proofs passes the tests too."""
         folder, program = self.room / "unproved", self.room / "unproved-tests"
@@ -154,7 +174,7 @@ class Trial:
 
     def python(self):
         """The package over the library, and over the program."""
-        environment = {**os.environ, "NVMESIM_LIBRARY": str(self.prefix / "lib/libnvmesim.so.1"),
+        environment = {**os.environ, "NVMESIM_LIBRARY": str(self.prefix / "lib/libnvmesim.so"),
                        "PYTHONPATH": str(self.top / "clients/python"), "PYTHONDONTWRITEBYTECODE": "1"}
         if self.live():
             environment["NVMELIVE"] = str(self.live())
@@ -182,6 +202,7 @@ def run(top, room):
     trial.check("the header in C++", trial.compiled(
         ["c++", "-std=c++11", *STRICT[1:], f"-I{trial.prefix}/include", "-c", "header.cc", "-o", "header.o"]))
     trial.tests("the tests", ["-O2"], limit=True, count=OPENED)
+    trial.steady()
     if shutil.which("valgrind"):
         trial.tests("the tests under valgrind", ["-O1"],
                     ["valgrind", "-q", "--error-exitcode=9", "--leak-check=full", "--show-leak-kinds=all"])

@@ -21,9 +21,11 @@ Declared = Tuple[str, List[str]]
 EXPORT = re.compile(r'pub extern "C" fn (nvmesim_\w+)\(([^)]*)\)')
 # The values of the calls. None is known before the program runs, so that nothing is computed from them.
 VALUES = {"Global": "alloc", "&mut Handle": "&mut sim", "u8": "n as u8", "u16": "n as u16", "u32": "n as u32",
-          "u64": "n as u64", "usize": "n", "bool": "n == 3", "&[u8]": "&bytes", "&mut [u8]": "&mut bytes",
+          "u64": "n as u64", "usize": "n", "bool": "n == 3", "&[u8]": "&bytes", "&mut [u8]": "&mut room",
           "&[u8; 64]": "&entry", "&mut [u8; 16]": "&mut completion", "&[Controller]": "&controllers",
           "&[Namespace]": "&namespaces", "&[Attached]": "&attached",
+          "&mut [Controller]": "&mut controllers", "&mut [Namespace]": "&mut namespaces",
+          "&mut [Attached]": "&mut attached", "&Event": "&event", "&Answer": "&answer",
           "LentBytes": "LentBytes { at: ptr::null_mut(), len: n }"}
 MAIN = """
 use nvme_lent::LentBytes;
@@ -35,10 +37,12 @@ fn main(rt: HostRuntime) -> io::Result<ExitCode> {{
     let alloc = rt.alloc();
     let n = env::args(&rt)?.count();
     let mut sim = Handle::closed(alloc);
-    let (mut bytes, entry, mut completion) = ([0u8; 512], [0u8; 64], [0u8; 16]);
-    let controllers = [Controller {{ host_low: n as u64, host_high: n as u64, cntlid: n as u16 }}];
-    let namespaces = [Namespace {{ blocks: n as u64, nsid: n as u32, shared: n == 3 }}];
-    let attached = [Attached {{ nsid: n as u32, cntlid: n as u16 }}];
+    let (bytes, mut room, entry, mut completion) = ([0u8; 512], [0u8; 512], [0u8; 64], [0u8; 16]);
+    let mut controllers = [Controller {{ host_low: n as u64, host_high: n as u64, cntlid: n as u16, raw: n == 3 }}];
+    let mut namespaces = [Namespace {{ blocks: n as u64, nsid: n as u32, shared: n == 3 }}];
+    let mut attached = [Attached {{ nsid: n as u32, cntlid: n as u16 }}];
+    let event = Event {{ at: n as u64, kind: n as u32, value: n as u32, cntlid: n as u16, qid: n as u16 }};
+    let answer = Answer {{ value: n as u32, what: n as u32, sct: n as u8, sc: n as u8, rule: n as u8 }};
 {calls}
     Ok(ExitCode::from(0))
 }}
@@ -51,6 +55,8 @@ INLINED = re.compile(r"#\[inline\(always\)\]\s*(?:#\[[^\]]*\]\s*)*(?:pub(?:\([^)
 INTERNAL = re.compile(r'^(define internal [^\n]*?@"([^"]+)"\([^\n]*\)) (#\d+ \{)$', re.M)
 # What stands before the name of an export that C calls by another function.
 BEHIND = "rattle_"
+# Structures of two words, which Rattle's calls leave in registers as C's do.
+IN_REGISTERS = ("nvmesim_written",)
 
 
 def calls(sources: Path) -> List[str]:
@@ -81,8 +87,9 @@ def copies(top: Path, room: Path) -> Dict[str, Path]:
 
 
 def answering(declared: Dict[str, Declared]) -> List[str]:
-    """The calls that answer a structure."""
-    return [name for name, (result, _) in declared.items() if result.startswith("nvmesim_")]
+    """The calls that answer a structure in memory."""
+    return [name for name, (result, _) in declared.items()
+            if result.startswith("nvmesim_") and result not in IN_REGISTERS]
 
 
 def shims(declared: Dict[str, Declared]) -> str:

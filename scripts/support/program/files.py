@@ -50,6 +50,10 @@ CASES = (
          {"taken-for-image": ONE_NAMESPACE.encode()}, 1,
          errors="nvmesim: line 2: DoesNotFit\nnvmesim: 'taken-for-image' has no whole block; to run a script over "
                 "zeros in memory: ./nvmesim - taken-for-image\n"),
+    Case("an image without a block, and a script that is named", ("small.img", "two.nvme"),
+         files={"small.img": b"small", "two.nvme": ONE_NAMESPACE.encode()}, status=1,
+         errors="nvmesim: line 2: DoesNotFit\nnvmesim: 'small.img' has no whole block; to run a script over zeros in "
+                "memory: ./nvmesim - two.nvme\n"),
     Case("an image that is taken for a script", ("-", "taken-for-script"),
          files={"taken-for-script": bytes(1024)}, status=1,
          errors="nvmesim: line 1: not understood\nnvmesim: 'taken-for-script' begins with a byte 00h, as images do and "

@@ -1,0 +1,1 @@
+"""Configurations made at random, and what each program that reads them makes of them."""
