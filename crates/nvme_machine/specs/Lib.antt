@@ -11,6 +11,7 @@ pub mod Executing
 pub mod Calling
 pub mod EventCalls
 pub mod AllowedCalls
+pub mod Needs
 pub mod Secrecy
 pub mod MixedRuns
 pub mod Preempted

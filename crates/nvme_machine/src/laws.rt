@@ -5,6 +5,7 @@ ghost use Rattle.nvme_machine.specs.Runs.{FailuresNeverFall, RunExists, RunIsUni
 ghost use Rattle.nvme_machine.specs.Calling.{CallsAreOfAnExecution, DeniedMakesNoCall, AdminMakesNoCall};
 ghost use Rattle.nvme_machine.specs.EventCalls.{CallsAreOfAStep, CallsAreOfARun};
 ghost use Rattle.nvme_machine.specs.AllowedCalls.{CallsAreAllowed, CallsOfRunsAreAllowed, CallsAreInOrder, FencedCommandsCallNothing, FencedHostsWriteNoBlock, FlushReachesTheMedium};
+ghost use Rattle.nvme_machine.specs.Needs.{CallsAreNeeded};
 ghost use Rattle.nvme_machine.specs.MixedRuns.{FencingHoldsOfEachEvent, SecrecyHoldsOfEachEvent};
 ghost use Rattle.nvme_machine.specs.PowerCycles.{PowerTakes, PersistenceLasts, FencingOutlastsPower, SecrecyOutlastsPower, ProtectedUntilPower};
 ghost use Rattle.nvme_machine.specs.CallLaws.{StepsHaveCalls, RunsHaveCalls, StepCallsAreUnique, RunCallsAreUnique, StepCallsAreComputed, RunCallsAreComputed, RunCallsExist, DeniedIsNoSuccess, FlushedIsOneFlush};
@@ -94,6 +95,13 @@ pub fn calls_leave_the_content()
 pub fn flushed_is_flushed()
     ensures denied { DeniedIsNoSuccess }
     ensures flushed { FlushedIsOneFlush }
+{}
+
+/// What a command needs of the medium is known before it is executed: the execution reads and writes no other block, and
+/// flushes only for a Flush.
+#[tactic(auto, using(crate::proofs::Needs::calls_are_needed))]
+pub fn calls_are_foreseen()
+    ensures { CallsAreNeeded }
 {}
 
 /// Bytes of a namespace change only by allowed writes, and its reservation only by allowed reservation commands, or by
