@@ -19,6 +19,7 @@ pub mod Calling
 pub mod EventCalls
 pub mod AllowedCalls
 pub mod Needs
+pub mod NeededCalls
 pub mod FencedCalls
 pub mod PowerCycles
 pub mod CallLaws

@@ -12,6 +12,7 @@ pub mod Calling
 pub mod EventCalls
 pub mod AllowedCalls
 pub mod Needs
+pub mod NeededCalls
 pub mod Secrecy
 pub mod MixedRuns
 pub mod Preempted

@@ -8,6 +8,7 @@ ghost use Rattle.nvme_spec.specs.MediumCalls.{Reads, Writes, Flushes};
 ghost use Rattle.nvme_machine.specs.FaultFreeCalls.{fault_free_calls};
 ghost use Rattle.nvme_machine.specs.Subsystems.{is_host_among};
 ghost use Rattle.nvme_machine.specs.Examples.{a_write, a_read, a_compare, a_flush, a_write_zeroes, a_report, of_admin_queue, past_the_end, marked, having, protected_having, behind_another_having, stores, OtherCallsAreNotNeeded};
+ghost use Rattle.nvme_machine.specs.NeededCalls.{AreWhole, sent_at};
 ghost use Rattle.nvme_machine.specs.Needs.{need_at};
 
 use crate::{Event, Need};
@@ -78,6 +79,21 @@ fn nothing_needed()
 #[tactic(auto, using(crate::proofs::Needs::other_calls_are_not_needed))]
 fn not_needed()
     ensures { OtherCallsAreNotNeeded }
+{}
+
+/// All that is needed: a Write writes its data, each block once and in order, and a Write Zeroes writes zeros.
+fn whole()
+    ensures write { AreWhole (Need.Write 4 2) (replicate 512 7 ++ replicate 512 8)
+        (Writes 4 (replicate 512 7) (Ok tt) ∷ Writes 5 (replicate 512 8) (Ok tt) ∷ []) }
+    ensures zero { AreWhole (Need.Zero 4 1) [] (Writes 4 (replicate 512 0) (Ok tt) ∷ []) }
+    ensures flush { AreWhole Need.Flush [] (Flushes (Ok tt) ∷ []) }
+    ensures nothing { AreWhole Need.Nothing [] [] }
+{}
+
+/// A Write sends what its host's memory holds when it is executed; a Flush sends nothing.
+fn sent()
+    ensures write { sent_at (having (a_write ∷ [])) 1 0 ≡ replicate 1024 0 }
+    ensures flush { sent_at (having (a_flush ∷ [])) 1 0 ≡ [] }
 {}
 
 /// Hosts that differ in their upper 64 bits alone are two hosts: what one has fetched is not marked for the other.
