@@ -143,6 +143,23 @@ typedef struct nvmesim_command {
     uint8_t entry[64]; /* its submission queue entry */
 } nvmesim_command;
 
+/* Which calls of the medium a command needs, of a nvmesim_needed. */
+enum {
+    NVMESIM_NEEDS_NOTHING = 0, /* none */
+    NVMESIM_NEEDS_READ = 1,    /* reads of these blocks: Read, Compare */
+    NVMESIM_NEEDS_WRITE = 2,   /* writes of these blocks: Write */
+    NVMESIM_NEEDS_ZERO = 3,    /* writes of zeros to these blocks: Write Zeroes */
+    NVMESIM_NEEDS_FLUSH = 4    /* a flush: Flush */
+};
+
+/* What a fetched command needs of the medium. */
+typedef struct nvmesim_needed {
+    uint64_t first;  /* the first block, counted from the first of the medium */
+    uint32_t blocks; /* the number of blocks */
+    uint32_t what;   /* NVMESIM_OK, or why there is no such command */
+    uint32_t kind;   /* one of NVMESIM_NEEDS_NOTHING .. */
+} nvmesim_needed;
+
 /* The reservation of a namespace. */
 typedef struct nvmesim_hold {
     uint64_t host_low;   /* the one host that holds it, its lower 64 bits: 0 where none does, */
@@ -254,6 +271,17 @@ nvmesim_queue nvmesim_completion_queue(nvmesim *sim, uint16_t cntlid, uint16_t q
 /* The i-th, from 0, of the commands that a controller has fetched and not executed: OK, NO_SUCH, NO_CONTROLLER,
  * CLOSED. */
 nvmesim_command nvmesim_fetched(nvmesim *sim, uint16_t cntlid, size_t i);
+
+/* What the i-th, from 0, of these commands needs of the medium, if it is executed now: OK, NO_SUCH, NO_CONTROLLER,
+ * CLOSED. Its execution makes no other calls. Other events may change a need: a reservation command of another host, for
+ * example, so that a rule then denies the command. What was needed just before an execution and its answer say what it
+ * did:
+ *  - Status 0:00: all that was needed, each block once.
+ *  - 2:80 (Write Fault): the write of a block failed, and each block before it is written; or the flush failed.
+ *  - 2:81 (Unrecovered Read Error): the read of a block failed. 2:85 (Compare Failure): a block differs. Each block
+ *    before it was read.
+ *  - Another status, a rule, or no completion: nothing. */
+nvmesim_needed nvmesim_needs(nvmesim *sim, uint16_t cntlid, size_t i);
 
 /* Whether a controller is attached to a namespace: VALUE, with 1 or 0, or CLOSED. */
 nvmesim_answer nvmesim_is_attached(nvmesim *sim, uint16_t cntlid, uint32_t nsid);

@@ -1,60 +1,5 @@
 /* Tests of the library through its header alone. Each check that fails is told with its line; the status is then 1. */
-#include <nvmesim.h>
-#include <stdio.h>
-#include <stdlib.h>
-#include <string.h>
-
-static int failures;
-
-#define CHECK(holds) \
-    do { \
-        if (!(holds)) { \
-            fprintf(stderr, "line %d: not so: %s\n", __LINE__, #holds); \
-            failures++; \
-        } \
-    } while (0)
-
-enum { CC = 0x14, CSTS = 0x1c, AQA = 0x24, ASQ = 0x28, ACQ = 0x30, DOORBELLS = 0x1000 };
-enum { ADMIN_CQ = 0x1000, IO_SQ = 0x2000, IO_CQ = 0x3000, DATA = 0x10000, ENTRIES = 16, WINDOW = 4194304 };
-
-static const nvmesim_controller two[] = {{0xa1, 0, 1, true}, {0xb2, 0xc3, 2, false}};
-static const nvmesim_namespace shared[] = {{64, 1, true}};
-static const nvmesim_attached both[] = {{1, 1}, {1, 2}};
-static const uint8_t zeros[64 * 512];
-
-static uint32_t open_two(nvmesim *sim) {
-    return nvmesim_open(sim, NVMESIM_VERSION, two, 2, shared, 1, both, 2, zeros, sizeof zeros);
-}
-
-static void entry(uint8_t bytes[64], uint8_t opcode, uint32_t nsid, uint64_t prp1, uint32_t dw10, uint32_t dw11) {
-    memset(bytes, 0, 64);
-    bytes[0] = opcode;
-    memcpy(bytes + 4, &nsid, 4);
-    memcpy(bytes + 24, &prp1, 8);
-    memcpy(bytes + 40, &dw10, 4);
-    memcpy(bytes + 44, &dw11, 4);
-}
-
-static nvmesim_answer by_calls(nvmesim *sim, uint16_t cntlid, uint16_t qid, uint32_t at, const uint8_t bytes[64]) {
-    CHECK(nvmesim_store(sim, cntlid, (qid ? IO_SQ : 0) + 64 * at, bytes, 64).what == NVMESIM_STORED);
-    CHECK(nvmesim_write32(sim, cntlid, DOORBELLS + 8 * qid, at + 1).what == NVMESIM_WROTE);
-    CHECK(nvmesim_fetch(sim, cntlid, qid).what == NVMESIM_TOOK);
-    return nvmesim_execute(sim, cntlid, 0);
-}
-
-/* Enables a controller and creates a pair of I/O queues. */
-static void up(nvmesim *sim, uint16_t cntlid) {
-    uint8_t bytes[64];
-    nvmesim_write32(sim, cntlid, AQA, (ENTRIES - 1) << 16 | (ENTRIES - 1));
-    nvmesim_write32(sim, cntlid, ACQ, ADMIN_CQ);
-    nvmesim_write32(sim, cntlid, CC, 4 << 20 | 6 << 16 | 1);
-    entry(bytes, 0x05, 0, IO_CQ, (ENTRIES - 1) << 16 | 1, 1);
-    nvmesim_answer answer = by_calls(sim, cntlid, 0, 0, bytes);
-    CHECK(answer.what == NVMESIM_POSTED && answer.sct == 0 && answer.sc == 0);
-    entry(bytes, 0x01, 0, IO_SQ, (ENTRIES - 1) << 16 | 1, 1 << 16 | 1);
-    answer = by_calls(sim, cntlid, 0, 1, bytes);
-    CHECK(answer.what == NVMESIM_POSTED && answer.sct == 0 && answer.sc == 0);
-}
+#include "hosts.h"
 
 /* Every call on a struct that is not open answers so, and leaves it as it was. */
 static void closed(void) {
@@ -73,6 +18,7 @@ static void closed(void) {
     CHECK(nvmesim_submission_queue(&sim, 1, 0).what == NVMESIM_CLOSED);
     CHECK(nvmesim_completion_queue(&sim, 1, 0).what == NVMESIM_CLOSED);
     CHECK(nvmesim_fetched(&sim, 1, 0).what == NVMESIM_CLOSED);
+    CHECK(nvmesim_needs(&sim, 1, 0).what == NVMESIM_CLOSED);
     CHECK(nvmesim_is_attached(&sim, 1, 1).what == NVMESIM_CLOSED);
     CHECK(nvmesim_reservation(&sim, 1).what == NVMESIM_CLOSED);
     CHECK(nvmesim_registrant(&sim, 1, 0).what == NVMESIM_CLOSED);
@@ -488,6 +434,7 @@ int main(int count, char **words) {
     submitting();
     no_turn();
     looks();
+    needs();
     reservations();
     names();
     texts();

@@ -175,6 +175,7 @@ static void looks(nvmesim *sim) {
     MUST(nvmesim_submission_queue(sim, 1, 1).what == NVMESIM_OK);
     MUST(nvmesim_completion_queue(sim, 1, 1).what == NVMESIM_OK);
     MUST(nvmesim_fetched(sim, 1, 0).what == NVMESIM_OK);
+    MUST(nvmesim_needs(sim, 1, 0).what == NVMESIM_OK);
     MUST(nvmesim_is_attached(sim, 1, 1).value == 1);
     MUST(nvmesim_reservation(sim, 1).what == NVMESIM_OK);
     MUST(nvmesim_registrant(sim, 1, 0).what == NVMESIM_OK);

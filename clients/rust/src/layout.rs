@@ -46,6 +46,14 @@ pub struct Command {
 }
 
 #[repr(C)]
+pub struct Needed {
+    pub first: u64,
+    pub blocks: u32,
+    pub what: u32,
+    pub kind: u32,
+}
+
+#[repr(C)]
 pub struct Hold {
     pub host_low: u64,
     pub host_high: u64,

@@ -85,7 +85,7 @@ mod raw;
 use layout::Answer;
 use layout::Blocks;
 pub use lines::{answer_line, event_line, read_configuration, Answered, ConfigError, ConfigFault, Event, LineError};
-pub use looks::{status_name, Command, Holder, Queue, Registrant, Reservation};
+pub use looks::{status_name, Command, Holder, Need, Queue, Registrant, Reservation};
 use raw::Handle;
 use std::fmt;
 

@@ -31,6 +31,36 @@ pub struct Command {
     pub entry: [u8; 64],
 }
 
+/// The calls of the medium that the execution of a command may make. Blocks are counted from the first of the medium.
+#[derive(Clone, Copy, Debug, PartialEq, Eq)]
+pub enum Need {
+    /// None.
+    Nothing,
+    /// Reads of `blocks` blocks, from `first` on: Read and Compare.
+    Read {
+        /// The first block.
+        first: u64,
+        /// The number of blocks.
+        blocks: u32,
+    },
+    /// Writes of these blocks: Write.
+    Write {
+        /// The first block.
+        first: u64,
+        /// The number of blocks.
+        blocks: u32,
+    },
+    /// Writes of zeros to these blocks: Write Zeroes.
+    Zero {
+        /// The first block.
+        first: u64,
+        /// The number of blocks.
+        blocks: u32,
+    },
+    /// One flush: Flush.
+    Flush,
+}
+
 /// Who holds the reservation of a namespace.
 #[derive(Clone, Copy, Debug, PartialEq, Eq)]
 pub enum Holder {
@@ -86,6 +116,17 @@ impl Subsystem<'_> {
         Ok((0..first.count).map(|i| command(self.handle.fetched(cntlid, i))).collect())
     }
 
+    /// What the `i`-th of these commands, from 0, needs of the medium, if it is executed now, or `None` if there is no
+    /// such command. Its execution makes no other calls; what it is answered says which of these were made.
+    pub fn need(&mut self, cntlid: u16, i: usize) -> Result<Option<Need>, Refusal> {
+        let needed = self.handle.needs(cntlid, i);
+        if needed.what == NO_SUCH {
+            return Ok(None);
+        }
+        checked(needed.what)?;
+        Ok(Some(need(needed)))
+    }
+
     /// Whether a controller is attached to a namespace. It is not where there is no such controller or namespace.
     pub fn is_attached(&mut self, cntlid: u16, nsid: u32) -> bool {
         self.handle.is_attached(cntlid, nsid).value == 1
@@ -132,6 +173,16 @@ fn queue(seen: layout::Queue) -> Result<Queue, Refusal> {
 
 fn command(seen: layout::Command) -> Command {
     Command { qid: seen.qid, marked: seen.marked, entry: seen.entry }
+}
+
+fn need(layout::Needed { first, blocks, kind, .. }: layout::Needed) -> Need {
+    match kind {
+        1 => Need::Read { first, blocks },
+        2 => Need::Write { first, blocks },
+        3 => Need::Zero { first, blocks },
+        4 => Need::Flush,
+        _ => Need::Nothing,
+    }
 }
 
 fn registrant(seen: layout::Registered) -> Registrant {

@@ -8,7 +8,9 @@ use crate::foreign::{
     nvmesim_open, nvmesim_open_lent, nvmesim_read_blocks, nvmesim_read_configuration, nvmesim_status_name,
     nvmesim_store, nvmesim_submit,
 };
-use crate::layout::{Answer, Blocks, Bytes, Command, Event, Hold, Parts, Queue, Read, Registered, Sim, Written};
+use crate::layout::{
+    Answer, Blocks, Bytes, Command, Event, Hold, Needed, Parts, Queue, Read, Registered, Sim, Written,
+};
 use crate::{Attachment, Controller, Namespace};
 #[cfg(target_arch = "x86_64")]
 use std::arch::x86_64::{_mm_prefetch, _MM_HINT_T0};
@@ -39,6 +41,7 @@ plain_calls! {
     submission_queue = nvmesim_submission_queue(cntlid: u16, qid: u16) -> Queue;
     completion_queue = nvmesim_completion_queue(cntlid: u16, qid: u16) -> Queue;
     fetched = nvmesim_fetched(cntlid: u16, i: usize) -> Command;
+    needs = nvmesim_needs(cntlid: u16, i: usize) -> Needed;
     is_attached = nvmesim_is_attached(cntlid: u16, nsid: u32) -> Answer;
     reservation = nvmesim_reservation(nsid: u32) -> Hold;
     registrant = nvmesim_registrant(nsid: u32, i: usize) -> Registered;

@@ -1,7 +1,8 @@
 //! Tests over the library itself.
 
 use nvmesim::{
-    status_name, Attachment, Config, Controller, Executed, Holder, Namespace, OpenError, Refusal, Registrant, Subsystem,
+    status_name, Attachment, Config, Controller, Executed, Fetched, Holder, Namespace, Need, OpenError, Refusal,
+    Registrant, Subsystem,
 };
 
 fn config() -> Config {
@@ -126,6 +127,30 @@ fn a_command_in_one_call() {
     assert_eq!((fetched.len(), fetched[0].qid, fetched[0].marked), (1, 1, false));
     assert_eq!(subsystem.fetched(2), Ok(vec![]));
     assert_eq!(subsystem.fetched(3), Err(Refusal::NoController));
+}
+
+#[test]
+fn a_need_is_known_before_its_execution() {
+    let mut subsystem = Subsystem::open(&config(), &[0; 4 * 512]).unwrap();
+    up(&mut subsystem, 1);
+    let wanted = [
+        (0x00, Need::Flush),
+        (0x01, Need::Write { first: 3, blocks: 1 }),
+        (0x02, Need::Read { first: 3, blocks: 1 }),
+        (0x05, Need::Read { first: 3, blocks: 1 }),
+        (0x08, Need::Zero { first: 3, blocks: 1 }),
+        (0x7f, Need::Nothing),
+    ];
+    for (slot, (opcode, _)) in wanted.iter().enumerate() {
+        subsystem.store(1, 0x2000 + 64 * slot as u64, &entry(*opcode, 1, 0x10000, 3, 0)).unwrap();
+    }
+    subsystem.write32(1, 0x1008, wanted.len() as u32).unwrap();
+    for (place, (_, need)) in wanted.into_iter().enumerate() {
+        assert_eq!(subsystem.need(1, place), Ok(None));
+        assert_eq!(subsystem.fetch(1, 1), Ok(Fetched::Took));
+        assert_eq!(subsystem.need(1, place), Ok(Some(need)));
+    }
+    assert_eq!(subsystem.need(3, 0), Err(Refusal::NoController));
 }
 
 #[test]

@@ -8,6 +8,7 @@ pub mod LentLaws
 pub mod Lines
 pub mod Looking
 pub mod LookingLines
+pub mod Needs
 pub mod Opening
 pub mod Queues
 pub mod Reading

@@ -81,5 +81,16 @@ pub const EVENT_EXECUTE: u32 = 5;
 /// Power is lost, and comes back.
 pub const EVENT_POWER_CYCLE: u32 = 6;
 
+/// The execution of a command makes no call of the medium.
+pub const NEEDS_NOTHING: u32 = 0;
+/// It reads blocks.
+pub const NEEDS_READ: u32 = 1;
+/// It writes blocks.
+pub const NEEDS_WRITE: u32 = 2;
+/// It writes zeros.
+pub const NEEDS_ZERO: u32 = 3;
+/// It flushes.
+pub const NEEDS_FLUSH: u32 = 4;
+
 /// The version of the interface. It changes whenever a program that was built for it would have to change.
 pub const VERSION: u32 = 2;

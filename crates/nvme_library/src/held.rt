@@ -5,6 +5,7 @@ ghost use Rattle.nvme_spec.specs.World.{namespace_of};
 ghost use Rattle.nvme_lent.specs.OwnOrLent.{bytes_of, step_of};
 ghost use Rattle.nvme_machine.specs.Bare.{seen_of};
 ghost use Rattle.nvme_machine.specs.EventCalls.{ExecutesNothing};
+ghost use Rattle.nvme_machine.specs.Needs.{need_at};
 ghost use Rattle.nvme_machine.specs.Subsystems.{Step, controller_at};
 ghost use Rattle.nvme_subsys.specs.Looking.{Looks, LooksBy, place_in};
 ghost use Rattle.nvme_library.specs.Events.{Executing};
@@ -15,7 +16,7 @@ use nvme_machine::BareSeen;
 use nvme_medium::MediumFault;
 use nvme_ns::Spaces;
 use nvme_spec::Marks;
-use nvme_subsys::{Event, Subsystem};
+use nvme_subsys::{Event, Need, Subsystem};
 use std::marker::Model;
 
 /// A subsystem that C holds, which is what contracts see of it. The room for what an execution marks stands beside it,
@@ -79,6 +80,14 @@ impl Held {
         ensures some { IfSome result (λ controller. controller_at self.now.state cntlid ≡ Some controller.now) }
     {
         self.subsystem.controller(cntlid)
+    }
+
+    /// What a command that a controller has fetched needs of the medium.
+    #[inline(always)]
+    pub(crate) fn need(&self, cntlid: u16, i: usize) -> Need
+        ensures { result ≡ need_at self.now.state cntlid i }
+    {
+        self.subsystem.need(cntlid, i)
     }
 
     /// The access state.

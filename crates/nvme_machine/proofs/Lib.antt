@@ -18,6 +18,8 @@ pub mod Posted
 pub mod Calling
 pub mod EventCalls
 pub mod AllowedCalls
+pub mod Needs
+pub mod NeededCalls
 pub mod FencedCalls
 pub mod PowerCycles
 pub mod CallLaws

@@ -1,15 +1,18 @@
 -- What the worked examples speak of.
-use Rattle.std.specs.Prelude.{ℕ, true, false, List, [], ◌∷◌, ◌++◌, None, Some, replicate}
+use Rattle.std.specs.Prelude.{ℕ, true, false, List, [], ◌∷◌, ◌++◌, None, Some, Ok, replicate}
 use Rattle.nvme_spec.specs.declared.access.Protection.TheVariants.{Protected}
 use Rattle.nvme_spec.specs.Configuration.{Configuration}
 use Rattle.nvme_spec.specs.Entries.{transfer_entry, command_entry}
 use Rattle.nvme_spec.specs.Examples.{controller, namespace}
+use Rattle.nvme_spec.specs.MediumCalls.{Reads, Writes, Flushes}
 use Rattle.nvme_spec.specs.Queues as ring
 use Rattle.nvme_spec.specs.World.{opening_world, with_protection}
 use Rattle.nvme_machine.specs.declared.event.Event.{Event}
 use Rattle.nvme_machine.specs.declared.event.Event.TheVariants.{Store}
 use Rattle.nvme_machine.specs.declared.fetched.FetchedCommand.{FetchedCommand}
+use Rattle.nvme_machine.specs.declared.need.Need.TheVariants as need
 use Rattle.nvme_machine.specs.Controllers.{Controller, new_controller}
+use Rattle.nvme_machine.specs.Needs.{IsNeeded}
 use Rattle.nvme_machine.specs.Subsystems.{Subsystem}
 
 -- one controller, attached to one namespace of two blocks
@@ -37,6 +40,23 @@ a_compare = of_queue_1 (transfer_entry 5 1 0 2)
 abbrev pub a_flush : FetchedCommand
 a_flush = of_queue_1 (command_entry 0 1 0 0 0)
 
+-- a Write Zeroes of the second block, a Reservation Report of 64 bytes, and a Read whose second block is past the end
+abbrev pub a_write_zeroes : FetchedCommand
+a_write_zeroes = of_queue_1 (transfer_entry 8 1 1 1)
+
+abbrev pub a_report : FetchedCommand
+a_report = of_queue_1 (command_entry 0x0e 1 15 1 0)
+
+abbrev pub past_the_end : FetchedCommand
+past_the_end = of_queue_1 (transfer_entry 2 1 1 2)
+
+-- the same command, if a Preempt and Abort has caught it, and if the admin queue brought it
+abbrev pub marked : FetchedCommand → FetchedCommand
+marked command = record command { marked = true }
+
+abbrev pub of_admin_queue : FetchedCommand → FetchedCommand
+of_admin_queue command = record command { queue = 0 }
+
 -- a controller with I/O queue 1, both ends of which have four entries, that has fetched these commands. Of its window
 -- the front is told, in which the data lie
 abbrev pub has_fetched : List FetchedCommand → Controller
@@ -60,6 +80,30 @@ having commands = record {
 abbrev pub protected_having : List FetchedCommand → Subsystem
 protected_having commands = record (having commands) { world = with_protection (opening_world small) 1 Protected }
 
+-- the same, where another namespace, of three blocks, comes before it on the medium
+abbrev pub behind_another : Configuration
+behind_another = record {
+  controllers = controller 1 0xa1 ∷ [];
+  namespaces = namespace 2 3 true ∷ namespace 1 2 true ∷ [];
+  attached = (1, 1) ∷ [];
+}
+
+abbrev pub behind_another_having : List FetchedCommand → Subsystem
+behind_another_having commands = record (having commands) { world = opening_world behind_another }
+
 -- its host stores at the front of the window
 abbrev pub stores : List ℕ → Event
 stores bytes = Store 1 0 (record { ref_ptr = (0, 0); now = bytes })
+
+-- Calls that are not needed: of a block before or behind, of another kind, and any if nothing is needed.
+abbrev pub OtherCallsAreNotNeeded : Type 0
+OtherCallsAreNotNeeded =
+    (IsNeeded (need.Read 3 2) (Reads 2 (Ok [])) → ⊥)
+    × (IsNeeded (need.Read 3 2) (Reads 5 (Ok [])) → ⊥)
+    × (IsNeeded (need.Read 3 2) (Writes 3 [] (Ok tt)) → ⊥)
+    × (IsNeeded (need.Write 3 2) (Writes 5 [] (Ok tt)) → ⊥)
+    × (IsNeeded (need.Write 3 2) (Flushes (Ok tt)) → ⊥)
+    × (IsNeeded (need.Zero 3 2) (Writes 2 [] (Ok tt)) → ⊥)
+    × (IsNeeded (need.Zero 3 2) (Reads 3 (Ok [])) → ⊥)
+    × (IsNeeded need.Flush (Writes 0 [] (Ok tt)) → ⊥)
+    × (IsNeeded need.Nothing (Flushes (Ok tt)) → ⊥)

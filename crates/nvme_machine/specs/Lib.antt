@@ -11,6 +11,8 @@ pub mod Executing
 pub mod Calling
 pub mod EventCalls
 pub mod AllowedCalls
+pub mod Needs
+pub mod NeededCalls
 pub mod Secrecy
 pub mod MixedRuns
 pub mod Preempted

@@ -5,6 +5,8 @@ ghost use Rattle.nvme_machine.specs.Runs.{FailuresNeverFall, RunExists, RunIsUni
 ghost use Rattle.nvme_machine.specs.Calling.{CallsAreOfAnExecution, DeniedMakesNoCall, AdminMakesNoCall};
 ghost use Rattle.nvme_machine.specs.EventCalls.{CallsAreOfAStep, CallsAreOfARun};
 ghost use Rattle.nvme_machine.specs.AllowedCalls.{CallsAreAllowed, CallsOfRunsAreAllowed, CallsAreInOrder, FencedCommandsCallNothing, FencedHostsWriteNoBlock, FlushReachesTheMedium};
+ghost use Rattle.nvme_machine.specs.Needs.{CallsAreNeeded};
+ghost use Rattle.nvme_machine.specs.NeededCalls.{SuccessIsWhole, WriteFaultNamesTheFront, ReadErrorNamesTheFront, CompareFailureNamesTheFront, OtherAnswersCallNothing, DenialCallsNothing};
 ghost use Rattle.nvme_machine.specs.MixedRuns.{FencingHoldsOfEachEvent, SecrecyHoldsOfEachEvent};
 ghost use Rattle.nvme_machine.specs.PowerCycles.{PowerTakes, PersistenceLasts, FencingOutlastsPower, SecrecyOutlastsPower, ProtectedUntilPower};
 ghost use Rattle.nvme_machine.specs.CallLaws.{StepsHaveCalls, RunsHaveCalls, StepCallsAreUnique, RunCallsAreUnique, StepCallsAreComputed, RunCallsAreComputed, RunCallsExist, DeniedIsNoSuccess, FlushedIsOneFlush};
@@ -94,6 +96,36 @@ pub fn calls_leave_the_content()
 pub fn flushed_is_flushed()
     ensures denied { DeniedIsNoSuccess }
     ensures flushed { FlushedIsOneFlush }
+{}
+
+/// What a command needs of the medium is known before it is executed: the execution reads and writes no other block, and
+/// flushes only for a Flush.
+#[tactic(auto, using(crate::proofs::Needs::calls_are_needed))]
+pub fn calls_are_foreseen()
+    ensures { CallsAreNeeded }
+{}
+
+/// A command that is answered Successful Completion has done to the medium all that it needed, each block once, and
+/// nothing else.
+#[tactic(auto, using(crate::proofs::NeededCalls::success_is_whole))]
+pub fn success_is_whole()
+    ensures { SuccessIsWhole }
+{}
+
+/// A command that is answered with a fault of the medium, or with a difference, has done a front of what it needed: all
+/// blocks before the one that failed or differed, each once, and nothing else.
+#[tactic(auto, using(crate::proofs::NeededCalls::write_fault_names_the_front, crate::proofs::NeededCalls::read_error_names_the_front, crate::proofs::NeededCalls::compare_failure_names_the_front))]
+pub fn faults_name_the_front()
+    ensures write { WriteFaultNamesTheFront }
+    ensures read { ReadErrorNamesTheFront }
+    ensures compare { CompareFailureNamesTheFront }
+{}
+
+/// A command with any other answer, or with the number of a rule that denied it, has made no call of the medium.
+#[tactic(auto, using(crate::proofs::NeededCalls::other_answers_call_nothing, crate::proofs::NeededCalls::denial_calls_nothing))]
+pub fn other_answers_call_nothing()
+    ensures status { OtherAnswersCallNothing }
+    ensures rule { DenialCallsNothing }
 {}
 
 /// Bytes of a namespace change only by allowed writes, and its reservation only by allowed reservation commands, or by

@@ -9,9 +9,11 @@ mod event;
 mod examples;
 mod fetched;
 pub mod laws;
+mod need;
 mod seen;
 
 pub use bare::{BareExecuted, BareOutcome, BareSeen};
 pub use event::Event;
 pub use fetched::FetchedCommand;
+pub use need::Need;
 pub use seen::{Executed, Fetched, Seen};

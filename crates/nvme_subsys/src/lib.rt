@@ -4,12 +4,13 @@
 
 mod looking;
 mod marking;
+mod needing;
 mod opening;
 mod power;
 mod reacting;
 mod subsystem;
 
 pub use marking::mark_after;
-pub use nvme_machine::{Event, Executed, Fetched, Seen};
+pub use nvme_machine::{Event, Executed, Fetched, Need, Seen};
 pub use opening::{NewFault, controllers_of};
 pub use subsystem::Subsystem;

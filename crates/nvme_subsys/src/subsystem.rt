@@ -13,15 +13,17 @@ ghost use Rattle.nvme_machine.specs.Controllers.{after_store, wrote, has_read, a
 ghost use Rattle.nvme_machine.specs.Subsystems.{opening, controller_at, Reacts, ExecutesAt, Step, Run, after_power_cycle};
 ghost use Rattle.nvme_machine.specs.declared.seen.Seen.TheVariants.{Cycled};
 ghost use Rattle.nvme_machine.specs.EventCalls.{CallingAt, AreCallsOfStep, AreCallsOfRun, ExecutesNothing};
+ghost use Rattle.nvme_machine.specs.Needs.{need_at};
 ghost use Rattle.nvme_subsys.specs.OverMedium.{over};
 
 use crate::looking::place_in;
 use crate::marking::mark_after;
+use crate::needing::need_of;
 use crate::opening::{NewFault, controllers_of};
 use crate::power::power_cycle_all;
 use crate::reacting;
 use nvme_ctrl::Controller;
-use nvme_machine::{BareExecuted, BareSeen, Event, Seen};
+use nvme_machine::{BareExecuted, BareSeen, Event, Need, Seen};
 use nvme_medium::{Medium, MediumFault, read_blocks};
 use nvme_ns::Spaces;
 use nvme_spec::{Config, ConfigFault, Marks};
@@ -142,6 +144,21 @@ impl<M: Medium> Subsystem<M> {
             return None;
         };
         Some(&self.controllers[place])
+    }
+
+    /// What the i-th command, from 0, that a controller has fetched needs of the medium, if it is executed now: its
+    /// execution makes no other calls (`calls_are_foreseen`). A command that is not there needs nothing. The medium is
+    /// not called.
+    pub fn need(&self, cntlid: u16, i: usize) -> Need
+        ensures { result ≡ need_at self.now.state cntlid i }
+    {
+        let Some(controller) = self.controller(cntlid) else {
+            return Need::Nothing;
+        };
+        match controller.fetched().get(i) {
+            Some(command) => need_of(&self.spaces, self.medium.blocks(), cntlid, command),
+            None => Need::Nothing,
+        }
     }
 
     /// The place of a controller.

@@ -9,7 +9,7 @@ TYPES = {
     "&[Namespace]": ["const nvmesim_namespace *", "size_t"], "&[Attached]": ["const nvmesim_attached *", "size_t"],
     "LentBytes": ["nvmesim_bytes"], "Answer": ["nvmesim_answer"], "()": ["void"],
     "&[u8; 64]": ["const uint8_t *"], "&mut [u8; 16]": ["uint8_t *"], "[u8; 64]": ["uint8_t[64]"],
-    "Queue": ["nvmesim_queue"], "Command": ["nvmesim_command"], "Hold": ["nvmesim_hold"],
+    "Queue": ["nvmesim_queue"], "Command": ["nvmesim_command"], "Needed": ["nvmesim_needed"], "Hold": ["nvmesim_hold"],
     "Registrant": ["nvmesim_registered"],
     "&mut [Controller]": ["nvmesim_controller *", "size_t"], "&mut [Namespace]": ["nvmesim_namespace *", "size_t"],
     "&mut [Attached]": ["nvmesim_attached *", "size_t"], "&Event": ["const nvmesim_event *"],
@@ -18,7 +18,7 @@ TYPES = {
 # The structs that C sees whole, by their names there.
 STRUCTS = {"Answer": "nvmesim_answer", "Controller": "nvmesim_controller", "Namespace": "nvmesim_namespace",
            "Attached": "nvmesim_attached", "Queue": "nvmesim_queue", "Command": "nvmesim_command",
-           "Hold": "nvmesim_hold", "Registrant": "nvmesim_registered", "Event": "nvmesim_event",
+           "Needed": "nvmesim_needed", "Hold": "nvmesim_hold", "Registrant": "nvmesim_registered", "Event": "nvmesim_event",
            "Written": "nvmesim_written", "Read": "nvmesim_read"}
 EXPORT = re.compile(r'#\[unsafe\(no_mangle\)\]\s*pub extern "C" fn (\w+)\(([^)]*)\)(?: -> (\w+))?')
 NUMBER = re.compile(r"^pub const (\w+): u32 = (\d+);", re.M)

@@ -32,6 +32,7 @@ class Trial:
         self.top, self.clients, self.room, self.failed = top, top / "clients" / "c", room, 0
         self.prefix = room / "installed"
         self.archive = self.prefix / "lib" / "libnvmesim.a"
+        self.sources = [self.clients / "tests" / f"{it}.c" for it in ("library", "needs", "hosts")]
 
     def check(self, what, problem):
         if problem:
@@ -89,7 +90,7 @@ class Trial:
         """The tests, compiled with these flags and run behind these words."""
         program = self.room / "tests"
         problem = self.compiled(["cc", *STRICT, "-g", *flags, f"-I{self.prefix}/include",
-                                 self.clients / "tests/library.c", self.archive, "-o", program])
+                                 *self.sources, self.archive, "-o", program])
         if not problem:
             how = {"preexec_fn": lambda: resource.setrlimit(resource.RLIMIT_AS, (MOST, MOST))} if limit else {}
             status, text = self.run([*before, program, str(count)], **how)
@@ -117,7 +118,7 @@ class Trial:
         folder, program = self.room / "unproved", self.room / "unproved-tests"
         try:
             unproved.build(self.top, folder)
-            problem = self.compiled(["cc", *STRICT, "-O1", f"-I{folder}/include", self.clients / "tests/library.c",
+            problem = self.compiled(["cc", *STRICT, "-O1", f"-I{folder}/include", *self.sources,
                                      folder / "lib/libnvmesim.a", "-o", program])
         except building.NotBuilt as error:
             problem = str(error)
