@@ -1,6 +1,6 @@
 /* Hostile hosts: random events, of hosts that write any bytes into their queues and any registers. It prints the lines
  * that nvmelive takes for these events to LINES, and what each gave as nvmelive answers to ANSWERS, so that both can be
- * compared: the same answers, and the same bytes in the image.
+ * compared: the same answers, and the same bytes in the image. None of the three files may exist.
  *
  *     cc hostile.c $(pkg-config --cflags --libs nvmesim) -o hostile && truncate -s 32K other.img
  *     ./hostile 1000000 1 one.img LINES ANSWERS && nvmelive other.img <LINES | cmp - ANSWERS && cmp one.img other.img
@@ -128,31 +128,44 @@ static void event(void) {
     }
 }
 
-/* A file of this size, which is mapped. */
+static void fail(const char *path) {
+    perror(path);
+    exit(1);
+}
+
+/* A new file of this size, which is mapped. */
 static uint8_t *mapped(const char *path) {
-    int file = open(path, O_RDWR | O_CREAT, 0600);
+    int file = open(path, O_RDWR | O_CREAT | O_EXCL, 0600);
     void *at = MAP_FAILED;
     if (file >= 0 && ftruncate(file, SIZE) == 0)
         at = mmap(NULL, SIZE, PROT_READ | PROT_WRITE, MAP_SHARED, file, 0);
-    if (at == MAP_FAILED) {
-        perror(path);
-        exit(1);
-    }
+    if (at == MAP_FAILED)
+        fail(path);
     close(file);
     return at;
+}
+
+/* A new file of lines. */
+static FILE *written(const char *path) {
+    FILE *file = fopen(path, "wx");
+    if (!file)
+        fail(path);
+    return file;
 }
 
 int main(int count, char **words) {
     nvmesim_controller controllers[HOSTS];
     nvmesim_attached attached[HOSTS];
     const nvmesim_namespace namespaces[] = {{BLOCKS, 1, true}};
-    if (count != 6 || !(lines = fopen(words[4], "w")) || !(answers = fopen(words[5], "w"))) {
+    if (count != 6) {
         fprintf(stderr, "usage: hostile EVENTS SEED IMAGE LINES ANSWERS\n");
         return 2;
     }
     long events = atol(words[1]);
     state = strtoull(words[2], NULL, 0) * 2 + 1;
     uint8_t *blocks = mapped(words[3]);
+    lines = written(words[4]);
+    answers = written(words[5]);
     for (uint16_t i = 0; i < HOSTS; i++) {
         controllers[i] = (nvmesim_controller){0xa1u + i, i, (uint16_t)(i + 1), true};
         attached[i] = (nvmesim_attached){1, (uint16_t)(i + 1)};

@@ -1,5 +1,5 @@
 /* A subsystem over a file of blocks, by mmap. A Write stands in the file at once; a Flush is followed by a sync, before
- * its completion is handed on.
+ * its completion is handed on. The file is locked as by nvmesim, nvmelive and nvmetcp; one of another size is refused.
  *
  *     cc image.c $(pkg-config --cflags --libs nvmesim) && ./a.out disk.img
  */
@@ -9,7 +9,9 @@
 #include <stdio.h>
 #include <stdlib.h>
 #include <string.h>
+#include <sys/file.h>
 #include <sys/mman.h>
+#include <sys/stat.h>
 #include <unistd.h>
 
 enum { BLOCKS = 64, SIZE = BLOCKS * 512 };
@@ -23,6 +25,21 @@ static uint32_t tails[2];
 static void fail(const char *what) {
     perror(what);
     exit(1);
+}
+
+/* Opens the file of the blocks, before it is read, and locks it until this program ends. A new file has zeros. */
+static int opened(const char *path) {
+    int file = open(path, O_RDWR | O_CREAT, 0600);
+    struct stat found;
+    if (file < 0 || flock(file, LOCK_EX | LOCK_NB) != 0 || fstat(file, &found) != 0)
+        fail(path);
+    if (found.st_size != 0 && found.st_size != SIZE) {
+        fprintf(stderr, "%s: it has not %d bytes\n", path, SIZE);
+        exit(1);
+    }
+    if (found.st_size == 0 && ftruncate(file, SIZE) != 0)
+        fail(path);
+    return file;
 }
 
 /* Submits a command to queue 0 or 1 of controller 1, and has it executed: the status, or -1. */
@@ -53,9 +70,7 @@ int main(int count, char **words) {
         fprintf(stderr, "usage: image FILE\n");
         return 2;
     }
-    int file = open(words[1], O_RDWR | O_CREAT, 0600);
-    if (file < 0 || ftruncate(file, SIZE) != 0)
-        fail(words[1]);
+    int file = opened(words[1]);
     blocks = mmap(NULL, SIZE, PROT_READ | PROT_WRITE, MAP_SHARED, file, 0);
     if (blocks == MAP_FAILED)
         fail("mmap");

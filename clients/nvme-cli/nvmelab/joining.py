@@ -18,6 +18,7 @@ from typing import Dict, List, Optional
 from nvmelab import server
 from nvmelab.configuration import LARGEST_MEDIUM, Configuration, judge_by, read_configuration
 from nvmelab.faults import LabFault
+from nvmelab.keeping import Keeping
 from nvmelab.subsystem import Subsystem
 
 PACKAGE = Path(__file__).resolve().parent.parent
@@ -58,20 +59,21 @@ class Lab:
     text: str
     program: List[str]
     image: Optional[str]
-    script: Optional[str]
+    keeping: Optional[Keeping]
     has_drivers: bool
     place: Path
 
     @classmethod
-    def of(cls, name: str, program: List[str], image: Optional[str], script: Optional[str], has_drivers: bool) -> "Lab":
+    def of(cls, name: str, program: List[str], image: Optional[str], keeping: Optional[Keeping],
+           has_drivers: bool) -> "Lab":
         path = Path(name).resolve()
         try:
             text = path.read_text("ascii", "surrogateescape")
         except OSError as fault:
             raise LabFault(f"{name} can't be read: {fault.strerror}") from fault
         digest = hashlib.sha256(str(path).encode("utf-8", "surrogateescape")).hexdigest()[:16]
-        return cls(name, text, program, image and str(Path(image).resolve()), script and str(Path(script).resolve()),
-                   has_drivers, base_folder() / digest)
+        return cls(name, text, program, image and str(Path(image).resolve()), keeping, has_drivers,
+                   base_folder() / digest)
 
     @property
     def folder(self) -> Path:
@@ -88,7 +90,8 @@ class Lab:
     @property
     def options(self) -> Dict[str, object]:
         """What a second lab of the same CONFIG must not say otherwise."""
-        return {"text": self.text, "image": self.image, "script": self.script, "drivers": self.has_drivers}
+        script = self.keeping and self.keeping.path
+        return {"text": self.text, "image": self.image, "script": script, "drivers": self.has_drivers}
 
     def join(self, host: str) -> Path:
         """Joins the lab as a host, with this process as one that uses it; it is started where it does not run. Gives
@@ -152,15 +155,18 @@ class Lab:
 
     def start(self) -> None:
         """Starts the server, in a session of its own, so that no key of a terminal reaches it."""
+        if self.keeping is not None:
+            self.keeping.check([self.name, *([self.image] if self.image else [])])
         shutil.rmtree(self.folder, ignore_errors=True)
         try:
             self.folder.mkdir(mode=0o700)
             configuration = self.read()
-            options = {**self.options, "configuration": configuration.packed(), "token": secrets.token_hex(8)}
+            options = {**self.options, "force": self.keeping is not None and self.keeping.is_forced,
+                       "configuration": configuration.packed(), "token": secrets.token_hex(8)}
             (self.folder / "options").write_text(json.dumps(options))
             image = self.image or self.make_image(configuration.image_bytes)
             words = [sys.executable, "-c", "from nvmelab.main import serve_here; serve_here()", str(self.folder),
-                     str(self.lock), self.name, image, self.script or "", *self.program]
+                     str(self.lock), self.name, image, *self.program]
             with open(self.log, "wb") as log:
                 started = subprocess.Popen(words, cwd="/", env=server_environment(), stdin=subprocess.DEVNULL,
                                           stdout=subprocess.PIPE, stderr=log, start_new_session=True)

@@ -10,6 +10,7 @@ from nvmelab import server
 from nvmelab.configuration import Configuration
 from nvmelab.faults import LabFault
 from nvmelab.joining import Lab
+from nvmelab.keeping import Keeping
 from nvmelab.library import library
 
 PACKAGE = Path(__file__).resolve().parent.parent
@@ -18,7 +19,7 @@ TOP = PACKAGE.parent.parent
 FAILED, NOT_RUN, NOT_FOUND = 125, 126, 127
 
 USAGE = """\
-lab [--host H] [--drivers] [--image IMAGE] [--script FILE] [--program PROGRAM] CONFIG [-- COMMAND ..]
+lab [--host H] [--drivers] [--image IMAGE] [--script FILE [--force]] [--program PROGRAM] CONFIG [-- COMMAND ..]
 lab --power-cycle CONFIG
 
 Runs COMMAND, or a shell, with the controllers and namespaces of CONFIG as /dev/nvme0, /dev/nvme0n1 and so on. CONFIG
@@ -29,7 +30,8 @@ the last of their COMMANDs.
 --drivers           have commands made by the proved drivers of the hosts, except where the line of CONFIG ends in `raw`;
                     without it all hosts are raw, and commands are as COMMAND makes them
 --image IMAGE       keep the blocks in this file, which must be long enough; without it they are gone after the lab
---script FILE       write everything that happens as a script, which nvmesim can run again
+--script FILE       write everything that happens as a script, which nvmesim can run again; a FILE that exists is
+                    refused, and with --force replaced, but for IMAGE and CONFIG
 --program PROGRAM   run this nvmelive, with the nvmesim beside it; without it ./nvmelive of this repository, which is
                     built on first use
 
@@ -50,6 +52,7 @@ class Words:
     script: Optional[str] = None
     program: str = ""
     has_drivers: bool = False
+    is_forced: bool = False
     is_power_cycle: bool = False
 
 
@@ -68,6 +71,8 @@ def take_apart(given: List[str]) -> Words:
             setattr(found, word[2:], value)
         elif word == "--drivers":
             found.has_drivers = True
+        elif word == "--force":
+            found.is_forced = True
         elif word == "--power-cycle":
             found.is_power_cycle = True
         elif word.startswith("-"):
@@ -151,7 +156,8 @@ def main(given: List[str]) -> NoReturn:
         if words.is_power_cycle:
             Lab.of(words.config, [], None, None, False).power_cycle()
             sys.exit(0)
-        lab = Lab.of(words.config, program_words(words.program), words.image, words.script, words.has_drivers)
+        keeping = Keeping(str(Path(words.script).resolve()), words.is_forced) if words.script else None
+        lab = Lab.of(words.config, program_words(words.program), words.image, keeping, words.has_drivers)
         preloaded = library(library_folder())
         view = lab.join(words.host)
     except LabFault as fault:
@@ -166,8 +172,9 @@ def main(given: List[str]) -> NoReturn:
 def serve_here() -> NoReturn:
     """The server's own process: what `Lab.start` names."""
     import json
-    folder, lock, name, image, script, *program = sys.argv[1:]
+    folder, lock, name, image, *program = sys.argv[1:]
     options = json.loads((Path(folder) / "options").read_text())
     read = Configuration.unpacked(options["configuration"])
     place = server.Place(Path(folder), Path(lock), options["token"])
-    sys.exit(server.serve(place, read, name, program, image, Path(script) if script else None))
+    keeping = Keeping(options["script"], options["force"]) if options["script"] else None
+    sys.exit(server.serve(place, read, name, program, image, keeping))

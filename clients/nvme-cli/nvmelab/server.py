@@ -22,6 +22,7 @@ from nvmelab.configuration import Configuration
 from nvmelab.driver_host import DriverHost
 from nvmelab.faults import Ended, LabFault
 from nvmelab.host import Host, NoQueue
+from nvmelab.keeping import Keeping
 from nvmelab.protocol import Malformed, Request
 from nvmelab.raw_host import RawHost
 from nvmelab.subsystem import Subsystem
@@ -294,7 +295,7 @@ def changes_devices(command: entries.Command) -> bool:
 
 
 def serve(place: Place, configuration: Configuration, name: str, program: List[str], image: str,
-          script: Optional[Path]) -> int:
+          keeping: Optional[Keeping]) -> int:
     """Runs a lab to its end. `ready`, or the fault, goes to standard output, which is closed then."""
     def tell(text: str) -> None:
         os.write(1, text.encode() + b"\n")
@@ -303,9 +304,9 @@ def serve(place: Place, configuration: Configuration, name: str, program: List[s
     signal.signal(signal.SIGTERM, lambda *_: sys.exit(0))
     subsystem = None
     try:
-        subsystem = Subsystem(program, image, open(script, "wb") if script else None)
+        subsystem = Subsystem(program, image)
         server = Server(place, configuration, subsystem)
-        subsystem.start(configuration, name)
+        subsystem.start(configuration, name, keeping)
         server.bring_up()
         server.open()
         tell("ready")

@@ -6,6 +6,7 @@ from typing import BinaryIO, List, Optional
 
 from nvmelab.configuration import Configuration
 from nvmelab.faults import Ended, LabFault
+from nvmelab.keeping import Keeping
 
 # A program that says nothing for so long is taken as hanging. Before its first answer it may have to be built.
 ANSWER_SECONDS = 60.0
@@ -15,8 +16,8 @@ PIECE = 1 << 20
 class Subsystem:
     """One run of the program, and the script of what was asked of it."""
 
-    def __init__(self, program: List[str], image: str, script: Optional[BinaryIO] = None) -> None:
-        self.script = script
+    def __init__(self, program: List[str], image: str) -> None:
+        self.script: Optional[BinaryIO] = None
         # What has come of an answer that is not whole yet.
         self.come = b""
         try:
@@ -26,26 +27,32 @@ class Subsystem:
         # Neither side ever waits for the other to take what it says.
         os.set_blocking(self.process.stdin.fileno(), False)
 
-    def start(self, configuration: Configuration, name: str) -> None:
-        """Describes the subsystem and starts it."""
+    def start(self, configuration: Configuration, name: str, keeping: Optional[Keeping] = None) -> None:
+        """Describes the subsystem and starts it. Where that fails no script is begun."""
         lines = [*configuration.handed, "start"]
         for line, answer in zip(lines, self.ask(lines, seconds=None)):
             if answer not in ("ok", "started"):
                 raise LabFault(f"{name}: `{line.strip()}` is answered `{answer}`")
+        if keeping is not None:
+            self.script = keeping.opened()
+            self.keep(lines)
 
     def ask(self, lines: List[str], seconds: Optional[float] = ANSWER_SECONDS) -> List[str]:
         """Hands lines in, all at once, and gives the answer of each."""
-        said = [line.encode("ascii", "surrogateescape") + b"\n" for line in lines]
-        if self.script is not None:
-            self.script.write(b"".join(it for it in said if not it.startswith(b"?")))
-            self.script.flush()
-        text = b"".join(said)
+        self.keep(lines)
+        text = encoded(lines)
         answers: List[str] = []
         while len(answers) < len(lines):
             text = self.move(text, seconds)
             *whole, self.come = self.come.split(b"\n")
             answers += [it.decode("ascii", "replace") for it in whole]
         return answers
+
+    def keep(self, lines: List[str]) -> None:
+        """Writes lines to the script, if there is one, without those that look."""
+        if self.script is not None:
+            self.script.write(encoded([it for it in lines if not it.startswith("?")]))
+            self.script.flush()
 
     def move(self, text: bytes, seconds: Optional[float]) -> bytes:
         """Waits until the program takes bytes or has some, and moves them; gives what is still to go to it."""
@@ -81,3 +88,8 @@ class Subsystem:
         except subprocess.TimeoutExpired:
             self.process.kill()
             self.process.wait()
+
+
+def encoded(lines: List[str]) -> bytes:
+    """Lines as the program reads them."""
+    return b"".join(line.encode("ascii", "surrogateescape") + b"\n" for line in lines)

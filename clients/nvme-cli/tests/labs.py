@@ -109,12 +109,41 @@ def images(bench: Bench) -> None:
                  "where the namespaces lie one after the other")
 
 
+def outputs(bench: Bench) -> None:
+    """A script replaces no file without --force, and never one that the lab reads; two labs don't write one script."""
+    config, image, kept, link, hard = (bench.place / it for it in ("its.nvme", "its.img", "kept.nvme", "link", "hard"))
+    config.write_text("controller 1 host 1\nnamespace 1 blocks 8 shared\nattached 1 1\n")
+    image.write_bytes(b"\1" * 4096)
+    kept.write_text("mine\n")
+    link.symlink_to(image)
+    os.link(config, hard)
+    before = {it: it.read_bytes() for it in (config, image, kept)}
+    expect_fault(bench, ["--script", str(kept)], f"{kept} exists; --force replaces it", config=config)
+    expect_fault(bench, ["--script", str(bench.place), "--force"], f"{bench.place} is no regular file, and is not written",
+                 config=config)
+    for script in (image, config, link, hard):
+        for force in ([], ["--force"]):
+            expect_fault(bench, ["--image", str(image), "--script", str(script), *force],
+                         f"{script.resolve()} is also read by this lab; nothing was written", config=config)
+    with open(image, "rb") as file:
+        fcntl.flock(file, fcntl.LOCK_EX)
+        for words in (["--script", str(kept), "--force"], ["--script", str(bench.place / "new.nvme")]):
+            expect_fault(bench, ["--image", str(image), *words], "is in use: ", whole=False, config=config)
+    check_is("what refused labs leave", {it: it.read_bytes() for it in before}, before)
+    check_is("whether a lab that fails leaves a script", (bench.place / "new.nvme").exists(), False)
+    script = ["--script", str(kept)]
+    with bench.held([*script, "--force"], config):
+        check_is("one that joins, by the same script", bench.run(["true"], script, config).status, 0)
+        expect_fault(bench, [*script, "--force"], f"{kept} is in use: another program has it locked")
+    check_is("the first line of a script that was replaced", kept.read_text().split("\n")[0], "controller 1 host 0x1 raw")
+
+
 def kept_and_run_again(bench: Bench, drivers: "list[str]") -> None:
     image, again, script = (bench.place / name for name in ("image", "again", "script.nvme"))
     for each in (image, again):
         with open(each, "wb") as file:
             file.truncate((2048 + 64) * 512)
-    options = [*drivers, "--image", str(image), "--script", str(script)]
+    options = [*drivers, "--image", str(image), "--script", str(script), "--force"]
     done = bench.run([bench.client, "hammer", "/dev/nvme0n1", "0", "3"], options)
     check_is(f"the end of a lab with an image, with {done.errors!r},", done.status, 0)
     bench.wait_over()
@@ -211,7 +240,7 @@ def power_cycles(bench: Bench) -> None:
         check_is("a power cycle with more words", cycled(*words), (125, said))
     script = bench.place / "script.nvme"
     for drivers in ([], ["--drivers"]):
-        with bench.held([*drivers, "--script", str(script)]):
+        with bench.held([*drivers, "--script", str(script), "--force"]):
             for _ in range(2):
                 check_is("a power cycle", cycled(str(CONFIG)), (0, ""))
                 bench.try_client("hammer", "/dev/nvme0n1", "0", "2")
@@ -295,5 +324,5 @@ def without_python(bench: Bench) -> None:
     expect_fault(without, [], "there is no python3: Python 3.9 or later is needed")
 
 
-TRIALS = (lasting, shells, images, kept_and_explored, disks, power_cycles, undisturbed, faults, without_compiler,
+TRIALS = (lasting, shells, images, outputs, kept_and_explored, disks, power_cycles, undisturbed, faults, without_compiler,
           without_python)

@@ -2,7 +2,6 @@
 //! thread notes the events, and those that write the files make lines of them.
 
 use crate::behind::{Behind, Piece};
-use crate::bytes::put_hex;
 use crate::configuration::Configuration;
 use crate::fault::{Fault, Outcome};
 use crate::kept::Kept;
@@ -51,7 +50,7 @@ enum Event {
     PowerCycle,
 }
 
-/// A line of a script with one stored byte, and one of a transcript, have no more bytes.
+/// A line has no more bytes, without the digits of those that were stored.
 const MOST_OF_LINE: usize = 64;
 /// How many events are known at most.
 const MOST_KNOWN: usize = 2048;
@@ -75,18 +74,21 @@ impl Event {
             Event::PowerCycle => (nvmesim::Event::PowerCycle, Answered::PowerCycled),
         }
     }
-
-    /// It with another number of bytes, if it has stored some.
-    fn storing(self, count: usize) -> Event {
-        match self {
-            Event::Stored { cntlid, address, .. } => Event::Stored { cntlid, address, count },
-            event => event,
-        }
-    }
 }
 
-/// The lines of events, a store with one byte, and what they give. Events come again and again, and to ask the library for
-/// each would take longer than the rest.
+/// Puts the line of an event, by the library.
+fn put_line(event: &nvmesim::Event<'_>, lines: &mut Output) -> Result<(), LineError> {
+    let stored = if let nvmesim::Event::Store { bytes, .. } = event { bytes.len() } else { 0 };
+    lines.fill(MOST_OF_LINE + 2 * stored, |room| event_line(event, room))
+}
+
+/// Puts the line of what an event gave, by the library.
+fn put_answer(event: &nvmesim::Event<'_>, answered: &Answered, gave: &mut Output) -> Result<(), LineError> {
+    gave.fill(MOST_OF_LINE, |room| answer_line(event, answered, room))
+}
+
+/// The lines of events that store nothing, and what they give. These come again and again, and to ask the library for each
+/// would take longer than the rest.
 #[derive(Default)]
 struct Known(HashMap<Event, [Output; 2], BuildHasherDefault<Quick>>);
 
@@ -137,21 +139,13 @@ impl Known {
     }
 }
 
-/// The texts of an event that has stored no more than one byte, by the library.
+/// The texts of an event that stores nothing.
 fn texts_of(event: Event) -> Result<[Output; 2], LineError> {
-    let (event, answered) = event.said(&[0]);
+    let (event, answered) = event.said(&[]);
     let mut texts = <[Output; 2]>::default();
-    texts[0].fill(MOST_OF_LINE, |room| event_line(&event, room))?;
-    texts[1].fill(MOST_OF_LINE, |room| answer_line(&event, &answered, room))?;
+    put_line(&event, &mut texts[0])?;
+    put_answer(&event, &answered, &mut texts[1])?;
     Ok(texts)
-}
-
-/// Puts the line of a store: that of one byte, with the digits of all in the place of that one's. The library makes digits
-/// too, and takes ten times as long for them.
-fn put_store(lines: &mut Output, line: &[u8], bytes: &[u8]) {
-    lines.put(&line[..line.len() - "00\n".len()]);
-    put_hex(lines.room(2 * bytes.len()), bytes);
-    lines.put(b"\n");
 }
 
 /// Events, and the bytes that were stored by them.
@@ -197,14 +191,15 @@ impl Piece for Events {
         [&mut *lines, &mut *gave].into_iter().for_each(|out| out.sent(out.len()));
         let mut stored = &self.stored[..];
         let put = self.list.iter().try_for_each(|event| {
-            let [line, given] = known.of(event.storing(1))?;
             if let Event::Stored { count, .. } = event {
                 let (bytes, others) = stored.split_at(*count);
-                put_store(lines, line.waiting(), bytes);
                 stored = others;
-            } else {
-                lines.put(line.waiting());
+                let (event, answered) = event.said(bytes);
+                put_line(&event, lines)?;
+                return put_answer(&event, &answered, gave);
             }
+            let [line, given] = known.of(*event)?;
+            lines.put(line.waiting());
             gave.put(given.waiting());
             Ok(())
         });
@@ -322,44 +317,68 @@ mod tests {
     use super::*;
     use nvmesim::Completion;
 
-    /// The lines of events, and what they gave, by the library alone.
-    fn wanted(list: &[Event], mut stored: &[u8]) -> [String; 2] {
-        let (mut texts, mut room) = (<[String; 2]>::default(), [0; 4096]);
-        for it in list {
-            let count = if let Event::Stored { count, .. } = it { *count } else { 0 };
-            let (event, answered) = it.said(&stored[..count]);
-            stored = &stored[count..];
-            let length = event_line(&event, &mut room).unwrap();
-            texts[0] += std::str::from_utf8(&room[..length]).unwrap();
-            let length = answer_line(&event, &answered, &mut room).unwrap();
-            texts[1] += std::str::from_utf8(&room[..length]).unwrap();
-        }
-        texts
+    /// An event, its line, and that of what it gave.
+    type Said = (Event, String, String);
+
+    fn said(event: Event, line: impl Into<String>, gave: impl Into<String>) -> Said {
+        (event, line.into(), gave.into())
+    }
+
+    /// Stores of bytes that count on from 0, and their lines.
+    fn stores() -> Vec<Said> {
+        let mut from = 0_usize;
+        let each = [(1, u64::MAX, 2), (u16::MAX, 4096, 1), (1, 0, 1300), (7, 64, 63), (7, 64, 64), (7, 64, 65)];
+        let store = |(cntlid, address, count)| {
+            let hex: String = (from..from + count).map(|byte| format!("{:02x}", byte as u8)).collect();
+            from += count;
+            let line = format!("store {cntlid} {address} hex:{hex}");
+            said(Event::Stored { cntlid, address, count }, line, format!("stored {cntlid}"))
+        };
+        each.map(store).into()
+    }
+
+    /// Events of each kind but stores, and more than are known at most.
+    fn others() -> Vec<Said> {
+        let most = u16::MAX;
+        let wrote = |cntlid, offset, value| Event::Wrote32 { cntlid, offset, value };
+        let fetch = |cntlid, qid, fetched| Event::Fetched { cntlid, qid, fetched };
+        let execute = |cntlid, i, executed| Event::Executed { cntlid, i, executed };
+        let posted = |sc, denied_by| Executed::Posted(Completion { sct: 1, sc, dw0: 0, denied_by });
+        let mut list = vec![
+            said(wrote(most, u64::MAX, u32::MAX), "write32 65535 18446744073709551615 4294967295", "wrote32 65535"),
+            said(wrote(most, 7, 9), "write32 65535 7 9", "wrote32 65535"),
+            said(fetch(2, most, Fetched::Took), "fetch 2 65535", "fetch 2 65535 took"),
+            said(fetch(10, 0, Fetched::Idle), "fetch 10 0", "fetch 10 0 idle"),
+            said(execute(1, 9, Executed::CqFull), "execute 1 9", "execute 1 9 full"),
+            said(execute(1, 10, Executed::NoSuch), "execute 1 10", "execute 1 10 none"),
+            said(
+                execute(most, 65535, posted(0x8f, Some(12))),
+                "execute 65535 65535",
+                "execute 65535 65535 posted 1:8f 12",
+            ),
+            said(Event::PowerCycle, "powercycle", "powercycle"),
+        ];
+        list.extend((0..99).map(|sc| {
+            said(execute(1, 0, posted(sc, None)), "execute 1 0", format!("execute 1 0 posted 1:{sc:02x} 0"))
+        }));
+        list.extend(
+            (0..2 * MOST_KNOWN as u64).map(|at| said(wrote(1, at, 1), format!("write32 1 {at} 1"), "wrote32 1")),
+        );
+        list
     }
 
     #[test]
     fn events_have_their_lines() {
-        let posted = |sc, rule| Executed::Posted(Completion { sct: 1, sc, dw0: 0, denied_by: rule });
-        let (stored, most) = ((0..=255).cycle().take(1303).collect::<Vec<u8>>(), u16::MAX);
-        let mut list = vec![
-            Event::Stored { cntlid: 1, address: u64::MAX, count: 2 },
-            Event::Stored { cntlid: most, address: 4096, count: 1 },
-            Event::Stored { cntlid: 1, address: 0, count: 1300 },
-            Event::Wrote32 { cntlid: most, offset: u64::MAX, value: u32::MAX },
-            Event::Wrote32 { cntlid: most, offset: 7, value: 9 },
-            Event::Fetched { cntlid: 2, qid: most, fetched: Fetched::Took },
-            Event::Fetched { cntlid: 10, qid: 0, fetched: Fetched::Idle },
-            Event::Executed { cntlid: 1, i: 9, executed: Executed::CqFull },
-            Event::Executed { cntlid: 1, i: 10, executed: Executed::NoSuch },
-            Event::Executed { cntlid: most, i: 65535, executed: posted(0x8f, Some(12)) },
-            Event::PowerCycle,
-        ];
-        list.extend((0..99).map(|sc| Event::Executed { cntlid: 1, i: 0, executed: posted(sc, None) }));
-        list.extend((0..2 * MOST_KNOWN as u64).map(|offset| Event::Wrote32 { cntlid: 1, offset, value: 1 }));
+        let (mut list, mut lines, mut gave) = (Vec::new(), String::new(), String::new());
+        for (event, line, answer) in stores().into_iter().chain(others()) {
+            list.push(event);
+            lines += &(line + "\n");
+            gave += &(answer + "\n");
+        }
+        let stored: Vec<u8> = (0..=255).cycle().take(1495).collect();
         let mut made = Lines::default();
         for _ in 0..2 {
             Events { list: list.clone(), stored: stored.clone() }.make(&mut made);
-            let [lines, gave] = wanted(&list, &stored);
             assert_eq!((made.lines().unwrap(), made.gave()), (lines.as_bytes(), gave.as_bytes()));
         }
         assert!(made.known.0.len() <= MOST_KNOWN);

@@ -96,10 +96,12 @@ class Addresses(unittest.TestCase):
         with tempfile.TemporaryDirectory() as room:
             config = Path(room, "config.nvme")
             config.write_text(TWO_HOSTS)
-            words = [PROGRAM, "--listen", "127.0.0.1:0", "--listen", f"127.0.0.1:{place[1]}", str(config)]
-            ran = subprocess.run(words, stdout=subprocess.PIPE, stderr=subprocess.PIPE, text=True, timeout=10)
-        self.assertEqual((ran.returncode, ran.stdout), (2, ""))
-        self.assertIn(f"nvmetcp: 127.0.0.1:{place[1]}: ", ran.stderr)
+            taken, free = ["--listen", f"127.0.0.1:{place[1]}"], ["--listen", "127.0.0.1:0"]
+            for words in (taken + free, free + taken):
+                ran = subprocess.run([PROGRAM, *words, str(config)], stdout=subprocess.PIPE, stderr=subprocess.PIPE,
+                                     text=True, timeout=10)
+                self.assertEqual((ran.returncode, ran.stdout), (2, ""))
+                self.assertIn(f"nvmetcp: 127.0.0.1:{place[1]}: ", ran.stderr)
 
     def test_no_descriptors(self) -> None:
         """It says so once, waits without work, and goes on when there are some."""

@@ -87,7 +87,7 @@ class Session:
 
     def ask_all(self, lines: Sequence[str]) -> List[str]:
         """The answers of several lines, which are sent ahead of them. Raises as `ask` does, for the first fault."""
-        if isinstance(lines, str):
+        if isinstance(lines, (str, bytes)) or not isinstance(lines, Sequence):
             raise ArgumentError(f"lines is a list of texts, and not {shown(lines)}")
         answers = self._process.exchange(lines)
         for line, answer in zip(lines, answers):

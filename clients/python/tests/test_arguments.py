@@ -88,6 +88,8 @@ class ArgumentTest(unittest.TestCase):
                     "line describes the subsystem": lambda: s.session.configure(" "),
                     "script is a text": lambda: s.session.run(b"start"),  # type: ignore[arg-type]
                     "lines is a list of texts, and not 'up 1'": lambda: s.session.ask_all("up 1"),
+                    "lines is a list of texts, and not None": lambda: s.session.ask_all(None),  # type: ignore[arg-type]
+                    "lines is a list of texts, and not b''": lambda: s.session.ask_all(b""),  # type: ignore[arg-type]
                     "a looking line begins with '?', and 'up 1' does not": lambda: s.session.look("up 1"),
                 })
                 self.assertEqual(list(s.hosts), [1])

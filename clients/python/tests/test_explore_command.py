@@ -158,6 +158,14 @@ class CommandTest(FolderCase):
         self.assertEqual(text.count("here it parts from the other order, where execute 1 0 comes next") // 2, 1)
         self.assertNotRegex(text, r"<link|<img|@import|src=|url\((?!#)")
 
+    def test_a_page_counts_in_one_form(self) -> None:
+        """How many orders there are has the same digits in the report and everywhere in the page."""
+        script, page = self.folder / "many.nvme", self.folder / "page.html"
+        script.write_text(HEAD + "# host a\n" + "ring 1\n" * 7 + "# host b\n" + "ring 2\n" * 7, encoding="utf-8")
+        _, told, _ = self.explored(str(script), "--page", str(page))
+        for text, times in (told, 2), (page.read_text(encoding="utf-8"), 3):
+            self.assertEqual(re.findall(r"\b3,?432\b", text), ["3432"] * times)
+
     def test_the_red_reasons_of_a_page_are_whole(self) -> None:
         """They are not cut short, lie within their pictures by bold letters of 8 pixels, and these within the page."""
         page = self.folder / "page.html"

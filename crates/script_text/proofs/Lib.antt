@@ -4,6 +4,7 @@ mod FillLemmas
 pub mod FrontLemmas
 pub mod HexNumberLemmas
 mod HexTextLemmas
+mod LaneLemmas
 mod LineLemmas
 pub mod LineLengths
 pub mod OnLiterals

@@ -1,4 +1,5 @@
 """Tests the library for C as it stands in a folder, as a program of C that uses it would."""
+import fcntl
 import os
 import resource
 import shutil
@@ -76,6 +77,21 @@ class Trial:
             wanted = (self.clients / "examples" / f"{name}.out").read_text(encoding="utf-8")
             problem = (status or text != wanted) and f"status {status}, printed\n{text}"
         self.check(f"the example {name}", problem)
+
+    def images(self):
+        """The example with an image replaces no other file's bytes, and takes none that another program has locked."""
+        other, held = self.room / "other.img", self.room / "held.img"
+        other.write_bytes(b"other" * 20000)
+        held.write_bytes(bytes(32768))
+        problems = []
+        with open(held, "rb") as file:
+            fcntl.flock(file, fcntl.LOCK_EX)
+            for path, said in (other, "it has not 32768 bytes"), (held, "Resource temporarily unavailable"):
+                before = path.read_bytes()
+                status, text = self.run([self.room / "image", path])
+                if status != 1 or text != f"{path}: {said}\n" or path.read_bytes() != before:
+                    problems.append(f"status {status}, printed\n{text}")
+        self.check("files that are no image of the example", "\n".join(problems))
 
     def flags(self):
         """How a program finds the library: by pkg-config where that is installed."""
@@ -199,6 +215,7 @@ def run(top, room):
     flags = trial.flags()
     trial.example("two_hosts", flags)
     trial.example("image", [f"-I{trial.prefix}/include", trial.archive], [trial.room / "disk.img"])
+    trial.images()
     (trial.room / "header.cc").write_text('#include "nvmesim.h"\n', encoding="utf-8")
     trial.check("the header in C++", trial.compiled(
         ["c++", "-std=c++11", *STRICT[1:], f"-I{trial.prefix}/include", "-c", "header.cc", "-o", "header.o"]))

@@ -1,23 +1,24 @@
-use Rattle.std.proofs.Common.{arith, ◌*◌, ◌+◌, ◌<◌, length, ◌∙◌, ap, slice_index, slice_set}
-use Rattle.std.proofs.lemmas.List.{get_or-map, length-set}
-use Rattle.script_text.specs.HexText.{high_digit, low_digit}
-use Rattle.script_text.proofs.HexTextLemmas.{encode-step, encode-done}
+use Rattle.std.proofs.Common.{◌++◌, refl}
+use Rattle.std.specs.Simd.Lanes.{pick_l}
+use Rattle.script_text.proofs.LaneLemmas.{lanes, lanes-long, pairs-woven, vector-encoded, vector-length, vectors-done, weave}
 use Rattle.script_text.proofs.hex_text.encode.Goals as goal
 
-pub loop-i-preserved : goal.loop-i-preserved
-loop-i-preserved c =
+pub loop-k-preserved : goal.loop-k-preserved
+loop-k-preserved c =
     let bytes = c.args.bytes.now in
-    let i = c.loop-i.i in
-    let high = slice_index c.high_digits-high.result i in
-    let low = slice_index c.low_digits-low.result i in
-    let below : i < length bytes = omega (arith, c.told-bytes, c.loop-i-test.true) in
+    let digits = c.loop-k.digits in
+    let k = c.loop-k.k in
+    let fewer = c.loop-k-test.true in
+    let told = c.told-bytes in
+    let size = c.loop-k.invariant.size in
+    let both = c.high_digits.result ++ c.low_digits.result in
+    let front = pick_l 0 both (weave 0 32 16) in
+    let back = pick_l 0 both (weave 16 48 16) in
+    let pairs = pairs-woven 32 (lanes bytes k) c.high_digits.result c.low_digits.result (lanes-long bytes k fewer told) c.high_digits.ensures c.low_digits.ensures in
     record {
-      size = length-set (slice_set c.loop-i.digits (2 * i) high) (2 * i + 1) low ∙ length-set c.loop-i.digits (2 * i) high ∙ c.loop-i.invariant.size;
-      encoded = encode-step bytes c.loop-i.digits i high low below (omega (arith, c.loop-i.invariant.size, c.loop-i-test.true))
-          (ap (λ t. slice_index t i) c.high_digits-high.ensures ∙ get_or-map high_digit bytes i 0 0 below)
-          (ap (λ t. slice_index t i) c.low_digits-low.ensures ∙ get_or-map low_digit bytes i 0 0 below) c.loop-i.invariant.encoded;
+      size = vector-length bytes k fewer told digits front back size refl refl;
+      encoded = vector-encoded bytes k fewer told digits front back size refl refl pairs c.loop-k.invariant.encoded;
     }
 
 pub returns : goal.returns
-returns c =
-    encode-done c.args.bytes.now c.loop-i.digits c.loop-i.i (omega arith) (omega (arith, c.loop-i.invariant.size, c.told-bytes)) c.loop-i.invariant.encoded
+returns c = vectors-done c.args.bytes.now c.loop-k.digits c.loop-k.k c.loop-k-test.false c.told-bytes c.loop-k.invariant.size c.loop-k.invariant.encoded

@@ -3,8 +3,8 @@ use Rattle.std.specs.List.{flat_map}
 use Rattle.script_text.specs.HexText.{hex_pair}
 use Rattle.script_text.proofs.hex_text.encode.Given as goal
 
-abbrev pub invariant-loop-i : goal.invariant-loop-i
-invariant-loop-i l = record {
+abbrev pub invariant-loop-k : goal.invariant-loop-k
+invariant-loop-k l = record {
   size : length l.digits ≡ 256;
-  encoded : take (2 * l.i) l.digits ++ flat_map hex_pair (drop l.i l.bytes) ≡ flat_map hex_pair l.bytes;
+  encoded : take (64 * l.k) l.digits ++ flat_map hex_pair (drop (32 * l.k) l.bytes) ≡ flat_map hex_pair l.bytes;
 }

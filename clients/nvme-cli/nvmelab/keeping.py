@@ -1,0 +1,62 @@
+"""The file of a kept script: never one that the lab reads, and none that is there unless --force replaces it."""
+import fcntl
+import os
+import stat
+from dataclasses import dataclass
+from typing import BinaryIO, List, Optional
+
+from nvmelab.faults import LabFault
+
+
+@dataclass(frozen=True)
+class Keeping:
+    """A script that is to be kept, by its whole path."""
+    path: str
+    is_forced: bool
+
+    def check(self, inputs: List[str]) -> None:
+        """Refuses a file that must not be replaced: one of the lab's inputs, no regular file, or any without --force."""
+        found = self.status()
+        if found is None:
+            return
+        if any(os.path.exists(it) and os.path.samefile(it, self.path) for it in inputs):
+            raise LabFault(f"{self.path} is also read by this lab; nothing was written")
+        if is_stream(found):
+            return
+        if not stat.S_ISREG(found.st_mode):
+            raise LabFault(f"{self.path} is no regular file, and is not written")
+        if not self.is_forced:
+            raise LabFault(f"{self.path} exists; --force replaces it")
+
+    def status(self) -> Optional[os.stat_result]:
+        """What is at the path, links followed; None if nothing is."""
+        try:
+            return os.stat(self.path)
+        except FileNotFoundError:
+            return None
+        except OSError as fault:
+            raise self.unwritten(fault) from fault
+
+    def unwritten(self, fault: OSError) -> LabFault:
+        return LabFault(f"{self.path} can't be written: {fault.strerror}")
+
+    def opened(self) -> BinaryIO:
+        """Opens the script, with no bytes in it. No other lab writes it meanwhile."""
+        found = self.status()
+        is_new = not self.is_forced and (found is None or not is_stream(found))
+        try:
+            flags = os.O_WRONLY | os.O_CREAT | os.O_CLOEXEC | (os.O_EXCL if is_new else 0)
+            script = open(os.open(self.path, flags, 0o666), "wb")
+            if not is_stream(os.fstat(script.fileno())):
+                fcntl.flock(script, fcntl.LOCK_EX | fcntl.LOCK_NB)
+                script.truncate()
+            return script
+        except BlockingIOError as fault:
+            raise LabFault(f"{self.path} is in use: another program has it locked") from fault
+        except OSError as fault:
+            raise self.unwritten(fault) from fault
+
+
+def is_stream(found: os.stat_result) -> bool:
+    """Whether bytes sent there replace nothing: a pipe, a terminal, /dev/null."""
+    return stat.S_ISFIFO(found.st_mode) or stat.S_ISCHR(found.st_mode)
