@@ -1,0 +1,18 @@
+//! Runs of the theorems about fencing.
+
+ghost use Rattle.nvme_theorem_runs.specs.Fencing.{FencingAtWork, FencingOfAnyHost, FencingOnAnyLayout, FencingOverAnyRun};
+
+/// FencingHolds: a host that may not write namespace 1 sends a write to each namespace. The first is denied.
+#[tactic(auto, using(crate::proofs::FencingRuns::fencing_at_work))]
+fn fencing_holds()
+    ensures { FencingAtWork }
+{}
+
+/// FencingHolds needs its premises: a host that may register preempts the holder and writes; the holder writes; a
+/// namespace on the same block is written.
+#[tactic(auto, using(crate::proofs::FencingRuns::fencing_needs_the_reservation, crate::proofs::FencingRuns::fencing_needs_the_host, crate::proofs::FencingRuns::fencing_needs_the_layout))]
+fn fencing_needs()
+    ensures run { FencingOverAnyRun → ⊥ }
+    ensures host { FencingOfAnyHost → ⊥ }
+    ensures layout { FencingOnAnyLayout → ⊥ }
+{}
