@@ -7,7 +7,6 @@ use Rattle.nvme_spec.specs.declared.command.Command.{Command}
 use Rattle.nvme_spec.specs.declared.verdict.Verdict.{Verdict}
 use Rattle.nvme_spec.specs.declared.verdict.Verdict.TheVariants.{Allowed, Denied}
 use Rattle.nvme_spec.specs.Commands.{is_one_of, reserving}
-use Rattle.nvme_spec.specs.ExecutionLaws.{IsAllowed}
 use Rattle.nvme_spec.specs.IoData.{io_verdict}
 use Rattle.nvme_spec.specs.Layout.{IsLaidOut, reservation_of}
 use Rattle.nvme_spec.specs.Reservation.{Reservation}
@@ -44,9 +43,9 @@ allowed-not : (commands : List Command) (s : Subsystem) (k i n : ℕ) → contro
 allowed-not commands s k i n e x =
     let here : controller_allows commands s.world k i n (Some x.controller) ≡ false = subst (λ o. controller_allows commands s.world k i n o ≡ false) x.at e in
     let one : command_allows commands s.world k x.controller.window n (Some x.command) ≡ false =
-        subst (λ o. command_allows commands s.world k x.controller.window n o ≡ false) x.found here in
+    subst (λ o. command_allows commands s.world k x.controller.window n o ≡ false) x.found here in
     let named : passes commands (io_verdict s.world k x.command.entry x.command.marked x.controller.window) ≡ false =
-        subst (λ b. (b && passes commands (io_verdict s.world k x.command.entry x.command.marked x.controller.window)) ≡ false) x.named one in
+    subst (λ b. (b && passes commands (io_verdict s.world k x.command.entry x.command.marked x.controller.window)) ≡ false) x.named one in
     let passed : passes commands (Allowed x.allowed.plan) ≡ false = subst (λ v. passes commands v ≡ false) x.allowed.allowed named in
     let is : is_one_of (Some x.allowed.plan.kind) commands ≡ true = x.allowed.is_one in
     absurd (cc)

@@ -1,64 +1,45 @@
 -- The example runs of fencing, computed.
-use Rattle.std.proofs.Common.{◌≡◌, ℕ, ◌==◌, Bool, true, false, List, [], ◌∷◌, None, Some, inl, refl, subst}
+use Rattle.std.proofs.Common.{◌≡◌, ℕ, true, false, List, [], ◌∷◌, inl, refl, subst}
 use Rattle.std.specs.Prelude.{replicate}
 use Rattle.std.specs.List.{AllByRecursion}
-use Rattle.nvme_spec.specs.Commands.{action, block_count, command_of, cptpl, iekey, rtype, starting_lba}
-use Rattle.nvme_spec.specs.DataRules.{data_addresses, pointer_rule}
-use Rattle.nvme_spec.specs.Entries.{command_entry, transfer_entry}
-use Rattle.nvme_spec.specs.FaultFree.{fault_free_execution}
-use Rattle.nvme_spec.specs.FaultFreeCalls.{command_calls}
-use Rattle.nvme_spec.specs.IoData.{action_outcome, action_rule, io_judgement, reservation_outcome}
-use Rattle.nvme_spec.specs.IoRules.{attachment_rule, field_rule, form_rule, mark_rule, nsid_rule, opcode_rule, protection_rule, range_rule, reservation_rule}
-use Rattle.nvme_spec.specs.Layout.{extent_of, may_read, may_write, reservation_of}
-use Rattle.nvme_spec.specs.Memory.{qword}
-use Rattle.nvme_spec.specs.Pointer.{fault_of, first_fault}
-use Rattle.nvme_spec.specs.Power.{cycled_world}
-use Rattle.nvme_spec.specs.Registers.{after_write, configured, doorbell, prepared, value_at}
-use Rattle.nvme_spec.specs.Rules.{judgement_by}
-use Rattle.nvme_spec.specs.Transfers.{addresses, with_scattered}
-use Rattle.nvme_spec.specs.World.{host_of, is_attached, namespace_of, opening_world}
-use Rattle.nvme_wire.specs.Completion.{completion_entry}
-use Rattle.nvme_wire.specs.Submission.{cdw10, cdw11, cdw12, cid, fuse, nsid, opcode, prp1, prp2, psdt}
-use Rattle.nvme_machine.specs.Controllers.{after_fetch, after_posting, after_queue_change, after_store, after_write32, fetchable, open_pair, taking_effect}
-use Rattle.nvme_machine.specs.FaultFree.{fault_free_command_execution}
-use Rattle.nvme_machine.specs.Subsystems.{after_completion, after_execution, after_power_cycle, controller_at, with_controller}
 use Rattle.nvme_machine.specs.declared.event.Event.{Event}
 use Rattle.nvme_machine.specs.declared.event.Event.TheVariants.{Execute}
 use Rattle.nvme_machine.specs.declared.seen.Executed.TheVariants.{Posted}
 use Rattle.nvme_machine.specs.declared.seen.Seen.TheVariants.{Executed}
-use Rattle.nvme_machine.specs.CommandExecutions.{CommandComesTo}
 use Rattle.nvme_machine.specs.Controllers.{queues_of}
-use Rattle.nvme_machine.specs.FaultFree.{fault_free_left, fault_free_seen}
+use Rattle.nvme_machine.specs.FaultFree.{fault_free_command_execution, fault_free_left, fault_free_seen}
 use Rattle.nvme_machine.specs.Fencing.{LeavesReservation, RunWhere, namespace_bytes}
 use Rattle.nvme_machine.specs.Subsystems.{Subsystem, OfItsController, Step, scene_of}
+use Rattle.nvme_spec.specs.Layout.{may_write}
 use Rattle.nvme_machine.proofs.Fencing.{fencing_holds}
-use Rattle.nvme_theorem_runs.specs.Cluster.{cluster, held_by_a1, done, zeroes, register, acquire, stores_keys, overlapping, blocks, ready, zeros}
+use Rattle.nvme_theorem_runs.specs.Cluster.{cluster, held_by_a1, done, zeroes, register, acquire, stores_keys, overlapping, ready, zeros}
 use Rattle.nvme_theorem_runs.specs.Fencing.{FencingAtWork, FencingOfAnyHost, FencingOnAnyLayout, FencingOverAnyRun, fenced, fenced_events, fenced_seen, after_fenced}
 use Rattle.nvme_theorem_runs.proofs.Computing.{all_along, leaves, leaving, run-where, plain-run, first_of, apart, no-host}
+use Rattle.nvme_theorem_runs.proofs.Unfolding.{computing}
 use Rattle.nvme_theorem_runs.proofs.Laying.{laid}
 
 -- The run at work.
 
 fenced-leaves : all_along (leaves 1) fenced fenced_events ≡ true
-unfolding action block_count command_of cptpl iekey rtype starting_lba data_addresses pointer_rule command_entry transfer_entry fault_free_execution command_calls action_outcome action_rule io_judgement reservation_outcome attachment_rule field_rule form_rule mark_rule nsid_rule opcode_rule protection_rule range_rule reservation_rule extent_of may_read may_write reservation_of qword fault_of first_fault cycled_world after_write configured doorbell prepared value_at judgement_by addresses with_scattered host_of is_attached namespace_of opening_world completion_entry cdw10 cdw11 cdw12 cid fuse nsid opcode prp1 prp2 psdt after_fetch after_posting after_queue_change after_store after_write32 fetchable open_pair taking_effect fault_free_command_execution after_completion after_execution after_power_cycle controller_at with_controller cluster fenced_events
+unfolding computing fenced_events
 fenced-leaves = refl
 
 seen-so : fault_free_seen fenced fenced_events ≡ fenced_seen
-unfolding action block_count command_of cptpl iekey rtype starting_lba data_addresses pointer_rule command_entry transfer_entry fault_free_execution command_calls action_outcome action_rule io_judgement reservation_outcome attachment_rule field_rule form_rule mark_rule nsid_rule opcode_rule protection_rule range_rule reservation_rule extent_of may_read may_write reservation_of qword fault_of first_fault cycled_world after_write configured doorbell prepared value_at judgement_by addresses with_scattered host_of is_attached namespace_of opening_world completion_entry cdw10 cdw11 cdw12 cid fuse nsid opcode prp1 prp2 psdt after_fetch after_posting after_queue_change after_store after_write32 fetchable open_pair taking_effect fault_free_command_execution after_completion after_execution after_power_cycle controller_at with_controller cluster fenced_events fenced_seen
+unfolding computing fenced_events fenced_seen
 seen-so = refl
 
 fenced-host : AllByRecursion (OfItsController (λ k. may_write fenced.world k 1 ≡ false)) fenced_events
-unfolding action block_count command_of cptpl iekey rtype starting_lba data_addresses pointer_rule command_entry transfer_entry fault_free_execution command_calls action_outcome action_rule io_judgement reservation_outcome attachment_rule field_rule form_rule mark_rule nsid_rule opcode_rule protection_rule range_rule reservation_rule extent_of may_read may_write reservation_of qword fault_of first_fault cycled_world after_write configured doorbell prepared value_at judgement_by addresses with_scattered host_of is_attached namespace_of opening_world completion_entry cdw10 cdw11 cdw12 cid fuse nsid opcode prp1 prp2 psdt after_fetch after_posting after_queue_change after_store after_write32 fetchable open_pair taking_effect fault_free_command_execution after_completion after_execution after_power_cycle controller_at with_controller cluster fenced_events
+unfolding computing fenced_events
 fenced-host = no-host (λ k. may_write fenced.world k 1) fenced_events refl
 
 bytes-so : (namespace_bytes fenced 1 ≡ replicate 512 1) × (namespace_bytes after_fenced 1 ≡ replicate 512 1) × (namespace_bytes fenced 2 ≡ replicate 512 2) × (namespace_bytes after_fenced 2 ≡ replicate 512 0)
-unfolding action block_count command_of cptpl iekey rtype starting_lba data_addresses pointer_rule command_entry transfer_entry fault_free_execution command_calls action_outcome action_rule io_judgement reservation_outcome attachment_rule field_rule form_rule mark_rule nsid_rule opcode_rule protection_rule range_rule reservation_rule extent_of may_read may_write reservation_of qword fault_of first_fault cycled_world after_write configured doorbell prepared value_at judgement_by addresses with_scattered host_of is_attached namespace_of opening_world completion_entry cdw10 cdw11 cdw12 cid fuse nsid opcode prp1 prp2 psdt after_fetch after_posting after_queue_change after_store after_write32 fetchable open_pair taking_effect fault_free_command_execution after_completion after_execution after_power_cycle controller_at with_controller cluster fenced_events
+unfolding computing fenced_events
 bytes-so = (refl, refl, refl, refl)
 
 pub fencing_at_work : FencingAtWork
 fencing_at_work =
     let run = subst (λ seen. RunWhere (LeavesReservation 1) fenced fenced_events seen after_fenced) seen-so
-        (run-where (leaves 1) (LeavesReservation 1) (leaving 1) fenced fenced_events (laid (held_by_a1 1) [] []) fenced-leaves) in
+    (run-where (leaves 1) (LeavesReservation 1) (leaving 1) fenced fenced_events (laid (held_by_a1 1) [] []) fenced-leaves) in
     record {
       laid = laid (held_by_a1 1) [] [];
       run = run;
@@ -79,18 +60,18 @@ abbrev hostile : Subsystem
 hostile = cluster (held_by_a1 1) [] (register ∷ acquire 1 ∷ zeroes 1 ∷ [])
 
 hostile-host : AllByRecursion (OfItsController (λ k. may_write hostile.world k 1 ≡ false)) hostile_events
-unfolding action block_count command_of cptpl iekey rtype starting_lba data_addresses pointer_rule command_entry transfer_entry fault_free_execution command_calls action_outcome action_rule io_judgement reservation_outcome attachment_rule field_rule form_rule mark_rule nsid_rule opcode_rule protection_rule range_rule reservation_rule extent_of may_read may_write reservation_of qword fault_of first_fault cycled_world after_write configured doorbell prepared value_at judgement_by addresses with_scattered host_of is_attached namespace_of opening_world completion_entry cdw10 cdw11 cdw12 cid fuse nsid opcode prp1 prp2 psdt after_fetch after_posting after_queue_change after_store after_write32 fetchable open_pair taking_effect fault_free_command_execution after_completion after_execution after_power_cycle controller_at with_controller cluster hostile_events
+unfolding computing hostile_events
 hostile-host = no-host (λ k. may_write hostile.world k 1) hostile_events refl
 
 hostile-bytes : (first_of (namespace_bytes hostile 1) ≡ 1) × (first_of (namespace_bytes (fault_free_left hostile hostile_events) 1) ≡ 0)
-unfolding action block_count command_of cptpl iekey rtype starting_lba data_addresses pointer_rule command_entry transfer_entry fault_free_execution command_calls action_outcome action_rule io_judgement reservation_outcome attachment_rule field_rule form_rule mark_rule nsid_rule opcode_rule protection_rule range_rule reservation_rule extent_of may_read may_write reservation_of qword fault_of first_fault cycled_world after_write configured doorbell prepared value_at judgement_by addresses with_scattered host_of is_attached namespace_of opening_world completion_entry cdw10 cdw11 cdw12 cid fuse nsid opcode prp1 prp2 psdt after_fetch after_posting after_queue_change after_store after_write32 fetchable open_pair taking_effect fault_free_command_execution after_completion after_execution after_power_cycle controller_at with_controller cluster hostile_events
+unfolding computing hostile_events
 hostile-bytes = (refl, refl)
 
 pub fencing_needs_the_reservation : FencingOverAnyRun → ⊥
 fencing_needs_the_reservation law =
     let on = laid (held_by_a1 1) [] (register ∷ acquire 1 ∷ zeroes 1 ∷ []) in
     let same = law hostile (fault_free_left hostile hostile_events) hostile_events (fault_free_seen hostile hostile_events) 1 on
-        (plain-run hostile hostile_events on) hostile-host in
+    (plain-run hostile hostile_events on) hostile-host in
     apart _ _ hostile-bytes.1 hostile-bytes.0 same
 
 -- The holder writes.
@@ -102,18 +83,18 @@ unfoldable one_execution : ℕ → List Event
 one_execution k = Execute k 0 ∷ []
 
 holding-leaves : all_along (leaves 1) holding (one_execution 1) ≡ true
-unfolding action block_count command_of cptpl iekey rtype starting_lba data_addresses pointer_rule command_entry transfer_entry fault_free_execution command_calls action_outcome action_rule io_judgement reservation_outcome attachment_rule field_rule form_rule mark_rule nsid_rule opcode_rule protection_rule range_rule reservation_rule extent_of may_read may_write reservation_of qword fault_of first_fault cycled_world after_write configured doorbell prepared value_at judgement_by addresses with_scattered host_of is_attached namespace_of opening_world completion_entry cdw10 cdw11 cdw12 cid fuse nsid opcode prp1 prp2 psdt after_fetch after_posting after_queue_change after_store after_write32 fetchable open_pair taking_effect fault_free_command_execution after_completion after_execution after_power_cycle controller_at with_controller cluster one_execution
+unfolding computing one_execution
 holding-leaves = refl
 
 holding-bytes : (first_of (namespace_bytes holding 1) ≡ 1) × (first_of (namespace_bytes (fault_free_left holding (one_execution 1)) 1) ≡ 0)
-unfolding action block_count command_of cptpl iekey rtype starting_lba data_addresses pointer_rule command_entry transfer_entry fault_free_execution command_calls action_outcome action_rule io_judgement reservation_outcome attachment_rule field_rule form_rule mark_rule nsid_rule opcode_rule protection_rule range_rule reservation_rule extent_of may_read may_write reservation_of qword fault_of first_fault cycled_world after_write configured doorbell prepared value_at judgement_by addresses with_scattered host_of is_attached namespace_of opening_world completion_entry cdw10 cdw11 cdw12 cid fuse nsid opcode prp1 prp2 psdt after_fetch after_posting after_queue_change after_store after_write32 fetchable open_pair taking_effect fault_free_command_execution after_completion after_execution after_power_cycle controller_at with_controller cluster one_execution
+unfolding computing one_execution
 holding-bytes = (refl, refl)
 
 pub fencing_needs_the_host : FencingOfAnyHost → ⊥
 fencing_needs_the_host law =
     let on = laid (held_by_a1 1) (zeroes 1 ∷ []) [] in
     let same = law holding (fault_free_left holding (one_execution 1)) (one_execution 1) (fault_free_seen holding (one_execution 1)) 1 on
-        (run-where (leaves 1) _ (leaving 1) holding (one_execution 1) on holding-leaves) in
+    (run-where (leaves 1) _ (leaving 1) holding (one_execution 1) on holding-leaves) in
     apart _ _ holding-bytes.1 holding-bytes.0 same
 
 -- A namespace is written that is on the same block.
@@ -125,31 +106,34 @@ abbrev lapped : Subsystem
 lapped = fault_free_left lapping (one_execution 2)
 
 lapping-step : Step true lapping (Execute 2 0) (Executed (Posted done)) lapped
-unfolding CommandComesTo action block_count command_of cptpl iekey rtype starting_lba data_addresses pointer_rule command_entry transfer_entry fault_free_execution command_calls action_outcome action_rule io_judgement reservation_outcome attachment_rule field_rule form_rule mark_rule nsid_rule opcode_rule protection_rule range_rule reservation_rule extent_of may_read may_write reservation_of qword fault_of first_fault cycled_world after_write configured doorbell prepared value_at judgement_by addresses with_scattered host_of is_attached namespace_of opening_world completion_entry cdw10 cdw11 cdw12 cid fuse nsid opcode prp1 prp2 psdt after_fetch after_posting after_queue_change after_store after_write32 fetchable open_pair taking_effect fault_free_command_execution after_completion after_execution after_power_cycle controller_at with_controller cluster one_execution lapping
+unfolding computing one_execution lapping
 lapping-step = record {
   execution = fault_free_command_execution (queues_of (ready 2 zeros (zeroes 2 ∷ []))) 2 (zeroes 2) (scene_of lapping (ready 2 zeros (zeroes 2 ∷ [])));
-  comes_to = (refl, record {
-    returned = [];
-    effect = record { world = refl; effect = (inl (record { answered = refl; failures = refl }, λ told. refl), refl) };
-    window = refl;
-    dw0 = refl;
-    rule = refl;
-    marks = refl;
-  });
+  comes_to = (
+    refl,
+    record {
+      returned = [];
+      effect = record { world = refl; effect = (inl (record { answered = refl; failures = refl }, λ told. refl), refl) };
+      window = refl;
+      dw0 = refl;
+      rule = refl;
+      marks = refl;
+    },
+  );
   gives = refl;
   leaves = refl;
 }
 
 lapping-leaves : leaves 1 lapping (Execute 2 0) ≡ true
-unfolding action block_count command_of cptpl iekey rtype starting_lba data_addresses pointer_rule command_entry transfer_entry fault_free_execution command_calls action_outcome action_rule io_judgement reservation_outcome attachment_rule field_rule form_rule mark_rule nsid_rule opcode_rule protection_rule range_rule reservation_rule extent_of may_read may_write reservation_of qword fault_of first_fault cycled_world after_write configured doorbell prepared value_at judgement_by addresses with_scattered host_of is_attached namespace_of opening_world completion_entry cdw10 cdw11 cdw12 cid fuse nsid opcode prp1 prp2 psdt after_fetch after_posting after_queue_change after_store after_write32 fetchable open_pair taking_effect fault_free_command_execution after_completion after_execution after_power_cycle controller_at with_controller cluster one_execution lapping
+unfolding computing one_execution lapping
 lapping-leaves = refl
 
 lapping-host : AllByRecursion (OfItsController (λ k. may_write lapping.world k 1 ≡ false)) (one_execution 2)
-unfolding action block_count command_of cptpl iekey rtype starting_lba data_addresses pointer_rule command_entry transfer_entry fault_free_execution command_calls action_outcome action_rule io_judgement reservation_outcome attachment_rule field_rule form_rule mark_rule nsid_rule opcode_rule protection_rule range_rule reservation_rule extent_of may_read may_write reservation_of qword fault_of first_fault cycled_world after_write configured doorbell prepared value_at judgement_by addresses with_scattered host_of is_attached namespace_of opening_world completion_entry cdw10 cdw11 cdw12 cid fuse nsid opcode prp1 prp2 psdt after_fetch after_posting after_queue_change after_store after_write32 fetchable open_pair taking_effect fault_free_command_execution after_completion after_execution after_power_cycle controller_at with_controller cluster one_execution lapping
+unfolding computing one_execution lapping
 lapping-host = no-host (λ k. may_write lapping.world k 1) (one_execution 2) refl
 
 lapping-bytes : (first_of (namespace_bytes lapping 1) ≡ 1) × (first_of (namespace_bytes lapped 1) ≡ 0)
-unfolding action block_count command_of cptpl iekey rtype starting_lba data_addresses pointer_rule command_entry transfer_entry fault_free_execution command_calls action_outcome action_rule io_judgement reservation_outcome attachment_rule field_rule form_rule mark_rule nsid_rule opcode_rule protection_rule range_rule reservation_rule extent_of may_read may_write reservation_of qword fault_of first_fault cycled_world after_write configured doorbell prepared value_at judgement_by addresses with_scattered host_of is_attached namespace_of opening_world completion_entry cdw10 cdw11 cdw12 cid fuse nsid opcode prp1 prp2 psdt after_fetch after_posting after_queue_change after_store after_write32 fetchable open_pair taking_effect fault_free_command_execution after_completion after_execution after_power_cycle controller_at with_controller cluster one_execution lapping
+unfolding computing one_execution lapping
 lapping-bytes = (refl, refl)
 
 lapping-run : RunWhere (LeavesReservation 1) lapping (one_execution 2) (Executed (Posted done) ∷ []) lapped

@@ -1,3 +1,4 @@
+pub mod Unfolding
 pub mod Computing
 pub mod Laying
 pub mod FencingRuns

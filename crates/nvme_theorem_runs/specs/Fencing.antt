@@ -1,7 +1,7 @@
 -- Example runs of fencing.
-use Rattle.std.specs.Prelude.{◌≡◌, ℕ, Bool, true, false, List, [], ◌∷◌, replicate}
+use Rattle.std.specs.Prelude.{◌≡◌, ℕ, true, false, List, [], ◌∷◌, replicate}
 use Rattle.std.specs.List.{AllByRecursion}
-use Rattle.nvme_spec.specs.Execution.{denial_outcome, no_marks}
+use Rattle.nvme_spec.specs.Execution.{denial_outcome}
 use Rattle.nvme_spec.specs.Layout.{IsLaidOut, may_write}
 use Rattle.nvme_spec.specs.Statuses as status
 use Rattle.nvme_machine.specs.declared.event.Event.{Event}
