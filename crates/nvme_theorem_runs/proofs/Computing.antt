@@ -1,25 +1,33 @@
 -- Tests of the premises that compute, and that each implies its premise; and that a run without a fault is one in which
 -- each event is as a test says.
-use Rattle.std.proofs.Common.{◌≡◌, ℕ, Bool, true, false, List, [], ◌∷◌, Option, None, Some, refl, sym, ◌∙◌, ap, subst}
-use Rattle.std.specs.Prelude.{not, ◌&&◌, slice_get}
 use Rattle.std.specs.List.{AllByRecursion}
+use Rattle.std.specs.Prelude.{not, slice_get, ◌&&◌}
+use Rattle.std.proofs.Common.{Bool, List, None, Option, Some, [], ap, false, refl, subst, sym, true, ℕ, ◌==◌, ◌∙◌, ◌∷◌, ◌≡◌}
+use Rattle.std.proofs.lemmas.Bool.{eq-eqb}
 use Rattle.nvme_spec.specs.declared.command.Command.{Command}
 use Rattle.nvme_spec.specs.declared.verdict.Verdict.{Verdict}
 use Rattle.nvme_spec.specs.declared.verdict.Verdict.TheVariants.{Allowed, Denied}
 use Rattle.nvme_spec.specs.Commands.{is_one_of, reserving}
 use Rattle.nvme_spec.specs.IoData.{io_verdict}
 use Rattle.nvme_spec.specs.Layout.{IsLaidOut, reservation_of}
+use Rattle.nvme_spec.specs.Pointer.{address, next}
 use Rattle.nvme_spec.specs.Reservation.{Reservation}
+use Rattle.nvme_spec.specs.Rules.{test}
 use Rattle.nvme_spec.specs.World.{World}
 use Rattle.nvme_machine.specs.declared.event.Event.{Event}
-use Rattle.nvme_machine.specs.declared.event.Event.TheVariants.{Store, Write32, Read32, Fetch, Execute, PowerCycle}
+use Rattle.nvme_machine.specs.declared.event.Event.TheVariants.{Execute, Fetch, PowerCycle, Read32, Store, Write32}
 use Rattle.nvme_machine.specs.declared.fetched.FetchedCommand.{FetchedCommand}
+use Rattle.nvme_machine.specs.declared.seen.Executed.TheVariants.{Posted}
+use Rattle.nvme_machine.specs.declared.seen.Seen.{Seen}
+use Rattle.nvme_machine.specs.declared.seen.Seen.TheVariants.{Executed}
 use Rattle.nvme_machine.specs.Controllers.{Controller, names}
 use Rattle.nvme_machine.specs.FaultFree.{fault_free_left, fault_free_seen, fault_free_step}
 use Rattle.nvme_machine.specs.Fencing.{Allows, Forgets, IsAllowedAt, IsFleeting, LeavesReservation, ReservesNothing, RunWhere}
-use Rattle.nvme_machine.specs.Subsystems.{OfItsController, Subsystem, Run, controller_at, controller_of}
+use Rattle.nvme_machine.specs.Preempted.{RunKeeping, place_after}
+use Rattle.nvme_machine.specs.Subsystems.{OfItsController, Run, Subsystem, controller_at, controller_of}
 use Rattle.nvme_machine.proofs.Determined.{run_exists, steps}
 use Rattle.nvme_machine.proofs.Layouts.{layout_stays}
+use Rattle.nvme_theorem_runs.proofs.Laying.{laid}
 
 -- an allowed command is one of these
 abbrev pub passes : List Command → Verdict → Bool
@@ -157,3 +165,34 @@ no-host test (PowerCycle ∷ events) e = (tt, no-host test events e)
 no-host test (event ∷ events) e =
     let parts = both (not (test (controller_of event))) (none_passes test events) e in
     (host-of test event (negated (test (controller_of event)) parts.0), no-host test events parts.1)
+
+-- numbers that a test tells apart
+pub distinct : (n m : ℕ) → (n == m) ≡ false → n ≡ m → ⊥
+distinct n m other same = let e : (n == m) ≡ true = eq-eqb n m same in absurd (cc)
+
+-- where a command is after a run
+abbrev pub place_if : Option ℕ → (ℕ → Option ℕ) → Option ℕ
+place_if None next = None
+place_if (Some l) next = next l
+
+abbrev pub followed : Subsystem → ℕ → ℕ → List Event → Option ℕ
+followed s j m [] = Some m
+followed s j m (event ∷ events) = place_if (place_after s j m event) (λ l. followed (fault_free_step s event).left j l events)
+
+some-place : (o : Option ℕ) (next : ℕ → Option ℕ) (l : ℕ) → place_if o next ≡ Some l → (place : ℕ) × (o ≡ Some place) × (next place ≡ Some l)
+some-place None next l e = absurd (cc)
+some-place (Some place) next l e = (place, refl, e)
+
+pub run-keeping : (j : ℕ) (s : Subsystem) (m : ℕ) (events : List Event) (l : ℕ) → IsLaidOut s.world s.device.content → followed s j m events ≡ Some l
+    → RunKeeping true j s m events (fault_free_seen s events) (fault_free_left s events) l
+run-keeping j s m [] l laid e = let same : l ≡ m = cc in (refl, same)
+run-keeping j s m (event ∷ events) l laid e =
+    let next = (fault_free_step s event).left in
+    let step = steps s event laid in
+    let p = some-place (place_after s j m event) (λ place. followed next j place events) l e in
+    (next, p.0, step, p.1, run-keeping j next p.0 events l (layout_stays s next event (fault_free_step s event).seen laid step) p.2)
+
+-- the rule that denied what an event executed; 0, if none did
+abbrev pub rule_of : Seen → ℕ
+rule_of (Executed (Posted outcome)) = outcome.rule
+rule_of other = 0

@@ -1,6 +1,6 @@
 -- The subsystem that the example runs begin with: two controllers of two hosts, two namespaces of one block, and small
 -- windows with one I/O queue pair. Controller 1 is of host a1h, which holds namespace 1; controller 2 is of host b2h.
-use Rattle.std.specs.Prelude.{ℕ, ◌+◌, ◌^◌, true, List, [], ◌∷◌, ◌++◌, None, Some, replicate}
+use Rattle.std.specs.Prelude.{ℕ, ◌+◌, ◌^◌, true, Option, List, [], ◌∷◌, ◌++◌, None, Some, replicate}
 use Rattle.nvme_spec.specs.declared.access.Hold.TheVariants.{One}
 use Rattle.nvme_spec.specs.declared.access.Protection.TheVariants.{Open}
 use Rattle.nvme_spec.specs.declared.registers.ControllerState.TheVariants.{Ready}
@@ -22,7 +22,7 @@ use Rattle.nvme_machine.specs.declared.event.Event.TheVariants.{Store}
 use Rattle.nvme_machine.specs.declared.fetched.FetchedCommand.{FetchedCommand}
 use Rattle.nvme_machine.specs.Controllers.{Controller}
 use Rattle.nvme_machine.specs.Examples.{of_queue_1}
-use Rattle.nvme_machine.specs.Subsystems.{Subsystem}
+use Rattle.nvme_machine.specs.Subsystems.{Subsystem, controller_at}
 
 -- Both controllers are attached to both namespaces.
 abbrev pub pair : Configuration
@@ -121,3 +121,11 @@ overlapping = record (reserved (held_by_a1 1)) {
       protection = Open;
       reservation = r;
     }
+
+-- What a controller has fetched; nothing, if there is none.
+abbrev pub fetched_in : Option Controller → List FetchedCommand
+fetched_in None = []
+fetched_in (Some c) = c.fetched
+
+abbrev pub fetched_of : Subsystem → ℕ → List FetchedCommand
+fetched_of s k = fetched_in (controller_at s k)

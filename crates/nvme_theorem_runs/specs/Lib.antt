@@ -1,2 +1,4 @@
 pub mod Cluster
 pub mod Fencing
+pub mod Reading
+pub mod Preempting

@@ -1,6 +1,7 @@
 //! Runs of the theorems about fencing.
 
 ghost use Rattle.nvme_theorem_runs.specs.Fencing.{FencingAtWork, FencingOfAnyHost, FencingOnAnyLayout, FencingOverAnyRun};
+ghost use Rattle.nvme_theorem_runs.specs.Reading.{ReadingAtWork, ReadingOfAnyHost};
 
 /// FencingHolds: a host that may not write namespace 1 sends a write to each namespace. The first is denied.
 #[tactic(auto, using(crate::proofs::FencingRuns::fencing_at_work))]
@@ -15,4 +16,16 @@ fn fencing_needs()
     ensures run { FencingOverAnyRun → ⊥ }
     ensures host { FencingOfAnyHost → ⊥ }
     ensures layout { FencingOnAnyLayout → ⊥ }
+{}
+
+/// FencedReading: a Read is denied, and what its host sees is the same over two media.
+#[tactic(auto, using(crate::proofs::ReadingRuns::reading_at_work))]
+fn fenced_reading()
+    ensures { ReadingAtWork }
+{}
+
+/// FencedReading needs a host that may not read: one that may finds other bytes over another medium.
+#[tactic(auto, using(crate::proofs::ReadingRuns::reading_needs_the_host))]
+fn fenced_reading_needs()
+    ensures host { ReadingOfAnyHost → ⊥ }
 {}

@@ -4,3 +4,4 @@
 #![tactic(auto)]
 
 mod fencing;
+mod preempting;
