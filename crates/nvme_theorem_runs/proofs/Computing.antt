@@ -2,8 +2,9 @@
 -- each event is as a test says.
 use Rattle.std.specs.List.{AllByRecursion}
 use Rattle.std.specs.Prelude.{not, slice_get, ◌&&◌}
-use Rattle.std.proofs.Common.{Bool, List, None, Option, Some, [], ap, false, refl, subst, sym, true, ℕ, ◌==◌, ◌∙◌, ◌∷◌, ◌≡◌}
+use Rattle.std.proofs.Common.{Bool, List, None, Option, Some, [], ap, false, refl, subst, sym, true, ℕ, ◌++◌, ◌==◌, ◌∙◌, ◌∷◌, ◌≡◌}
 use Rattle.std.proofs.lemmas.Bool.{eq-eqb}
+use Rattle.std.proofs.lemmas.List.{append-nil}
 use Rattle.nvme_spec.specs.declared.command.Command.{Command}
 use Rattle.nvme_spec.specs.declared.verdict.Verdict.{Verdict}
 use Rattle.nvme_spec.specs.declared.verdict.Verdict.TheVariants.{Allowed, Denied}
@@ -20,11 +21,15 @@ use Rattle.nvme_machine.specs.declared.fetched.FetchedCommand.{FetchedCommand}
 use Rattle.nvme_machine.specs.declared.seen.Executed.TheVariants.{Posted}
 use Rattle.nvme_machine.specs.declared.seen.Seen.{Seen}
 use Rattle.nvme_machine.specs.declared.seen.Seen.TheVariants.{Executed}
+use Rattle.nvme_machine.specs.AllowedCalls.{CallsWhere}
 use Rattle.nvme_machine.specs.Controllers.{Controller, names}
+use Rattle.nvme_machine.specs.EventCalls.{AreCallsOfStep}
 use Rattle.nvme_machine.specs.FaultFree.{fault_free_left, fault_free_seen, fault_free_step}
+use Rattle.nvme_machine.specs.FaultFreeCalls.{event_calls, fault_free_calls}
 use Rattle.nvme_machine.specs.Fencing.{Allows, Forgets, IsAllowedAt, IsFleeting, LeavesReservation, ReservesNothing, RunWhere}
 use Rattle.nvme_machine.specs.Preempted.{RunKeeping, place_after}
 use Rattle.nvme_machine.specs.Subsystems.{OfItsController, Run, Subsystem, controller_at, controller_of}
+use Rattle.nvme_machine.proofs.CallLaws.{run_calls_exist}
 use Rattle.nvme_machine.proofs.Determined.{run_exists, steps}
 use Rattle.nvme_machine.proofs.Layouts.{layout_stays}
 use Rattle.nvme_theorem_runs.proofs.Laying.{laid}
@@ -83,7 +88,7 @@ lasting : (o : Option Reservation) → fleeting o ≡ false → IsFleeting o →
 lasting None e x = x
 lasting (Some r) e x = open-twice r.ptpl e x
 
-no-forgetting : (n : ℕ) (s : Subsystem) (event : Event) → forgets_now s event n ≡ false → Forgets s event n → ⊥
+pub no-forgetting : (n : ℕ) (s : Subsystem) (event : Event) → forgets_now s event n ≡ false → Forgets s event n → ⊥
 no-forgetting n s PowerCycle e x = lasting (reservation_of s.world n) e x
 no-forgetting n s (Execute k i) e x = x
 no-forgetting n s (Store k address bytes) e x = x
@@ -196,3 +201,27 @@ run-keeping j s m (event ∷ events) l laid e =
 abbrev pub rule_of : Seen → ℕ
 rule_of (Executed (Posted outcome)) = outcome.rule
 rule_of other = 0
+
+-- The calls of an event over a medium none of whose calls fails.
+pub step-calls : (s : Subsystem) (event : Event) → IsLaidOut s.world s.device.content
+    → AreCallsOfStep true s event (fault_free_step s event).seen (fault_free_step s event).left (event_calls s event)
+step-calls s event laid =
+    let r = (run_calls_exist s (event ∷ []) laid).0 in
+    let own : r.1 ≡ event_calls s event = sym (append-nil r.1) ∙ ap (λ cs. r.1 ++ cs) (sym r.4.1) ∙ sym r.5 ∙ append-nil (event_calls s event) in
+    subst (λ cs. AreCallsOfStep true s event (fault_free_step s event).seen (fault_free_step s event).left cs) own
+    (subst (λ mid. AreCallsOfStep true s event (fault_free_step s event).seen mid r.1) (sym r.4.0) r.3)
+
+pub calls-where : (test : Subsystem → Event → Bool) (P : Subsystem → Event → Type 0) → ((s : Subsystem) (event : Event) → test s event ≡ true → P s event)
+    → (s : Subsystem) (events : List Event) → IsLaidOut s.world s.device.content → all_along test s events ≡ true
+    → CallsWhere P true s events (fault_free_seen s events) (fault_free_left s events) (fault_free_calls s events)
+calls-where test P so s [] laid e = (refl, refl)
+calls-where test P so s (event ∷ events) laid e =
+    let next = (fault_free_step s event).left in
+    let parts = both (test s event) (all_along test next events) e in
+    let rest = layout_stays s next event (fault_free_step s event).seen laid (steps s event laid) in
+    (next, event_calls s event, fault_free_calls next events, so s event parts.0, step-calls s event laid, calls-where test P so next events rest parts.1, refl)
+
+pub left-laid : (s : Subsystem) (events : List Event) → IsLaidOut s.world s.device.content → IsLaidOut (fault_free_left s events).world (fault_free_left s events).device.content
+left-laid s [] laid = laid
+left-laid s (event ∷ events) laid =
+    left-laid (fault_free_step s event).left events (layout_stays s (fault_free_step s event).left event (fault_free_step s event).seen laid (steps s event laid))

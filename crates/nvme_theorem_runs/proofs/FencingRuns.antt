@@ -20,19 +20,19 @@ use Rattle.nvme_theorem_runs.proofs.Laying.{laid}
 
 -- The run at work.
 
-fenced-leaves : all_along (leaves 1) fenced fenced_events ≡ true
+pub fenced-leaves : all_along (leaves 1) fenced fenced_events ≡ true
 unfolding computing fenced_events
 fenced-leaves = refl
 
-seen-so : fault_free_seen fenced fenced_events ≡ fenced_seen
+pub seen-so : fault_free_seen fenced fenced_events ≡ fenced_seen
 unfolding computing fenced_events fenced_seen
 seen-so = refl
 
-fenced-host : AllByRecursion (OfItsController (λ k. may_write fenced.world k 1 ≡ false)) fenced_events
+pub fenced-host : AllByRecursion (OfItsController (λ k. may_write fenced.world k 1 ≡ false)) fenced_events
 unfolding computing fenced_events
 fenced-host = no-host (λ k. may_write fenced.world k 1) fenced_events refl
 
-bytes-so : (namespace_bytes fenced 1 ≡ replicate 512 1) × (namespace_bytes after_fenced 1 ≡ replicate 512 1) × (namespace_bytes fenced 2 ≡ replicate 512 2) × (namespace_bytes after_fenced 2 ≡ replicate 512 0)
+pub bytes-so : (namespace_bytes fenced 1 ≡ replicate 512 1) × (namespace_bytes after_fenced 1 ≡ replicate 512 1) × (namespace_bytes fenced 2 ≡ replicate 512 2) × (namespace_bytes after_fenced 2 ≡ replicate 512 0)
 unfolding computing fenced_events
 bytes-so = (refl, refl, refl, refl)
 
@@ -76,17 +76,17 @@ fencing_needs_the_reservation law =
 
 -- The holder writes.
 
-abbrev holding : Subsystem
+abbrev pub holding : Subsystem
 holding = cluster (held_by_a1 1) (zeroes 1 ∷ []) []
 
-unfoldable one_execution : ℕ → List Event
+unfoldable pub one_execution : ℕ → List Event
 one_execution k = Execute k 0 ∷ []
 
-holding-leaves : all_along (leaves 1) holding (one_execution 1) ≡ true
+pub holding-leaves : all_along (leaves 1) holding (one_execution 1) ≡ true
 unfolding computing one_execution
 holding-leaves = refl
 
-holding-bytes : (first_of (namespace_bytes holding 1) ≡ 1) × (first_of (namespace_bytes (fault_free_left holding (one_execution 1)) 1) ≡ 0)
+pub holding-bytes : (first_of (namespace_bytes holding 1) ≡ 1) × (first_of (namespace_bytes (fault_free_left holding (one_execution 1)) 1) ≡ 0)
 unfolding computing one_execution
 holding-bytes = (refl, refl)
 
@@ -99,13 +99,13 @@ fencing_needs_the_host law =
 
 -- A namespace is written that is on the same block.
 
-unfoldable lapping : Subsystem
+unfoldable pub lapping : Subsystem
 lapping = record (cluster (held_by_a1 1) [] (zeroes 2 ∷ [])) { world = overlapping }
 
-abbrev lapped : Subsystem
+abbrev pub lapped : Subsystem
 lapped = fault_free_left lapping (one_execution 2)
 
-lapping-step : Step true lapping (Execute 2 0) (Executed (Posted done)) lapped
+pub lapping-step : Step true lapping (Execute 2 0) (Executed (Posted done)) lapped
 unfolding computing one_execution lapping
 lapping-step = record {
   execution = fault_free_command_execution (queues_of (ready 2 zeros (zeroes 2 ∷ []))) 2 (zeroes 2) (scene_of lapping (ready 2 zeros (zeroes 2 ∷ [])));
@@ -132,7 +132,7 @@ lapping-host : AllByRecursion (OfItsController (λ k. may_write lapping.world k 
 unfolding computing one_execution lapping
 lapping-host = no-host (λ k. may_write lapping.world k 1) (one_execution 2) refl
 
-lapping-bytes : (first_of (namespace_bytes lapping 1) ≡ 1) × (first_of (namespace_bytes lapped 1) ≡ 0)
+pub lapping-bytes : (first_of (namespace_bytes lapping 1) ≡ 1) × (first_of (namespace_bytes lapped 1) ≡ 0)
 unfolding computing one_execution lapping
 lapping-bytes = (refl, refl)
 

@@ -4,3 +4,4 @@ pub mod Laying
 pub mod FencingRuns
 pub mod ReadingRuns
 pub mod PreemptingRuns
+pub mod MediumRuns

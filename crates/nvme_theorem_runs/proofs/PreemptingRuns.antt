@@ -11,7 +11,6 @@ use Rattle.nvme_spec.specs.Layout.{IsLaidOut}
 use Rattle.nvme_spec.specs.Queues.{empty_completion_tail, empty_submission_head}
 use Rattle.nvme_spec.specs.Statuses.{command_aborted_due_to_preempt_and_abort, successful_completion}
 use Rattle.nvme_spec.specs.World.{host_of}
-use Rattle.nvme_machine.specs.declared.event.Event.{Event}
 use Rattle.nvme_machine.specs.declared.event.Event.TheVariants.{Execute}
 use Rattle.nvme_machine.specs.declared.fetched.FetchedCommand.{FetchedCommand}
 use Rattle.nvme_machine.specs.declared.seen.Executed.TheVariants.{Posted}
@@ -24,19 +23,13 @@ use Rattle.nvme_machine.specs.Preempted.{Preempts, RunKeeping, place_after, remo
 use Rattle.nvme_machine.specs.Runs.{IsMarkedBy, Waits}
 use Rattle.nvme_machine.specs.Subsystems.{Subsystem, after_power_cycle, controller_at, is_host_among, scene_of}
 use Rattle.nvme_machine.proofs.Determined.{steps}
-use Rattle.nvme_machine.proofs.Layouts.{layout_stays}
 use Rattle.nvme_machine.proofs.Preempted.{preempted_stays_out}
 use Rattle.nvme_theorem_runs.specs.Cluster.{acquire, cluster, ready, stores, stores_keys, with_b2, zeroes, zeros}
 use Rattle.nvme_theorem_runs.specs.Preempting.{MarkingAtWork, OthersAtWork, OthersOfAnyController, PreemptingAtWork, PreemptingByAnyStep, PreemptingOfAnyHost, armed, later, meanwhile, preempted}
-use Rattle.nvme_theorem_runs.proofs.Computing.{distinct, first_of, followed, rule_of, run-keeping}
+use Rattle.nvme_theorem_runs.proofs.Computing.{distinct, first_of, followed, left-laid, rule_of, run-keeping}
 use Rattle.nvme_theorem_runs.proofs.Laying.{laid}
 use Rattle.nvme_theorem_runs.proofs.Unfolding.{computing}
 use Rattle.nvme_spec.specs.Statuses as status
-
-left-laid : (s : Subsystem) (events : List Event) → IsLaidOut s.world s.device.content → IsLaidOut (fault_free_left s events).world (fault_free_left s events).device.content
-left-laid s [] laid = laid
-left-laid s (event ∷ events) laid =
-    left-laid (fault_free_step s event).left events (layout_stays s (fault_free_step s event).left event (fault_free_step s event).seen laid (steps s event laid))
 
 armed-laid : IsLaidOut armed.world armed.device.content
 unfolding armed

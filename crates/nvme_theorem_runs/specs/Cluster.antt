@@ -1,28 +1,32 @@
 -- The subsystem that the example runs begin with: two controllers of two hosts, two namespaces of one block, and small
 -- windows with one I/O queue pair. Controller 1 is of host a1h, which holds namespace 1; controller 2 is of host b2h.
-use Rattle.std.specs.Prelude.{ℕ, ◌+◌, ◌^◌, true, Option, List, [], ◌∷◌, ◌++◌, None, Some, replicate}
+use Rattle.std.specs.Prelude.{List, None, Option, Some, [], replicate, true, ℕ, ◌++◌, ◌+◌, ◌^◌, ◌∷◌}
 use Rattle.nvme_spec.specs.declared.access.Hold.TheVariants.{One}
 use Rattle.nvme_spec.specs.declared.access.Protection.TheVariants.{Open}
-use Rattle.nvme_spec.specs.declared.registers.ControllerState.TheVariants.{Ready}
 use Rattle.nvme_spec.specs.declared.outcome.Outcome.{Outcome}
+use Rattle.nvme_spec.specs.declared.registers.ControllerState.TheVariants.{Ready}
 use Rattle.nvme_spec.specs.Blocks.{Device}
 use Rattle.nvme_spec.specs.ClusterExamples.{keys}
+use Rattle.nvme_spec.specs.Commands.{action}
 use Rattle.nvme_spec.specs.Configuration.{Configuration}
-use Rattle.nvme_spec.specs.Entries.{transfer_entry, command_entry}
+use Rattle.nvme_spec.specs.Entries.{command_entry, transfer_entry}
 use Rattle.nvme_spec.specs.Examples.{controller, namespace}
 use Rattle.nvme_spec.specs.Execution.{no_marks}
-use Rattle.nvme_spec.specs.Queues as ring
+use Rattle.nvme_spec.specs.Pointer.{address}
+use Rattle.nvme_spec.specs.Queues.{empty_completion_tail, empty_submission_head}
 use Rattle.nvme_spec.specs.Registers.{Registers}
 use Rattle.nvme_spec.specs.Reservation.{Reservation, unreserved}
 use Rattle.nvme_spec.specs.ReservationExamples.{a1, b2, persistent, state}
-use Rattle.nvme_spec.specs.Statuses as status
-use Rattle.nvme_spec.specs.World.{World, Namespace, opening_world, with_reservation}
+use Rattle.nvme_spec.specs.Statuses.{successful_completion}
+use Rattle.nvme_spec.specs.World.{Namespace, World, opening_world, with_reservation}
 use Rattle.nvme_machine.specs.declared.event.Event.{Event}
 use Rattle.nvme_machine.specs.declared.event.Event.TheVariants.{Store}
 use Rattle.nvme_machine.specs.declared.fetched.FetchedCommand.{FetchedCommand}
 use Rattle.nvme_machine.specs.Controllers.{Controller}
 use Rattle.nvme_machine.specs.Examples.{of_queue_1}
 use Rattle.nvme_machine.specs.Subsystems.{Subsystem, controller_at}
+use Rattle.nvme_spec.specs.Queues as ring
+use Rattle.nvme_spec.specs.Statuses as status
 
 -- Both controllers are attached to both namespaces.
 abbrev pub pair : Configuration
@@ -86,6 +90,10 @@ zeroes_entry n = transfer_entry 8 n 0 1
 
 abbrev pub zeroes : ℕ → FetchedCommand
 zeroes n = of_queue_1 (zeroes_entry n)
+
+-- Flush.
+abbrev pub flush : ℕ → FetchedCommand
+flush n = of_queue_1 (command_entry 0 n 0 0 0)
 
 -- The host of a controller stores bytes.
 abbrev pub stores : ℕ → ℕ → List ℕ → Event

@@ -2,3 +2,4 @@ pub mod Cluster
 pub mod Fencing
 pub mod Reading
 pub mod Preempting
+pub mod Medium

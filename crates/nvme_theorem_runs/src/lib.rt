@@ -4,4 +4,5 @@
 #![tactic(auto)]
 
 mod fencing;
+mod medium;
 mod preempting;
