@@ -53,17 +53,17 @@ fencing_at_work =
 
 -- A fenced host registers, preempts the holder and writes.
 
-unfoldable hostile_events : List Event
+unfoldable pub hostile_events : List Event
 hostile_events = stores_keys 2 0 0x22 ∷ Execute 2 0 ∷ stores_keys 2 0x22 0x11 ∷ Execute 2 0 ∷ Execute 2 0 ∷ []
 
-abbrev hostile : Subsystem
+abbrev pub hostile : Subsystem
 hostile = cluster (held_by_a1 1) [] (register ∷ acquire 1 ∷ zeroes 1 ∷ [])
 
-hostile-host : AllByRecursion (OfItsController (λ k. may_write hostile.world k 1 ≡ false)) hostile_events
+pub hostile-host : AllByRecursion (OfItsController (λ k. may_write hostile.world k 1 ≡ false)) hostile_events
 unfolding computing hostile_events
 hostile-host = no-host (λ k. may_write hostile.world k 1) hostile_events refl
 
-hostile-bytes : (first_of (namespace_bytes hostile 1) ≡ 1) × (first_of (namespace_bytes (fault_free_left hostile hostile_events) 1) ≡ 0)
+pub hostile-bytes : (first_of (namespace_bytes hostile 1) ≡ 1) × (first_of (namespace_bytes (fault_free_left hostile hostile_events) 1) ≡ 0)
 unfolding computing hostile_events
 hostile-bytes = (refl, refl)
 

@@ -5,3 +5,5 @@ pub mod FencingRuns
 pub mod ReadingRuns
 pub mod PreemptingRuns
 pub mod MediumRuns
+pub mod EachEventRuns
+pub mod PowerRuns

@@ -54,11 +54,11 @@ secret-leaves : all_along (leaves 1) secret (sends read_entry) ≡ true
 unfolding computing sends
 secret-leaves = refl
 
-seen-so : fault_free_seen secret (sends read_entry) ≡ denied_seen
+pub secret-seen : fault_free_seen secret (sends read_entry) ≡ denied_seen
 unfolding computing sends denied_seen
-seen-so = refl
+secret-seen = refl
 
-may-not : MayNotRead secret.world 1 (sends read_entry)
+pub may-not : MayNotRead secret.world 1 (sends read_entry)
 unfolding computing sends
 may-not = no-host (λ k. may_read secret.world k 1) (sends read_entry) refl
 
@@ -79,7 +79,7 @@ unfolding computing
 none-failed = refl
 
 secret-run : RunWhere (LeavesReservation 1) secret (sends read_entry) denied_seen after_secret
-secret-run = subst (λ seen. RunWhere (LeavesReservation 1) secret (sends read_entry) seen after_secret) seen-so
+secret-run = subst (λ seen. RunWhere (LeavesReservation 1) secret (sends read_entry) seen after_secret) secret-seen
     (run-where (leaves 1) (LeavesReservation 1) (leaving 1) secret (sends read_entry) (laid (held_by_a1 2) [] []) secret-leaves)
 
 same : (other : Subsystem) (others : List Seen) → Run true (over other_blocks secret) (sends read_entry) others other → other.device.failures ≡ 0
@@ -103,42 +103,39 @@ reading_at_work = record {
 
 -- A host that may read finds the bytes in its window.
 
-abbrev open_one : Subsystem
+abbrev pub open_one : Subsystem
 open_one = cluster (held_by_a1 1) [] (of_queue_1 read_entry ∷ [])
 
-unfoldable one_read : List Event
+unfoldable pub one_read : List Event
 one_read = Execute 2 0 ∷ []
 
-window_front : Option Controller → ℕ
+pub window_front : Option Controller → ℕ
 window_front None = 0
 window_front (Some c) = first_of c.window
 
-abbrev front_of : Subsystem → ℕ
+abbrev pub front_of : Subsystem → ℕ
 front_of s = window_front (controller_at s 2)
 
-abbrev read_over : Device → Subsystem
+abbrev pub read_over : Device → Subsystem
 read_over d = fault_free_left (over d open_one) one_read
-
-unfoldable first_blocks : Device
-first_blocks = blocks
 
 open-leaves : all_along (leaves 1) open_one one_read ≡ true
 unfolding computing one_read
 open-leaves = refl
 
-fronts : (front_of (fault_free_left open_one one_read) ≡ 1) × (front_of (read_over other_blocks) ≡ 9)
+pub fronts : (front_of (fault_free_left open_one one_read) ≡ 1) × (front_of (read_over other_blocks) ≡ 9)
 unfolding computing one_read window_front other_blocks
 fronts = (refl, refl)
 
-quiet : ((fault_free_left open_one one_read).device.failures ≡ open_one.device.failures) × ((read_over other_blocks).device.failures ≡ open_one.device.failures)
+pub quiet : ((fault_free_left open_one one_read).device.failures ≡ open_one.device.failures) × ((read_over other_blocks).device.failures ≡ open_one.device.failures)
 unfolding computing one_read other_blocks
 quiet = (refl, refl)
 
-few-read : open_one.device.failures < 2 ^ 64 - 1
+pub few-read : open_one.device.failures < 2 ^ 64 - 1
 unfolding computing
 few-read = omega arith
 
-other-laid : (r : Reservation) (first second : List FetchedCommand) → IsLaidOut (over other_blocks (cluster r first second)).world (over other_blocks (cluster r first second)).device.content
+pub other-laid : (r : Reservation) (first second : List FetchedCommand) → IsLaidOut (over other_blocks (cluster r first second)).world (over other_blocks (cluster r first second)).device.content
 unfolding cluster other_blocks
 other-laid r first second =
     layout-kept (reserved r) (reserved r) blocks.content other_blocks.content (same-layout (reserved r) (reserved r) refl) refl (laid r first second)

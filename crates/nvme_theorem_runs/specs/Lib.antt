@@ -3,3 +3,5 @@ pub mod Fencing
 pub mod Reading
 pub mod Preempting
 pub mod Medium
+pub mod EachEvent
+pub mod Power

@@ -1,5 +1,6 @@
 //! Runs of the theorems about fencing.
 
+ghost use Rattle.nvme_theorem_runs.specs.EachEvent.{EachEventAtWork, EachEventOfAnyHost, SecrecyOfAnyHost};
 ghost use Rattle.nvme_theorem_runs.specs.Fencing.{FencingAtWork, FencingOfAnyHost, FencingOnAnyLayout, FencingOverAnyRun};
 ghost use Rattle.nvme_theorem_runs.specs.Reading.{ReadingAtWork, ReadingOfAnyHost};
 
@@ -28,4 +29,17 @@ fn fenced_reading()
 #[tactic(auto, using(crate::proofs::ReadingRuns::reading_needs_the_host))]
 fn fenced_reading_needs()
     ensures host { ReadingOfAnyHost → ⊥ }
+{}
+
+/// FencingHoldsOfEachEvent: the holder writes before, and the fenced host's event writes nothing.
+#[tactic(auto, using(crate::proofs::EachEventRuns::each_event_at_work))]
+fn each_event_is_fenced()
+    ensures { EachEventAtWork }
+{}
+
+/// It needs a fenced host, and SecrecyHoldsOfEachEvent one that may not read.
+#[tactic(auto, using(crate::proofs::EachEventRuns::each_event_needs_the_host, crate::proofs::EachEventRuns::secrecy_needs_the_host))]
+fn each_event_needs()
+    ensures writes { EachEventOfAnyHost → ⊥ }
+    ensures reads { SecrecyOfAnyHost → ⊥ }
 {}

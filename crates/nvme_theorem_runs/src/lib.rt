@@ -5,4 +5,5 @@
 
 mod fencing;
 mod medium;
+mod power;
 mod preempting;
