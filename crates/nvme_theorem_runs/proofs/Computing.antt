@@ -103,11 +103,11 @@ reserves_nothing n s event = not (allows_now reserving s event n)
 abbrev pub leaves : ℕ → Subsystem → Event → Bool
 leaves n s event = reserves_nothing n s event && not (forgets_now s event n)
 
-negated : (b : Bool) → not b ≡ true → b ≡ false
+pub negated : (b : Bool) → not b ≡ true → b ≡ false
 negated true e = absurd (cc)
 negated false e = refl
 
-both : (a b : Bool) → (a && b) ≡ true → (a ≡ true) × (b ≡ true)
+pub both : (a b : Bool) → (a && b) ≡ true → (a ≡ true) × (b ≡ true)
 both true true e = (refl, refl)
 both true false e = absurd (cc)
 both false b e = absurd (cc)

@@ -10,7 +10,7 @@ use Rattle.nvme_spec.proofs.Openings.{opening_is_laid_out}
 use Rattle.nvme_machine.specs.declared.fetched.FetchedCommand.{FetchedCommand}
 use Rattle.nvme_theorem_runs.specs.Cluster.{blocks, cluster, pair, reserved}
 
-fits : first_config_fault pair 2 ≡ None
+pub fits : first_config_fault pair 2 ≡ None
 unfolding first_config_fault
 fits = refl
 

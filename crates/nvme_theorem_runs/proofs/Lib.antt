@@ -7,3 +7,4 @@ pub mod PreemptingRuns
 pub mod MediumRuns
 pub mod EachEventRuns
 pub mod PowerRuns
+pub mod QueueRuns

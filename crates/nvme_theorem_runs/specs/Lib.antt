@@ -5,3 +5,4 @@ pub mod Preempting
 pub mod Medium
 pub mod EachEvent
 pub mod Power
+pub mod Queues

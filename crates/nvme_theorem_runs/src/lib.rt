@@ -7,3 +7,4 @@ mod fencing;
 mod medium;
 mod power;
 mod preempting;
+mod queues;
