@@ -8,3 +8,4 @@ pub mod MediumRuns
 pub mod EachEventRuns
 pub mod PowerRuns
 pub mod QueueRuns
+pub mod RunningRuns

@@ -6,3 +6,4 @@ pub mod Medium
 pub mod EachEvent
 pub mod Power
 pub mod Queues
+pub mod Running

@@ -8,3 +8,4 @@ mod medium;
 mod power;
 mod preempting;
 mod queues;
+mod runs;
