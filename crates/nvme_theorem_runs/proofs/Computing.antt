@@ -84,7 +84,7 @@ open-twice : (b : Bool) → not b ≡ false → b ≡ false → ⊥
 open-twice true e x = absurd (cc)
 open-twice false e x = absurd (cc)
 
-lasting : (o : Option Reservation) → fleeting o ≡ false → IsFleeting o → ⊥
+pub lasting : (o : Option Reservation) → fleeting o ≡ false → IsFleeting o → ⊥
 lasting None e x = x
 lasting (Some r) e x = open-twice r.ptpl e x
 

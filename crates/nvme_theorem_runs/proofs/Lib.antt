@@ -9,3 +9,6 @@ pub mod EachEventRuns
 pub mod PowerRuns
 pub mod QueueRuns
 pub mod RunningRuns
+pub mod FleetUnfolding
+pub mod FleetComputing
+pub mod FleetRuns

@@ -7,3 +7,4 @@ pub mod EachEvent
 pub mod Power
 pub mod Queues
 pub mod Running
+pub mod Fleets

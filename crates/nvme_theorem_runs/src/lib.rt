@@ -4,6 +4,7 @@
 #![tactic(auto)]
 
 mod fencing;
+mod fleets;
 mod medium;
 mod power;
 mod preempting;
