@@ -12,3 +12,4 @@ pub mod RunningRuns
 pub mod FleetUnfolding
 pub mod FleetComputing
 pub mod FleetRuns
+pub mod DriverRuns

@@ -8,3 +8,4 @@ pub mod Power
 pub mod Queues
 pub mod Running
 pub mod Fleets
+pub mod Drivers

@@ -3,6 +3,7 @@
 //! would break one of them.
 #![tactic(auto)]
 
+mod drivers;
 mod fencing;
 mod fleets;
 mod medium;
