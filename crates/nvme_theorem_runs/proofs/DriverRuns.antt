@@ -242,7 +242,7 @@ up-step = subst (λ reply. Step true came_up (Poll 1) reply (fault_free_step cam
 pub since_up_at_work : SinceUpAtWork
 since_up_at_work =
     let since = done_since_it_came_up true pair blocks opened came_up (fault_free_step came_up (Poll 1)).fleet [] [] refl coming_up (fault_free_replies opened coming_up) up-run
-        0 opened-facts.1 (new_mailbox 1) opened-facts.0 refl (done_reply 1) up-step 1 0 0 status.successful_completion refl in
+    0 opened-facts.1 (new_mailbox 1) opened-facts.0 refl (done_reply 1) up-step 1 0 0 status.successful_completion refl in
     record {
       driver = opened-facts.1;
       down = opened-facts.0;
@@ -255,7 +255,7 @@ pub since_up_needs_a_driver_down : SinceAnyMoment → ⊥
 since_up_needs_a_driver_down law =
     let m = up-poll.1 in
     let was = law true pair blocks came_up came_up (fault_free_step came_up (Poll 1)).fleet coming_up (fault_free_replies opened coming_up) up-run [] [] refl
-        0 opened-facts.1 m.0 m.1 (done_reply 1) up-step 1 0 0 status.successful_completion refl in
+    0 opened-facts.1 m.0 m.1 (done_reply 1) up-step 1 0 0 status.successful_completion refl in
     was.happened
 
 rung-poll : (fault_free_step (fault_free_step came_up (Ring 1)).fleet (Poll 1)).reply ≡ done_reply 1
@@ -268,7 +268,7 @@ since_power_needs_power law =
     let next = fault_free_step came_up (Ring 1) in
     let on = (left-regular opened coming_up opened-regular).laid in
     let was = law true came_up next.fleet next.fleet (fault_free_step next.fleet (Poll 1)).fleet next.reply (Ring 1) (steps came_up (Ring 1) on) [] [] refl 1 m.0 m.1
-        (done_reply 1) rung-step 1 0 0 status.successful_completion refl in
+    (done_reply 1) rung-step 1 0 0 status.successful_completion refl in
     was.happened
   where
     rung-step : Step true (fault_free_step came_up (Ring 1)).fleet (Poll 1) (done_reply 1) (fault_free_step (fault_free_step came_up (Ring 1)).fleet (Poll 1)).fleet

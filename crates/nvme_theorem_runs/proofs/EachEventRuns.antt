@@ -126,5 +126,5 @@ secrecy_needs_the_host law =
     let other = fault_free_step (over other_blocks open_one) event in
     let other_on = other-laid (held_by_a1 1) [] (of_queue_1 read_entry ∷ []) in
     let is = law open_one next.left [] [] event (next.seen ∷ []) (event_calls open_one event) 1 other_blocks on (alone open_one event on)
-        (differ (held_by_a1 1) [] (of_queue_1 read_entry ∷ [])) other.left other.seen (steps (over other_blocks open_one) event other_on) quiet.0 quiet.1 few-read in
+    (differ (held_by_a1 1) [] (of_queue_1 read_entry ∷ [])) other.left other.seen (steps (over other_blocks open_one) event other_on) quiet.0 quiet.1 few-read in
     distinct 9 1 refl (sym fronts.1 ∙ ap front_of is.1 ∙ fronts.0)

@@ -49,7 +49,7 @@ allowed-not commands f k i n e x =
     let c = x.command in
     let one : command_passes commands n (Some c) ≡ false = subst (λ o. command_passes commands n o ≡ false) x.found e in
     let named : (is_one_of (command_of (opcode c.entry)) commands && is_passed c.judgement) ≡ false =
-        subst (λ b. (b && (is_one_of (command_of (opcode c.entry)) commands && is_passed c.judgement)) ≡ false) (eq-eqb (nsid c.entry) n x.is.names) one in
+    subst (λ b. (b && (is_one_of (command_of (opcode c.entry)) commands && is_passed c.judgement)) ≡ false) (eq-eqb (nsid c.entry) n x.is.names) one in
     let kind : is_passed c.judgement ≡ false = subst (λ b. (b && is_passed c.judgement) ≡ false) x.is.is_one named in
     let passed : is_passed (Ok tt) ≡ false = subst (λ j. is_passed j ≡ false) x.allowed kind in
     absurd (cc)

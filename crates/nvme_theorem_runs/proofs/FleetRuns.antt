@@ -111,8 +111,8 @@ fleet_fencing_needs_the_reservation law =
     let x = released-command in
     let regular = duo-regular (held_by_a1 1) in
     let is = law true (duo (held_by_a1 1)) after_release (fault_free_step after_release (Execute 2 0)).fleet released (fault_free_replies (duo (held_by_a1 1)) released)
-        1 2 0 x.0 done regular.numbers conflicting-facts.1 (computed_run (duo (held_by_a1 1)) released regular) x.1.0 x.1.1
-        (answered-step after_release 2 0 done (left-regular (duo (held_by_a1 1)) released regular) released-reply) in
+    1 2 0 x.0 done regular.numbers conflicting-facts.1 (computed_run (duo (held_by_a1 1)) released regular) x.1.0 x.1.1
+    (answered-step after_release 2 0 done (left-regular (duo (held_by_a1 1)) released regular) released-reply) in
     distinct 0 7 refl (ap (λ (o : Outcome). o.rule) is ∙ x.2)
 
 -- The holder writes.
@@ -136,8 +136,8 @@ fleet_fencing_needs_the_host law =
     let x = holder-command in
     let regular = duo-regular (held_by_a1 1) in
     let is = law true (duo (held_by_a1 1)) holder_asks (fault_free_step holder_asks (Execute 1 0)).fleet own_write (fault_free_replies (duo (held_by_a1 1)) own_write)
-        1 1 0 x.0 done regular.numbers (run-where (leaves 1) (LeavesReservation 1) (leaving 1) (duo (held_by_a1 1)) own_write regular holder-facts.0) x.1 x.2
-        (answered-step holder_asks 1 0 done (left-regular (duo (held_by_a1 1)) own_write regular) holder-facts.1) in
+    1 1 0 x.0 done regular.numbers (run-where (leaves 1) (LeavesReservation 1) (leaving 1) (duo (held_by_a1 1)) own_write regular holder-facts.0) x.1 x.2
+    (answered-step holder_asks 1 0 done (left-regular (duo (held_by_a1 1)) own_write regular) holder-facts.1) in
     distinct 0 7 refl (ap (λ (o : Outcome). o.rule) is ∙ x.3)
 
 -- The policy, of a command that is another.
@@ -244,8 +244,8 @@ fleet_preempting_needs_the_run law =
     let x = preempt-command in
     let y = again-command in
     let is = law true before_preempt after_preempt registrant_again (fault_free_step registrant_again (Execute 2 0)).fleet 1 1 0 0xb2 x.0 preempt-regular.numbers preempts x.5
-        registers_again (fault_free_replies after_preempt registers_again) (computed_run after_preempt registers_again after-regular) again-held 2 0 y.0 done again-facts.0 y.1.0 y.1.1
-        (answered-step registrant_again 2 0 done (left-regular after_preempt registers_again after-regular) again-facts.1) in
+    registers_again (fault_free_replies after_preempt registers_again) (computed_run after_preempt registers_again after-regular) again-held 2 0 y.0 done again-facts.0 y.1.0 y.1.1
+    (answered-step registrant_again 2 0 done (left-regular after_preempt registers_again after-regular) again-facts.1) in
     distinct 0 7 refl (ap (λ (o : Outcome). o.rule) is ∙ y.2)
 
 -- The holder releases it.
@@ -271,8 +271,8 @@ fleet_preempting_needs_a_holder law =
     let y = free-command in
     let run = run-where (registers_none 1 0xb2) (LeavesOutside 1 0xb2) (leaving-outside 1 0xb2) after_preempt then_released after-regular free-facts.0 in
     let is = law true before_preempt after_preempt free_again (fault_free_step free_again (Execute 2 0)).fleet 1 1 0 0xb2 x.0 preempt-regular.numbers preempts x.5
-        then_released (fault_free_replies after_preempt then_released) run 2 0 y.0 done free-facts.1 y.1.0 y.1.1
-        (answered-step free_again 2 0 done (left-regular after_preempt then_released after-regular) free-facts.2) in
+    then_released (fault_free_replies after_preempt then_released) run 2 0 y.0 done free-facts.1 y.1.0 y.1.1
+    (answered-step free_again 2 0 done (left-regular after_preempt then_released after-regular) free-facts.2) in
     distinct 0 7 refl (ap (λ (o : Outcome). o.rule) is ∙ y.2)
 
 -- Secrecy.
@@ -337,8 +337,8 @@ fleet_reading_needs_the_host law =
     let regular = duo-regular (held_by_a1 1) in
     let run = run-where (leaves 1) (LeavesReservation 1) (leaving 1) (duo (held_by_a1 1)) reading regular open-facts.0 in
     let same = law (duo (held_by_a1 1)) (fault_free_left (duo (held_by_a1 1)) reading) (fault_free_left (over other_blocks (duo (held_by_a1 1))) reading) other_blocks reading
-        (fault_free_replies (duo (held_by_a1 1)) reading) (fault_free_replies (over other_blocks (duo (held_by_a1 1))) reading) 1 regular (duo-differ (held_by_a1 1)) run
-        (computed_run (over other_blocks (duo (held_by_a1 1))) reading (over-regular (held_by_a1 1))) open-facts.1 open-facts.2 few in
+    (fault_free_replies (duo (held_by_a1 1)) reading) (fault_free_replies (over other_blocks (duo (held_by_a1 1))) reading) 1 regular (duo-differ (held_by_a1 1)) run
+    (computed_run (over other_blocks (duo (held_by_a1 1))) reading (over-regular (held_by_a1 1))) open-facts.1 open-facts.2 few in
     distinct 9 1 refl (sym open-facts.4 ∙ ap front_byte same ∙ open-facts.3)
 
 -- Power.
@@ -386,6 +386,6 @@ fleet_outlasting_needs_persistence law =
     let run = run-where (reserves_nothing 1) (ReservesNothing 1) (reserving-nothing 1) (duo (forgotten 1)) power_and_up regular up-facts.2 in
     let x = lost-command in
     let is = law true (duo (forgotten 1)) (back_up (forgotten 1)) (fault_free_step (back_up (forgotten 1)) (Execute 2 0)).fleet power_and_up
-        (fault_free_replies (duo (forgotten 1)) power_and_up) 1 2 0 x.0 done regular.numbers up-facts.4 run x.1.0 x.1.1
-        (answered-step (back_up (forgotten 1)) 2 0 done (left-regular (duo (forgotten 1)) power_and_up regular) up-facts.3) in
+    (fault_free_replies (duo (forgotten 1)) power_and_up) 1 2 0 x.0 done regular.numbers up-facts.4 run x.1.0 x.1.1
+    (answered-step (back_up (forgotten 1)) 2 0 done (left-regular (duo (forgotten 1)) power_and_up regular) up-facts.3) in
     distinct 0 7 refl (ap (λ (o : Outcome). o.rule) is ∙ x.2)

@@ -201,7 +201,7 @@ calls_need_the_host law =
     let on = laid (held_by_a1 1) (zeroes 1 ∷ []) [] in
     let run = calls-where (leaves 1) (LeavesReservation 1) (leaving 1) holding (one_execution 1) on holding-leaves in
     let off = law true holding (fault_free_left holding (one_execution 1)) (one_execution 1) (fault_free_seen holding (one_execution 1))
-        (fault_free_calls holding (one_execution 1)) 1 first_block on.apart holding-calls.1 run in
+    (fault_free_calls holding (one_execution 1)) 1 first_block on.apart holding-calls.1 run in
     not-off (subst (λ cs. AllByRecursion (KeepsOff first_block) cs) holding-calls.0 off)
 
 pub calls_need_a_step : CallsOfAnyList → ⊥
@@ -273,7 +273,7 @@ pub command_needs_the_host : CommandOfAnyHost → ⊥
 command_needs_the_host law =
     let next = fault_free_step holding (Execute 1 0) in
     let reads = law true holding next.left 1 0 1 (ready 1 zeros (zeroes 1 ∷ [])) (zeroes 1) next.seen (event_calls holding (Execute 1 0))
-        (step-calls holding (Execute 1 0) (laid (held_by_a1 1) (zeroes 1 ∷ []) [])) holding-at.0 refl holding-at.1 in
+    (step-calls holding (Execute 1 0) (laid (held_by_a1 1) (zeroes 1 ∷ []) [])) holding-at.0 refl holding-at.1 in
     (subst (λ cs. AllByRecursion IsReading cs) holding-at.2 reads).0
 
 abbrev comes : ℕ → CommandExecution
@@ -293,14 +293,17 @@ unfolding computing fenced_calls AreCallsOfExecution
 one-writes = record {
   finishes = record {
     execution = comes 2;
-    comes_to = (refl, record {
-      returned = [];
-      effect = record { world = refl; effect = (inl (record { answered = refl; failures = refl }, λ told. refl), refl) };
-      window = refl;
-      dw0 = refl;
-      rule = refl;
-      marks = refl;
-    });
+    comes_to = (
+      refl,
+      record {
+        returned = [];
+        effect = record { world = refl; effect = (inl (record { answered = refl; failures = refl }, λ told. refl), refl) };
+        window = refl;
+        dw0 = refl;
+        rule = refl;
+        marks = refl;
+      },
+    );
     gives = refl;
     controller = refl;
     world = refl;

@@ -75,7 +75,7 @@ pub outlasting_needs_persistence : OutlastingOfAnyReservation → ⊥
 outlasting_needs_persistence law =
     let on = laid (forgotten 1) [] [] in
     let same = law fleeting (fault_free_left fleeting power_lost) power_lost (fault_free_seen fleeting power_lost) 1 on
-        (run-where (reserves_nothing 1) (ReservesNothing 1) (reserving-nothing 1) fleeting power_lost on fleeting-facts.0) fleeting-host 2 in
+    (run-where (reserves_nothing 1) (ReservesNothing 1) (reserving-nothing 1) fleeting power_lost on fleeting-facts.0) fleeting-host 2 in
     false≢true (sym fleeting-facts.1 ∙ sym same ∙ fleeting-facts.2)
 
 pub outlasting_needs_the_reservation : OutlastingOverAnyRun → ⊥
@@ -83,7 +83,7 @@ outlasting_needs_the_reservation law =
     let commands = register ∷ acquire 1 ∷ zeroes 1 ∷ [] in
     let on = laid (held_by_a1 1) [] commands in
     let same = law hostile (fault_free_left hostile hostile_events) hostile_events (fault_free_seen hostile hostile_events) 1 on (persists 1 [] commands)
-        (plain-run hostile hostile_events on) hostile-host in
+    (plain-run hostile hostile_events on) hostile-host in
     apart _ _ hostile-bytes.1 hostile-bytes.0 same
 
 secret-reserves : all_along (reserves_nothing 1) secret (sends read_entry) ≡ true
@@ -122,7 +122,7 @@ pub secrecy_needs_persistence : SecrecyOfAnyReservation → ⊥
 secrecy_needs_persistence law =
     let on = laid (forgotten 1) [] [] in
     let r = law fleeting (fault_free_left fleeting power_lost) other_blocks power_lost (fault_free_seen fleeting power_lost) 1 on (differ (forgotten 1) [] [])
-        (run-where (reserves_nothing 1) (ReservesNothing 1) (reserving-nothing 1) fleeting power_lost on fleeting-facts.0) fleeting-reads in
+    (run-where (reserves_nothing 1) (ReservesNothing 1) (reserving-nothing 1) fleeting power_lost on fleeting-facts.0) fleeting-reads in
     leaves-nothing power_lost (fault_free_seen fleeting power_lost) (over r.0 (fault_free_left fleeting power_lost)) refl r.1
 
 -- What power takes.
@@ -156,8 +156,8 @@ unfolding computing
 powered-laid r =
     let on = laid r (zeroes 1 ∷ []) (zeroes 1 ∷ []) in
     let same : (n : ℕ) → extent_of (until_cycle r) n ≡ extent_of (reserved r) n =
-        (λ n. found-still (λ (space : Namespace). record { first = space.first; blocks = space.blocks }) (λ (space : Namespace). record space { protection = UntilCycle })
-        (λ m. refl) (λ m. refl) 1 n (reserved r).namespaces) in
+    (λ n. found-still (λ (space : Namespace). record { first = space.first; blocks = space.blocks }) (λ (space : Namespace). record space { protection = UntilCycle })
+    (λ m. refl) (λ m. refl) 1 n (reserved r).namespaces) in
     record {
       within = λ n x is. on.within n x (sym (same n) ∙ is);
       apart = λ n m x y other p q. on.apart n m x y other (sym (same n) ∙ p) (sym (same m) ∙ q);
@@ -221,5 +221,5 @@ unfolding one_execution
 protection_needs_a_kind law =
     let on = laid (held_by_a1 1) (zeroes 1 ∷ []) [] in
     let same = law holding (fault_free_left holding (one_execution 1)) (one_execution 1) (fault_free_seen holding (one_execution 1)) 1 on
-        ((λ e. absurd (cc)), tt) (plain-run holding (one_execution 1) on) in
+    ((λ e. absurd (cc)), tt) (plain-run holding (one_execution 1) on) in
     apart _ _ holding-bytes.1 holding-bytes.0 same

@@ -129,8 +129,8 @@ pub preempting_needs_the_host : PreemptingOfAnyHost → ⊥
 preempting_needs_the_host law =
     let f = own-found in
     let is = law true 1 armed preempted preempted 1 0 first-one (acquire 2) preempts 1 0 f.0 (zeroes 1) f.1 f.2 f.3 [] [] 0 (refl, refl)
-        (fault_free_step preempted (Execute 1 0)).left f.0 (zeroes 1) f.4.0 (fault_free_step preempted (Execute 1 0)).seen
-        (steps preempted (Execute 1 0) preempted-laid) (record { at = f.1; found = f.2; room = f.4.1 }) in
+    (fault_free_step preempted (Execute 1 0)).left f.0 (zeroes 1) f.4.0 (fault_free_step preempted (Execute 1 0)).seen
+    (steps preempted (Execute 1 0) preempted-laid) (record { at = f.1; found = f.2; room = f.4.1 }) in
     distinct 0 1 refl (sym own-rule ∙ ap rule_of is.0)
 
 -- A plain Preempt marks nothing.
@@ -171,9 +171,9 @@ pub preempting_needs_the_abort : PreemptingByAnyStep → ⊥
 preempting_needs_the_abort law =
     let f = plain-found in
     let is = law true 1 plain_armed plainly plainly 1 0 plain-one (acquire 1) (fault_free_step plain_armed (Execute 1 0)).seen (steps plain_armed (Execute 1 0) plain-laid)
-        2 0 unmarked-one (zeroes 1) f.0 f.1 f.2 f.3 [] [] 0 (refl, refl)
-        (fault_free_step plainly (Execute 2 0)).left unmarked-one (zeroes 1) queues (fault_free_step plainly (Execute 2 0)).seen
-        (steps plainly (Execute 2 0) plainly-laid) plain-waits in
+    2 0 unmarked-one (zeroes 1) f.0 f.1 f.2 f.3 [] [] 0 (refl, refl)
+    (fault_free_step plainly (Execute 2 0)).left unmarked-one (zeroes 1) queues (fault_free_step plainly (Execute 2 0)).seen
+    (steps plainly (Execute 2 0) plainly-laid) plain-waits in
     distinct 7 1 refl (sym plain-rule ∙ ap rule_of is.0)
 
 -- Marks, and other controllers.

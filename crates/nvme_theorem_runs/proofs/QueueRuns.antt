@@ -230,7 +230,7 @@ posted_needs_a_sparing_run law =
     let there = unread-there in
     let events : List Event = Write32 1 0x14 0 ∷ [] in
     let d = law true posted (fault_free_left posted events) events (fault_free_seen posted events) 1 entry (plain-run posted events posted-laid) posted-windows
-        there.0 there.1 there.2 in
+    there.0 there.1 there.2 in
     let has : has_queue (Some d.0) ≡ true = ap (λ (o : Option CompletionQueue). is_some o) d.2.at in
     false≢true (sym reset-posted ∙ ap has_queue d.1 ∙ has)
 

@@ -86,7 +86,7 @@ same : (other : Subsystem) (others : List Seen) → Run true (over other_blocks 
     → (others ≡ denied_seen) × (other ≡ over other.device after_secret)
 same other others run quiet =
     let r = fenced_reading_is_same secret after_secret other other_blocks (sends read_entry) denied_seen others 1 (laid (held_by_a1 2) [] [])
-        (differ (held_by_a1 2) [] []) secret-run may-not run (calm ∙ sym none-failed) (quiet ∙ sym none-failed) few in
+    (differ (held_by_a1 2) [] []) secret-run may-not run (calm ∙ sym none-failed) (quiet ∙ sym none-failed) few in
     (r.0, r.1)
 
 pub reading_at_work : ReadingAtWork
@@ -147,6 +147,6 @@ reading_needs_the_host law =
     let on = laid (held_by_a1 1) [] commands in
     let other_run = plain-run (over other_blocks open_one) one_read (other-laid (held_by_a1 1) [] commands) in
     let is = law open_one (fault_free_left open_one one_read) (read_over other_blocks) other_blocks one_read
-        (fault_free_seen open_one one_read) (fault_free_seen (over other_blocks open_one) one_read) 1 on (differ (held_by_a1 1) [] commands)
-        (run-where (leaves 1) (LeavesReservation 1) (leaving 1) open_one one_read on open-leaves) other_run quiet.0 quiet.1 few-read in
+    (fault_free_seen open_one one_read) (fault_free_seen (over other_blocks open_one) one_read) 1 on (differ (held_by_a1 1) [] commands)
+    (run-where (leaves 1) (LeavesReservation 1) (leaving 1) open_one one_read on open-leaves) other_run quiet.0 quiet.1 few-read in
     distinct 9 1 refl (sym fronts.1 ∙ ap front_of is ∙ fronts.0)

@@ -1,9 +1,12 @@
 -- The example runs of the theorems on runs and on the policy, computed.
 use Rattle.std.specs.Prelude.{replicate}
 use Rattle.std.proofs.Common.{Err, List, None, Some, [], ap, arith, false, inr, refl, subst, sym, true, ℕ, ◌-◌, ◌<◌, ◌^◌, ◌∙◌, ◌∷◌, ◌≡◌}
+use Rattle.nvme_spec.specs.declared.command.Command.TheVariants.{WriteZeroes}
 use Rattle.nvme_spec.specs.declared.outcome.Outcome.{Outcome}
 use Rattle.nvme_spec.specs.declared.queues.QueueChange.TheVariants.{Keep}
+use Rattle.nvme_spec.specs.declared.verdict.Plan.{Plan}
 use Rattle.nvme_spec.specs.declared.verdict.Verdict.TheVariants.{Allowed}
+use Rattle.nvme_spec.specs.Commands.{plan_of}
 use Rattle.nvme_spec.specs.IoData.{io_verdict}
 use Rattle.nvme_spec.specs.Layout.{IsLaidOut}
 use Rattle.nvme_spec.specs.Statuses.{write_fault}
@@ -22,7 +25,7 @@ use Rattle.nvme_machine.proofs.Denials.{allowed_does_its_effect, denied_changes_
 use Rattle.nvme_machine.proofs.Determined.{run_is_unique, steps}
 use Rattle.nvme_theorem_runs.specs.Cluster.{blocks, cluster, done, flush, held_by_a1, ready, reserved, zeroes, zeros}
 use Rattle.nvme_theorem_runs.specs.Fencing.{after_fenced, fenced, fenced_events, fenced_seen}
-use Rattle.nvme_theorem_runs.specs.Running.{AllowedOfAnyVerdict, DeniedOfAnyVerdict, DeniedWithoutRoom, PolicyAtWork, RunAtWork, RunOverFaults, a_plan, conflict, empty_queues, judged, judged_controller}
+use Rattle.nvme_theorem_runs.specs.Running.{AllowedOfAnyVerdict, DeniedOfAnyVerdict, DeniedWithoutRoom, PolicyAtWork, RunAtWork, RunOverFaults, conflict, empty_queues, judged, judged_controller}
 use Rattle.nvme_theorem_runs.proofs.Computing.{distinct, plain-run, rule_of}
 use Rattle.nvme_theorem_runs.proofs.FencingRuns.{seen-so}
 use Rattle.nvme_theorem_runs.proofs.Laying.{laid}
@@ -72,14 +75,17 @@ failing-step : Step true failing (Execute 2 0) (Executed (Posted fault_outcome))
 unfolding computing failed
 failing-step = record {
   execution = faulty;
-  comes_to = (refl, record {
-    returned = [];
-    effect = record { world = refl; effect = (((λ told. refl), inr (record { answered = refl; failures = record { later = omega arith; risen = omega arith } })), refl) };
-    window = refl;
-    dw0 = refl;
-    rule = refl;
-    marks = refl;
-  });
+  comes_to = (
+    refl,
+    record {
+      returned = [];
+      effect = record { world = refl; effect = (((λ told. refl), inr (record { answered = refl; failures = record { later = omega arith; risen = omega arith } })), refl) };
+      window = refl;
+      dw0 = refl;
+      rule = refl;
+      marks = refl;
+    },
+  );
   gives = refl;
   leaves = refl;
 }
@@ -99,13 +105,16 @@ failing-facts = (refl, refl)
 pub run_needs_no_fault : RunOverFaults → ⊥
 run_needs_no_fault law =
     let is = law failing failed (Execute 2 0 ∷ []) (Executed (Posted fault_outcome) ∷ []) (failed, failing-step, refl)
-        (subst (λ n. n < 2 ^ 64 - 1) (sym failing-facts.1) (omega arith)) in
+    (subst (λ n. n < 2 ^ 64 - 1) (sym failing-facts.1) (omega arith)) in
     distinct 2 0 refl (ap first_status is ∙ failing-facts.0)
 
 -- Commands as the policy allows.
 
 judged-laid : IsLaidOut judged.world judged.device.content
 judged-laid = laid (held_by_a1 1) [] (zeroes 1 ∷ zeroes 2 ∷ [])
+
+abbrev a_plan : Plan
+a_plan = plan_of WriteZeroes (zeroes 2).entry
 
 judged-waits : Waits judged 2 0 judged_controller (zeroes 1) empty_queues × Waits judged 2 1 judged_controller (zeroes 2) empty_queues
 unfolding computing
@@ -123,13 +132,14 @@ policy_at_work =
     let first = fault_free_step judged (Execute 2 0) in
     let second = fault_free_step judged (Execute 2 1) in
     let denied = denied_changes_its_entry_alone true judged first.left 2 0 judged_controller (zeroes 1) empty_queues conflict first.seen
-        (steps judged (Execute 2 0) judged-laid) judged-waits.0 judged-facts.0 in
+    (steps judged (Execute 2 0) judged-laid) judged-waits.0 judged-facts.0 in
     record {
       waits = judged-waits.0;
       denied = judged-facts.0;
       answered = denied.0;
       leaves = denied.1;
       waits_too = judged-waits.1;
+      plan = a_plan;
       allowed = judged-facts.1;
       does = allowed_does_its_effect true judged second.left 2 1 judged_controller (zeroes 2) empty_queues a_plan second.seen
           (steps judged (Execute 2 1) judged-laid) judged-waits.1 refl judged-facts.1;

@@ -1,6 +1,22 @@
 -- Example runs of the theorems on runs and on the policy.
-use Rattle.std.specs.Prelude.{Bool, Err, List, Some, [], false, replicate, slice_get, true, ℕ, ◌-◌, ◌<◌, ◌==◌, ◌^◌, ◌∷◌, ◌≡◌}
-use Rattle.nvme_spec.specs.declared.command.Command.TheVariants.{WriteZeroes}
+use Rattle.std.specs.Prelude.{
+  Bool,
+  Err,
+  List,
+  Some,
+  [],
+  false,
+  replicate,
+  slice_get,
+  true,
+  ℕ,
+  ◌-◌,
+  ◌<◌,
+  ◌==◌,
+  ◌^◌,
+  ◌∷◌,
+  ◌≡◌,
+}
 use Rattle.nvme_spec.specs.declared.verdict.Denial.{Denial}
 use Rattle.nvme_spec.specs.declared.verdict.Plan.{Plan}
 use Rattle.nvme_spec.specs.declared.verdict.Verdict.TheVariants.{Allowed}
@@ -56,9 +72,6 @@ empty_queues = record {
 abbrev pub conflict : Denial
 conflict = record { rule = 7; status = status.reservation_conflict }
 
-abbrev pub a_plan : Plan
-a_plan = record { kind = WriteZeroes; first = 0; blocks = 1; bytes = 0 }
-
 -- DeniedChangesItsEntryAlone of the first, and AllowedDoesItsEffect of the second.
 pub record PolicyAtWork : Type 0 where
   pub waits : Waits judged 2 0 judged_controller (zeroes 1) empty_queues
@@ -69,8 +82,9 @@ pub record PolicyAtWork : Type 0 where
       ≡ with_controller judged 2
       (after_posting 0 (zeroes 1) empty_queues status.reservation_conflict 0 judged_controller)
   pub waits_too : Waits judged 2 1 judged_controller (zeroes 2) empty_queues
-  pub allowed : io_verdict judged.world 2 (zeroes 2).entry false judged_controller.window ≡ Allowed a_plan
-  pub does : DoesItsEffect true a_plan judged (fault_free_step judged (Execute 2 1)).left 2 1 judged_controller
+  pub plan : Plan
+  pub allowed : io_verdict judged.world 2 (zeroes 2).entry false judged_controller.window ≡ Allowed plan
+  pub does : DoesItsEffect true plan judged (fault_free_step judged (Execute 2 1)).left 2 1 judged_controller
       (zeroes 2) empty_queues (fault_free_step judged (Execute 2 1)).seen
   pub before : namespace_bytes judged 2 ≡ replicate 512 2
   pub written : namespace_bytes (fault_free_step judged (Execute 2 1)).left 2 ≡ replicate 512 0

@@ -1,6 +1,13 @@
 //! Runs of the theorems about runs and about the policy.
 
-ghost use Rattle.nvme_theorem_runs.specs.Running.{AllowedOfAnyVerdict, DeniedOfAnyVerdict, DeniedWithoutRoom, PolicyAtWork, RunAtWork, RunOverFaults};
+ghost use Rattle.nvme_theorem_runs.specs.Running.{
+  AllowedOfAnyVerdict,
+  DeniedOfAnyVerdict,
+  DeniedWithoutRoom,
+  PolicyAtWork,
+  RunAtWork,
+  RunOverFaults,
+};
 
 /// RunIsUnique: a run of nine events. A Flush whose call fails is another run.
 #[tactic(auto, using(crate::proofs::RunningRuns::run_at_work, crate::proofs::RunningRuns::run_needs_no_fault))]
