@@ -2,7 +2,26 @@
 -- each event is as a test says.
 use Rattle.std.specs.List.{AllByRecursion}
 use Rattle.std.specs.Prelude.{not, slice_get, ◌&&◌}
-use Rattle.std.proofs.Common.{Bool, List, None, Option, Some, [], ap, false, refl, subst, sym, true, ℕ, ◌++◌, ◌==◌, ◌∙◌, ◌∷◌, ◌≡◌}
+use Rattle.std.proofs.Common.{
+  Bool,
+  List,
+  None,
+  Option,
+  Some,
+  [],
+  ap,
+  false,
+  refl,
+  subst,
+  sym,
+  true,
+  ℕ,
+  ◌++◌,
+  ◌==◌,
+  ◌∙◌,
+  ◌∷◌,
+  ◌≡◌,
+}
 use Rattle.std.proofs.lemmas.Bool.{eq-eqb}
 use Rattle.std.proofs.lemmas.List.{append-nil}
 use Rattle.nvme_spec.specs.declared.command.Command.{Command}
@@ -26,7 +45,15 @@ use Rattle.nvme_machine.specs.Controllers.{Controller, names}
 use Rattle.nvme_machine.specs.EventCalls.{AreCallsOfStep}
 use Rattle.nvme_machine.specs.FaultFree.{fault_free_left, fault_free_seen, fault_free_step}
 use Rattle.nvme_machine.specs.FaultFreeCalls.{event_calls, fault_free_calls}
-use Rattle.nvme_machine.specs.Fencing.{Allows, Forgets, IsAllowedAt, IsFleeting, LeavesReservation, ReservesNothing, RunWhere}
+use Rattle.nvme_machine.specs.Fencing.{
+  Allows,
+  Forgets,
+  IsAllowedAt,
+  IsFleeting,
+  LeavesReservation,
+  ReservesNothing,
+  RunWhere,
+}
 use Rattle.nvme_machine.specs.Preempted.{RunKeeping, place_after}
 use Rattle.nvme_machine.specs.Subsystems.{OfItsController, Run, Subsystem, controller_at, controller_of}
 use Rattle.nvme_machine.proofs.CallLaws.{run_calls_exist}
@@ -52,19 +79,24 @@ abbrev pub allows_now : List Command → Subsystem → Event → ℕ → Bool
 allows_now commands s (Execute k i) n = controller_allows commands s.world k i n (controller_at s k)
 allows_now commands s other n = false
 
-allowed-not : (commands : List Command) (s : Subsystem) (k i n : ℕ) → controller_allows commands s.world k i n (controller_at s k) ≡ false → IsAllowedAt commands s k i n → ⊥
+allowed-not : (commands : List Command) (s : Subsystem) (k i n : ℕ)
+    → controller_allows commands s.world k i n (controller_at s k) ≡ false → IsAllowedAt commands s k i n → ⊥
 allowed-not commands s k i n e x =
-    let here : controller_allows commands s.world k i n (Some x.controller) ≡ false = subst (λ o. controller_allows commands s.world k i n o ≡ false) x.at e in
+    let here : controller_allows commands s.world k i n (Some x.controller) ≡ false = subst
+    (λ o. controller_allows commands s.world k i n o ≡ false) x.at e in
     let one : command_allows commands s.world k x.controller.window n (Some x.command) ≡ false =
     subst (λ o. command_allows commands s.world k x.controller.window n o ≡ false) x.found here in
     let named : passes commands (io_verdict s.world k x.command.entry x.command.marked x.controller.window) ≡ false =
-    subst (λ b. (b && passes commands (io_verdict s.world k x.command.entry x.command.marked x.controller.window)) ≡ false) x.named one in
-    let passed : passes commands (Allowed x.allowed.plan) ≡ false = subst (λ v. passes commands v ≡ false) x.allowed.allowed named in
+    subst (λ b. (b && passes commands (io_verdict s.world k x.command.entry x.command.marked x.controller.window)) ≡
+    false) x.named one in
+    let passed : passes commands (Allowed x.allowed.plan) ≡ false = subst (λ v. passes commands v ≡ false)
+    x.allowed.allowed named in
     let is : is_one_of (Some x.allowed.plan.kind) commands ≡ true = x.allowed.is_one in
     absurd (cc)
 
 -- no event allows one of these
-pub no-allowing : (commands : List Command) (n : ℕ) (s : Subsystem) (event : Event) → allows_now commands s event n ≡ false → Allows commands s event n → ⊥
+pub no-allowing : (commands : List Command) (n : ℕ) (s : Subsystem) (event : Event)
+    → allows_now commands s event n ≡ false → Allows commands s event n → ⊥
 no-allowing commands n s (Execute k i) e x = allowed-not commands s k i n e x
 no-allowing commands n s (Store k address bytes) e x = x
 no-allowing commands n s (Write32 k offset v) e x = x
@@ -112,7 +144,8 @@ both true true e = (refl, refl)
 both true false e = absurd (cc)
 both false b e = absurd (cc)
 
-pub reserving-nothing : (n : ℕ) (s : Subsystem) (event : Event) → reserves_nothing n s event ≡ true → ReservesNothing n s event
+pub reserving-nothing : (n : ℕ) (s : Subsystem) (event : Event) → reserves_nothing n s event ≡ true
+    → ReservesNothing n s event
 reserving-nothing n s event e x = no-allowing reserving n s event (negated (allows_now reserving s event n) e) x
 
 pub leaving : (n : ℕ) (s : Subsystem) (event : Event) → leaves n s event ≡ true → LeavesReservation n s event
@@ -125,18 +158,25 @@ abbrev pub all_along : (Subsystem → Event → Bool) → Subsystem → List Eve
 all_along test s [] = true
 all_along test s (event ∷ events) = test s event && all_along test (fault_free_step s event).left events
 
-pub run-where : (test : Subsystem → Event → Bool) (P : Subsystem → Event → Type 0) → ((s : Subsystem) (event : Event) → test s event ≡ true → P s event)
+pub run-where : (test : Subsystem → Event → Bool) (P : Subsystem → Event → Type 0)
+    → ((s : Subsystem) (event : Event) → test s event ≡ true → P s event)
     → (s : Subsystem) (events : List Event) → IsLaidOut s.world s.device.content → all_along test s events ≡ true
     → RunWhere P s events (fault_free_seen s events) (fault_free_left s events)
 run-where test P so s [] laid e = refl
 run-where test P so s (event ∷ events) laid e =
     let next = (fault_free_step s event).left in
     let step = steps s event laid in
-    let parts = both (test s event) (all_along test next events) e in
-    (next, so s event parts.0, step, run-where test P so next events (layout_stays s next event (fault_free_step s event).seen laid step) parts.1)
+    let parts = both (test s event) (all_along test next events) e in (
+      next,
+      so s event parts.0,
+      step,
+      run-where test P so next events
+          (layout_stays s next event (fault_free_step s event).seen laid step) parts.1,
+    )
 
 -- the run without a fault
-pub plain-run : (s : Subsystem) (events : List Event) → IsLaidOut s.world s.device.content → Run true s events (fault_free_seen s events) (fault_free_left s events)
+pub plain-run : (s : Subsystem) (events : List Event) → IsLaidOut s.world s.device.content
+    → Run true s events (fault_free_seen s events) (fault_free_left s events)
 plain-run s events laid = (run_exists s events laid).0
 
 -- lists whose first bytes are 0 and 1
@@ -156,7 +196,8 @@ none_passes test [] = true
 none_passes test (PowerCycle ∷ events) = none_passes test events
 none_passes test (event ∷ events) = not (test (controller_of event)) && none_passes test events
 
-host-of : (test : ℕ → Bool) (event : Event) → test (controller_of event) ≡ false → OfItsController (λ k. test k ≡ false) event
+host-of : (test : ℕ → Bool) (event : Event) → test (controller_of event) ≡ false
+    → OfItsController (λ k. test k ≡ false) event
 host-of test (Store k address bytes) e = e
 host-of test (Write32 k offset v) e = e
 host-of test (Read32 k offset) e = e
@@ -164,7 +205,8 @@ host-of test (Fetch k q) e = e
 host-of test (Execute k i) e = e
 host-of test PowerCycle e = tt
 
-pub no-host : (test : ℕ → Bool) (events : List Event) → none_passes test events ≡ true → AllByRecursion (OfItsController (λ k. test k ≡ false)) events
+pub no-host : (test : ℕ → Bool) (events : List Event) → none_passes test events ≡ true
+    → AllByRecursion (OfItsController (λ k. test k ≡ false)) events
 no-host test [] e = tt
 no-host test (PowerCycle ∷ events) e = (tt, no-host test events e)
 no-host test (event ∷ events) e =
@@ -182,20 +224,29 @@ place_if (Some l) next = next l
 
 abbrev pub followed : Subsystem → ℕ → ℕ → List Event → Option ℕ
 followed s j m [] = Some m
-followed s j m (event ∷ events) = place_if (place_after s j m event) (λ l. followed (fault_free_step s event).left j l events)
+followed s j m (event ∷ events) = place_if (place_after s j m event)
+    (λ l. followed (fault_free_step s event).left j l events)
 
-some-place : (o : Option ℕ) (next : ℕ → Option ℕ) (l : ℕ) → place_if o next ≡ Some l → (place : ℕ) × (o ≡ Some place) × (next place ≡ Some l)
+some-place : (o : Option ℕ) (next : ℕ → Option ℕ) (l : ℕ) → place_if o next ≡ Some l → (place : ℕ) × (o ≡ Some place)
+    × (next place ≡ Some l)
 some-place None next l e = absurd (cc)
 some-place (Some place) next l e = (place, refl, e)
 
-pub run-keeping : (j : ℕ) (s : Subsystem) (m : ℕ) (events : List Event) (l : ℕ) → IsLaidOut s.world s.device.content → followed s j m events ≡ Some l
+pub run-keeping : (j : ℕ) (s : Subsystem) (m : ℕ) (events : List Event) (l : ℕ) → IsLaidOut s.world s.device.content
+    → followed s j m events ≡ Some l
     → RunKeeping true j s m events (fault_free_seen s events) (fault_free_left s events) l
 run-keeping j s m [] l laid e = let same : l ≡ m = cc in (refl, same)
 run-keeping j s m (event ∷ events) l laid e =
     let next = (fault_free_step s event).left in
     let step = steps s event laid in
-    let p = some-place (place_after s j m event) (λ place. followed next j place events) l e in
-    (next, p.0, step, p.1, run-keeping j next p.0 events l (layout_stays s next event (fault_free_step s event).seen laid step) p.2)
+    let p = some-place (place_after s j m event) (λ place. followed next j place events) l e in (
+      next,
+      p.0,
+      step,
+      p.1,
+      run-keeping j next p.0 events l (layout_stays s next event (fault_free_step s event).seen
+          laid step) p.2,
+    )
 
 -- the rule that denied what an event executed; 0, if none did
 abbrev pub rule_of : Seen → ℕ
@@ -207,21 +258,32 @@ pub step-calls : (s : Subsystem) (event : Event) → IsLaidOut s.world s.device.
     → AreCallsOfStep true s event (fault_free_step s event).seen (fault_free_step s event).left (event_calls s event)
 step-calls s event laid =
     let r = (run_calls_exist s (event ∷ []) laid).0 in
-    let own : r.1 ≡ event_calls s event = sym (append-nil r.1) ∙ ap (λ cs. r.1 ++ cs) (sym r.4.1) ∙ sym r.5 ∙ append-nil (event_calls s event) in
+    let own : r.1 ≡ event_calls s event = sym (append-nil r.1) ∙ ap (λ cs. r.1 ++ cs) (sym r.4.1) ∙ sym r.5
+    ∙ append-nil (event_calls s event) in
     subst (λ cs. AreCallsOfStep true s event (fault_free_step s event).seen (fault_free_step s event).left cs) own
     (subst (λ mid. AreCallsOfStep true s event (fault_free_step s event).seen mid r.1) (sym r.4.0) r.3)
 
-pub calls-where : (test : Subsystem → Event → Bool) (P : Subsystem → Event → Type 0) → ((s : Subsystem) (event : Event) → test s event ≡ true → P s event)
+pub calls-where : (test : Subsystem → Event → Bool) (P : Subsystem → Event → Type 0)
+    → ((s : Subsystem) (event : Event) → test s event ≡ true → P s event)
     → (s : Subsystem) (events : List Event) → IsLaidOut s.world s.device.content → all_along test s events ≡ true
     → CallsWhere P true s events (fault_free_seen s events) (fault_free_left s events) (fault_free_calls s events)
 calls-where test P so s [] laid e = (refl, refl)
 calls-where test P so s (event ∷ events) laid e =
     let next = (fault_free_step s event).left in
     let parts = both (test s event) (all_along test next events) e in
-    let rest = layout_stays s next event (fault_free_step s event).seen laid (steps s event laid) in
-    (next, event_calls s event, fault_free_calls next events, so s event parts.0, step-calls s event laid, calls-where test P so next events rest parts.1, refl)
+    let rest = layout_stays s next event (fault_free_step s event).seen laid (steps s event laid) in (
+      next,
+      event_calls s event,
+      fault_free_calls next events,
+      so s event parts.0,
+      step-calls s event laid,
+      calls-where test P so next events rest parts.1,
+      refl,
+    )
 
-pub left-laid : (s : Subsystem) (events : List Event) → IsLaidOut s.world s.device.content → IsLaidOut (fault_free_left s events).world (fault_free_left s events).device.content
+pub left-laid : (s : Subsystem) (events : List Event) → IsLaidOut s.world s.device.content
+    → IsLaidOut (fault_free_left s events).world (fault_free_left s events).device.content
 left-laid s [] laid = laid
 left-laid s (event ∷ events) laid =
-    left-laid (fault_free_step s event).left events (layout_stays s (fault_free_step s event).left event (fault_free_step s event).seen laid (steps s event laid))
+    left-laid (fault_free_step s event).left events (layout_stays s (fault_free_step s event).left event
+    (fault_free_step s event).seen laid (steps s event laid))

@@ -18,11 +18,27 @@ use Rattle.nvme_machine.proofs.CallLaws.{run_calls_exist}
 use Rattle.nvme_machine.proofs.Determined.{steps}
 use Rattle.nvme_machine.proofs.MixedRuns.{fencing_holds_of_each_event}
 use Rattle.nvme_theorem_runs.specs.Cluster.{held_by_a1, zeroes}
-use Rattle.nvme_theorem_runs.specs.EachEvent.{EachEventAtWork, EachEventOfAnyHost, SecrecyOfAnyHost, all_events, both_write, front}
+use Rattle.nvme_theorem_runs.specs.EachEvent.{
+  EachEventAtWork,
+  EachEventOfAnyHost,
+  SecrecyOfAnyHost,
+  all_events,
+  both_write,
+  front,
+}
 use Rattle.nvme_theorem_runs.specs.Reading.{other_blocks, read_entry}
 use Rattle.nvme_theorem_runs.proofs.Computing.{apart, distinct, first_of, left-laid, step-calls}
 use Rattle.nvme_theorem_runs.proofs.Laying.{laid}
-use Rattle.nvme_theorem_runs.proofs.ReadingRuns.{differ, few-read, front_of, fronts, one_read, open_one, other-laid, quiet}
+use Rattle.nvme_theorem_runs.proofs.ReadingRuns.{
+  differ,
+  few-read,
+  front_of,
+  fronts,
+  one_read,
+  open_one,
+  other-laid,
+  quiet,
+}
 use Rattle.nvme_theorem_runs.proofs.Unfolding.{computing}
 
 both-laid : IsLaidOut both_write.world both_write.device.content
@@ -38,20 +54,26 @@ now-laid : IsLaidOut now_of.world now_of.device.content
 now-laid = left-laid both_write front both-laid
 
 -- the calls of the three events
-three-calls : (fault_free_calls both_write front ≡ Writes 0 (replicate 512 0) (Ok tt) ∷ []) × (event_calls now_of (Execute 2 0) ≡ [])
+three-calls : (fault_free_calls both_write front ≡ Writes 0 (replicate 512 0) (Ok tt) ∷ [])
+    × (event_calls now_of (Execute 2 0) ≡ [])
     × (fault_free_calls next_of (PowerCycle ∷ []) ≡ [])
 unfolding computing
 three-calls = (refl, refl, refl)
 
-first-calls : AreCallsOfRun true both_write front (fault_free_seen both_write front) now_of (Writes 0 (replicate 512 0) (Ok tt) ∷ [])
-first-calls = subst (λ cs. AreCallsOfRun true both_write front (fault_free_seen both_write front) now_of cs) three-calls.0 (run_calls_exist both_write front both-laid).0
+first-calls : AreCallsOfRun true both_write front (fault_free_seen both_write front) now_of
+    (Writes 0 (replicate 512 0) (Ok tt) ∷ [])
+first-calls = subst (λ cs. AreCallsOfRun true both_write front (fault_free_seen both_write front) now_of cs)
+    three-calls.0 (run_calls_exist both_write front both-laid).0
 
 own-calls : AreCallsOfStep true now_of (Execute 2 0) (fault_free_step now_of (Execute 2 0)).seen next_of []
-own-calls = subst (λ cs. AreCallsOfStep true now_of (Execute 2 0) (fault_free_step now_of (Execute 2 0)).seen next_of cs) three-calls.1
+own-calls = subst (λ cs. AreCallsOfStep true now_of (Execute 2 0) (fault_free_step now_of (Execute 2 0)).seen next_of
+    cs) three-calls.1
     (step-calls now_of (Execute 2 0) now-laid)
 
-last-calls : AreCallsOfRun true next_of (PowerCycle ∷ []) (fault_free_seen next_of (PowerCycle ∷ [])) (fault_free_left next_of (PowerCycle ∷ [])) []
-last-calls = subst (λ cs. AreCallsOfRun true next_of (PowerCycle ∷ []) (fault_free_seen next_of (PowerCycle ∷ [])) (fault_free_left next_of (PowerCycle ∷ [])) cs) three-calls.2
+last-calls : AreCallsOfRun true next_of (PowerCycle ∷ []) (fault_free_seen next_of (PowerCycle ∷ []))
+    (fault_free_left next_of (PowerCycle ∷ [])) []
+last-calls = subst (λ cs. AreCallsOfRun true next_of (PowerCycle ∷ []) (fault_free_seen next_of (PowerCycle ∷ []))
+    (fault_free_left next_of (PowerCycle ∷ [])) cs) three-calls.2
     (run_calls_exist next_of (PowerCycle ∷ []) (left-laid now_of (Execute 2 0 ∷ []) now-laid)).0
 
 abbrev the_cut : IsCutAt true both_write front (Execute 2 0) (PowerCycle ∷ []) (fault_free_seen both_write all_events)
@@ -72,7 +94,8 @@ the_cut = record {
   joined = refl;
 }
 
-facts : (namespace_bytes both_write 1 ≡ replicate 512 1) × (namespace_bytes now_of 1 ≡ replicate 512 0) × (may_write now_of.world 2 1 ≡ false)
+facts : (namespace_bytes both_write 1 ≡ replicate 512 1) × (namespace_bytes now_of 1 ≡ replicate 512 0)
+    × (may_write now_of.world 2 1 ≡ false)
 unfolding computing
 facts = (refl, refl, refl)
 
@@ -83,13 +106,15 @@ each_event_at_work = record {
   before = facts.0;
   written = facts.1;
   fenced_host = facts.2;
-  holds = fencing_holds_of_each_event true both_write (fault_free_left both_write all_events) front (PowerCycle ∷ []) (Execute 2 0)
+  holds = fencing_holds_of_each_event true both_write (fault_free_left both_write all_events) front (PowerCycle ∷ [])
+      (Execute 2 0)
       (fault_free_seen both_write all_events) (Writes 0 (replicate 512 0) (Ok tt) ∷ []) 1 the_cut facts.2;
 }
 
 -- a run of one event, cut there
 abbrev alone : (s : Subsystem) (event : Event) → IsLaidOut s.world s.device.content
-    → IsCutAt true s [] event [] ((fault_free_step s event).seen ∷ []) (fault_free_step s event).left (event_calls s event)
+    → IsCutAt true s [] event [] ((fault_free_step s event).seen ∷ []) (fault_free_step s event).left
+    (event_calls s event)
 alone s event on = record {
   given = [];
   gives = (fault_free_step s event).seen;
@@ -106,7 +131,8 @@ alone s event on = record {
   joined = sym (append-nil (event_calls s event));
 }
 
-first-bytes : (first_of (namespace_bytes both_write 1) ≡ 1) × (first_of (namespace_bytes (fault_free_step both_write (Execute 1 0)).left 1) ≡ 0)
+first-bytes : (first_of (namespace_bytes both_write 1) ≡ 1) ×
+    (first_of (namespace_bytes (fault_free_step both_write (Execute 1 0)).left 1) ≡ 0)
 unfolding computing
 first-bytes = (refl, refl)
 
@@ -114,7 +140,8 @@ pub each_event_needs_the_host : EachEventOfAnyHost → ⊥
 each_event_needs_the_host law =
     let event : Event = Execute 1 0 in
     let next = fault_free_step both_write event in
-    let nothing = law true both_write next.left [] [] event (next.seen ∷ []) (event_calls both_write event) 1 (alone both_write event both-laid) in
+    let nothing = law true both_write next.left [] [] event (next.seen ∷ []) (event_calls both_write event) 1
+    (alone both_write event both-laid) in
     apart _ _ first-bytes.1 first-bytes.0 (nothing.bytes refl both-laid)
 
 pub secrecy_needs_the_host : SecrecyOfAnyHost → ⊥
@@ -125,6 +152,8 @@ secrecy_needs_the_host law =
     let on = laid (held_by_a1 1) [] (of_queue_1 read_entry ∷ []) in
     let other = fault_free_step (over other_blocks open_one) event in
     let other_on = other-laid (held_by_a1 1) [] (of_queue_1 read_entry ∷ []) in
-    let is = law open_one next.left [] [] event (next.seen ∷ []) (event_calls open_one event) 1 other_blocks on (alone open_one event on)
-    (differ (held_by_a1 1) [] (of_queue_1 read_entry ∷ [])) other.left other.seen (steps (over other_blocks open_one) event other_on) quiet.0 quiet.1 few-read in
+    let is = law open_one next.left [] [] event (next.seen ∷ []) (event_calls open_one event) 1 other_blocks on
+    (alone open_one event on)
+    (differ (held_by_a1 1) [] (of_queue_1 read_entry ∷ [])) other.left other.seen
+    (steps (over other_blocks open_one) event other_on) quiet.0 quiet.1 few-read in
     distinct 9 1 refl (sym fronts.1 ∙ ap front_of is.1 ∙ fronts.0)

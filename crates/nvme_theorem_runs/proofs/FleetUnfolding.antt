@@ -1,7 +1,13 @@
 -- The definitions that example runs of fleets are computed with, besides those of a subsystem.
 use Rattle.nvme_wire.specs.Submission.{submission_entry}
 use Rattle.nvme_spec.specs.IoRules.{verdict}
-use Rattle.nvme_mailbox.specs.Executions.{RequestComesTo, admin_judgement, admin_request_execution, command_entry, io_judgement}
+use Rattle.nvme_mailbox.specs.Executions.{
+  RequestComesTo,
+  admin_judgement,
+  admin_request_execution,
+  command_entry,
+  io_judgement,
+}
 use Rattle.nvme_mailbox.specs.FaultFree.{request_execution}
 use Rattle.nvme_mailbox.specs.Fleets.{after_answer, host_at, opening, power_cycled, settled, with_host}
 use Rattle.nvme_mailbox.specs.IoCommands.{command_at}

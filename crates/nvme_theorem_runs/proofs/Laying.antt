@@ -14,8 +14,10 @@ pub fits : first_config_fault pair 2 ≡ None
 unfolding first_config_fault
 fits = refl
 
-pub laid : (r : Reservation) (first second : List FetchedCommand) → IsLaidOut (cluster r first second).world (cluster r first second).device.content
+pub laid : (r : Reservation) (first second : List FetchedCommand)
+    → IsLaidOut (cluster r first second).world (cluster r first second).device.content
 unfolding cluster
 laid r first second =
-    layout-kept (opening_world pair) (reserved r) blocks.content blocks.content (layout-reserved (opening_world pair) 1 r) refl
+    layout-kept (opening_world pair) (reserved r) blocks.content blocks.content
+    (layout-reserved (opening_world pair) 1 r) refl
     (opening_is_laid_out pair 2 blocks.content refl fits)

@@ -1,7 +1,31 @@
 -- The example runs of what changes a medium and a reservation, and of calls, computed.
 use Rattle.std.specs.List.{AllByRecursion}
 use Rattle.std.specs.Prelude.{replicate, slice_get}
-use Rattle.std.proofs.Common.{List, None, Ok, Option, Some, [], ap, arith, false, inl, inr, refl, subst, sym, true, ℕ, ◌+◌, ◌<◌, ◌∙◌, ◌∷◌, ◌≡◌, ◌≤◌, ◌⊎◌}
+use Rattle.std.proofs.Common.{
+  List,
+  None,
+  Ok,
+  Option,
+  Some,
+  [],
+  ap,
+  arith,
+  false,
+  inl,
+  inr,
+  refl,
+  subst,
+  sym,
+  true,
+  ℕ,
+  ◌+◌,
+  ◌<◌,
+  ◌∙◌,
+  ◌∷◌,
+  ◌≡◌,
+  ◌≤◌,
+  ◌⊎◌,
+}
 use Rattle.nvme_wire.specs.Submission.{opcode}
 use Rattle.nvme_spec.specs.declared.command.Command.TheVariants.{ReservationRegister, WriteZeroes}
 use Rattle.nvme_spec.specs.Bytes.{with_bytes}
@@ -26,7 +50,12 @@ use Rattle.nvme_machine.specs.CommandExecutions.{CommandExecution}
 use Rattle.nvme_machine.specs.Controllers.{QueuePair, names, queues_of}
 use Rattle.nvme_machine.specs.EventCalls.{AreCallsOfRun, AreCallsOfStep}
 use Rattle.nvme_machine.specs.Executing.{Setting, scene_in, setting}
-use Rattle.nvme_machine.specs.FaultFree.{fault_free_command_execution, fault_free_left, fault_free_seen, fault_free_step}
+use Rattle.nvme_machine.specs.FaultFree.{
+  fault_free_command_execution,
+  fault_free_left,
+  fault_free_seen,
+  fault_free_step,
+}
 use Rattle.nvme_machine.specs.FaultFreeCalls.{event_calls, fault_free_calls}
 use Rattle.nvme_machine.specs.Fencing.{Allows, Forgets, LeavesReservation, namespace_bytes}
 use Rattle.nvme_machine.specs.Subsystems.{after_completion, controller_at}
@@ -34,11 +63,67 @@ use Rattle.nvme_machine.proofs.AllowedCalls.{calls_of_runs_are_allowed}
 use Rattle.nvme_machine.proofs.CallLaws.{run_calls_exist}
 use Rattle.nvme_machine.proofs.Determined.{steps}
 use Rattle.nvme_machine.proofs.FencedCalls.{fenced_hosts_write_no_block}
-use Rattle.nvme_theorem_runs.specs.Cluster.{acquire, cluster, done, flush, held_by_a1, ready, register, with_b2, zeroes, zeroes_entry, zeros}
+use Rattle.nvme_theorem_runs.specs.Cluster.{
+  acquire,
+  cluster,
+  done,
+  flush,
+  held_by_a1,
+  ready,
+  register,
+  with_b2,
+  zeroes,
+  zeroes_entry,
+  zeros,
+}
 use Rattle.nvme_theorem_runs.specs.Fencing.{after_fenced, fenced, fenced_events, fenced_seen}
-use Rattle.nvme_theorem_runs.specs.Medium.{CallsAtWork, CallsOfAnyHost, CallsOfAnyList, CommandAtWork, CommandOfAnyHost, FlushAtWork, FlushOfAnyCommand, FlushOfAnyStatus, NoCallOfAnyCommand, ReservingAtWork, ReservingWithoutAStep, WritingAtWork, WritingOnAnyLayout, fenced_calls, first_block, fleeting, flushing, one_command, registering, writing}
-use Rattle.nvme_theorem_runs.proofs.Computing.{allows_now, apart, calls-where, distinct, first_of, forgets_now, leaves, leaving, no-allowing, no-forgetting, step-calls}
-use Rattle.nvme_theorem_runs.proofs.FencingRuns.{fenced-host, fenced-leaves, holding, holding-leaves, lapped, lapping, lapping-bytes, lapping-step, one_execution, seen-so}
+use Rattle.nvme_theorem_runs.specs.Medium.{
+  CallsAtWork,
+  CallsOfAnyHost,
+  CallsOfAnyList,
+  CommandAtWork,
+  CommandOfAnyHost,
+  FlushAtWork,
+  FlushOfAnyCommand,
+  FlushOfAnyStatus,
+  NoCallOfAnyCommand,
+  ReservingAtWork,
+  ReservingWithoutAStep,
+  WritingAtWork,
+  WritingOnAnyLayout,
+  fenced_calls,
+  first_block,
+  fleeting,
+  flushing,
+  one_command,
+  registering,
+  writing,
+}
+use Rattle.nvme_theorem_runs.proofs.Computing.{
+  allows_now,
+  apart,
+  calls-where,
+  distinct,
+  first_of,
+  forgets_now,
+  leaves,
+  leaving,
+  no-allowing,
+  no-forgetting,
+  step-calls,
+}
+use Rattle.nvme_theorem_runs.proofs.FencingRuns.{
+  fenced-host,
+  fenced-leaves,
+  holding,
+  holding-leaves,
+  lapped,
+  lapping,
+  lapping-bytes,
+  lapping-step,
+  one_execution,
+  seen-so,
+}
 use Rattle.nvme_theorem_runs.proofs.Laying.{laid}
 use Rattle.nvme_theorem_runs.proofs.Unfolding.{computing}
 use Rattle.nvme_spec.specs.Statuses as status
@@ -56,12 +141,14 @@ allowed-write = record {
   allowed = record { plan = plan_of WriteZeroes (zeroes_entry 2); allowed = refl; is_one = refl };
 }
 
-not-allowed : (allows_now altering writing (Execute 2 0) 1 ≡ false) × (allows_now altering writing (Execute 2 1) 1 ≡ false)
+not-allowed : (allows_now altering writing (Execute 2 0) 1 ≡ false)
+    × (allows_now altering writing (Execute 2 1) 1 ≡ false)
     × (allows_now reserving writing (Execute 2 1) 2 ≡ false)
 unfolding computing
 not-allowed = (refl, refl, refl)
 
-written-bytes : (namespace_bytes writing 2 ≡ replicate 512 2) × (namespace_bytes (fault_free_step writing (Execute 2 1)).left 2 ≡ replicate 512 0)
+written-bytes : (namespace_bytes writing 2 ≡ replicate 512 2)
+    × (namespace_bytes (fault_free_step writing (Execute 2 1)).left 2 ≡ replicate 512 0)
     × (namespace_bytes (fault_free_step writing (Execute 2 0)).left 1 ≡ namespace_bytes writing 1)
 unfolding computing
 written-bytes = (refl, refl, refl)
@@ -107,7 +194,8 @@ allowed-register = record {
   allowed = record { plan = plan_of ReservationRegister register.entry; allowed = refl; is_one = refl };
 }
 
-denied-acquire : (allows_now reserving registering (Execute 2 1) 1 ≡ false) × (forgets_now registering PowerCycle 1 ≡ false)
+denied-acquire : (allows_now reserving registering (Execute 2 1) 1 ≡ false)
+    × (forgets_now registering PowerCycle 1 ≡ false)
 unfolding computing
 denied-acquire = (refl, refl)
 
@@ -161,14 +249,17 @@ calls-so = refl
 fenced-run : AreCallsOfRun true fenced fenced_events fenced_seen after_fenced fenced_calls
 fenced-run =
     subst (λ seen. AreCallsOfRun true fenced fenced_events seen after_fenced fenced_calls) seen-so
-    (subst (λ cs. AreCallsOfRun true fenced fenced_events (fault_free_seen fenced fenced_events) after_fenced cs) calls-so
+    (subst (λ cs. AreCallsOfRun true fenced fenced_events (fault_free_seen fenced fenced_events) after_fenced cs)
+    calls-so
     (run_calls_exist fenced fenced_events (laid (held_by_a1 1) [] [])).0)
 
 fenced-where : CallsWhere (LeavesReservation 1) true fenced fenced_events fenced_seen after_fenced fenced_calls
 fenced-where =
     subst (λ seen. CallsWhere (LeavesReservation 1) true fenced fenced_events seen after_fenced fenced_calls) seen-so
-    (subst (λ cs. CallsWhere (LeavesReservation 1) true fenced fenced_events (fault_free_seen fenced fenced_events) after_fenced cs) calls-so
-    (calls-where (leaves 1) (LeavesReservation 1) (leaving 1) fenced fenced_events (laid (held_by_a1 1) [] []) fenced-leaves))
+    (subst (λ cs. CallsWhere (LeavesReservation 1) true fenced fenced_events (fault_free_seen fenced fenced_events)
+    after_fenced cs) calls-so
+    (calls-where (leaves 1) (LeavesReservation 1) (leaving 1) fenced fenced_events (laid (held_by_a1 1) [] [])
+    fenced-leaves))
 
 fenced-extent : extent_of fenced.world 1 ≡ Some first_block
 unfolding computing
@@ -183,10 +274,12 @@ calls_at_work =
       own = own;
       extent = fenced-extent;
       leaving = fenced-where;
-      holds = fenced_hosts_write_no_block true fenced after_fenced fenced_events fenced_seen fenced_calls 1 first_block own fenced-extent fenced-where fenced-host;
+      holds = fenced_hosts_write_no_block true fenced after_fenced fenced_events fenced_seen fenced_calls 1
+          first_block own fenced-extent fenced-where fenced-host;
     }
 
-holding-calls : (fault_free_calls holding (one_execution 1) ≡ Writes 0 (replicate 512 0) (Ok tt) ∷ []) × (extent_of holding.world 1 ≡ Some first_block)
+holding-calls : (fault_free_calls holding (one_execution 1) ≡ Writes 0 (replicate 512 0) (Ok tt) ∷ [])
+    × (extent_of holding.world 1 ≡ Some first_block)
 unfolding computing one_execution
 holding-calls = (refl, refl)
 
@@ -200,7 +293,8 @@ pub calls_need_the_host : CallsOfAnyHost → ⊥
 calls_need_the_host law =
     let on = laid (held_by_a1 1) (zeroes 1 ∷ []) [] in
     let run = calls-where (leaves 1) (LeavesReservation 1) (leaving 1) holding (one_execution 1) on holding-leaves in
-    let off = law true holding (fault_free_left holding (one_execution 1)) (one_execution 1) (fault_free_seen holding (one_execution 1))
+    let off = law true holding (fault_free_left holding (one_execution 1)) (one_execution 1)
+    (fault_free_seen holding (one_execution 1))
     (fault_free_calls holding (one_execution 1)) 1 first_block on.apart holding-calls.1 run in
     not-off (subst (λ cs. AllByRecursion (KeepsOff first_block) cs) holding-calls.0 off)
 
@@ -208,35 +302,49 @@ pub calls_need_a_step : CallsOfAnyList → ⊥
 calls_need_a_step law =
     let event : Event = Fetch 2 1 in
     let next = fault_free_step fenced event in
-    absurd (law true fenced next.left event next.seen (Flushes (Ok tt) ∷ []) (steps fenced event (laid (held_by_a1 1) [] []))).0
+    absurd (law true fenced next.left event next.seen (Flushes (Ok tt) ∷ [])
+    (steps fenced event (laid (held_by_a1 1) [] []))).0
 
 -- Flushes.
 
 flushing-laid : IsLaidOut flushing.world flushing.device.content
 flushing-laid = laid (held_by_a1 1) [] (flush 1 ∷ flush 2 ∷ zeroes 2 ∷ [])
 
-is-flush : (i n : ℕ) → slice_get (flush 1 ∷ flush 2 ∷ zeroes 2 ∷ []) i ≡ Some (flush n) → opcode (flush n).entry ≡ 0 → IsFlushAt flushing 2 i
+is-flush : (i n : ℕ) → slice_get (flush 1 ∷ flush 2 ∷ zeroes 2 ∷ []) i ≡ Some (flush n) → opcode (flush n).entry ≡ 0
+    → IsFlushAt flushing 2 i
 unfolding computing
-is-flush i n found is = record { controller = ready 2 zeros (flush 1 ∷ flush 2 ∷ zeroes 2 ∷ []); command = flush n; at = refl; found = found; io = refl; is = is }
+is-flush i n found is = record {
+  controller = ready 2 zeros (flush 1 ∷ flush 2 ∷ zeroes 2 ∷ []);
+  command = flush n;
+  at = refl;
+  found = found;
+  io = refl;
+  is = is;
+}
 
 opcodes : (opcode (flush 1).entry ≡ 0) × (opcode (flush 2).entry ≡ 0)
 unfolding computing
 opcodes = (refl, refl)
 
-flush-calls : (event_calls flushing (Execute 2 0) ≡ []) × (event_calls flushing (Execute 2 1) ≡ Flushes (Ok tt) ∷ []) × (event_calls flushing (Execute 2 2) ≡ Writes 1 (replicate 512 0) (Ok tt) ∷ [])
+flush-calls : (event_calls flushing (Execute 2 0) ≡ []) × (event_calls flushing (Execute 2 1) ≡ Flushes (Ok tt) ∷ [])
+    × (event_calls flushing (Execute 2 2) ≡ Writes 1 (replicate 512 0) (Ok tt) ∷ [])
 unfolding computing
 flush-calls = (refl, refl, refl)
 
-flush-seen : ((fault_free_step flushing (Execute 2 0)).seen ≡ Executed (Posted (denial_outcome 7 status.reservation_conflict)))
-    × ((fault_free_step flushing (Execute 2 1)).seen ≡ Executed (Posted done)) × ((fault_free_step flushing (Execute 2 2)).seen ≡ Executed (Posted done))
+flush-seen : ((fault_free_step flushing (Execute 2 0)).seen ≡ Executed
+    (Posted (denial_outcome 7 status.reservation_conflict)))
+    × ((fault_free_step flushing (Execute 2 1)).seen ≡ Executed (Posted done))
+    × ((fault_free_step flushing (Execute 2 2)).seen ≡ Executed (Posted done))
 unfolding computing
 flush-seen = (refl, refl, refl)
 
-stepping : (i : ℕ) (seen : Seen) (calls : List MediumCall) → (fault_free_step flushing (Execute 2 i)).seen ≡ seen → event_calls flushing (Execute 2 i) ≡ calls
+stepping : (i : ℕ) (seen : Seen) (calls : List MediumCall) → (fault_free_step flushing (Execute 2 i)).seen ≡ seen
+    → event_calls flushing (Execute 2 i) ≡ calls
     → AreCallsOfStep true flushing (Execute 2 i) seen (fault_free_step flushing (Execute 2 i)).left calls
 stepping i seen calls s c =
     subst (λ x. AreCallsOfStep true flushing (Execute 2 i) x (fault_free_step flushing (Execute 2 i)).left calls) s
-    (subst (λ x. AreCallsOfStep true flushing (Execute 2 i) (fault_free_step flushing (Execute 2 i)).seen (fault_free_step flushing (Execute 2 i)).left x) c
+    (subst (λ x. AreCallsOfStep true flushing (Execute 2 i) (fault_free_step flushing (Execute 2 i)).seen
+    (fault_free_step flushing (Execute 2 i)).left x) c
     (step-calls flushing (Execute 2 i) flushing-laid))
 
 pub flush_at_work : FlushAtWork
@@ -254,33 +362,39 @@ flushes (call ∷ calls) = 2
 pub flush_needs_a_flush : FlushOfAnyCommand → ⊥
 unfolding flushes
 flush_needs_a_flush law =
-    distinct 2 1 refl (ap flushes (law true flushing (fault_free_step flushing (Execute 2 2)).left 2 2 done (Writes 1 (replicate 512 0) (Ok tt) ∷ [])
+    distinct 2 1 refl (ap flushes (law true flushing (fault_free_step flushing (Execute 2 2)).left 2 2 done
+    (Writes 1 (replicate 512 0) (Ok tt) ∷ [])
     (stepping 2 _ _ flush-seen.2 flush-calls.2) refl))
 
 pub flush_needs_success : FlushOfAnyStatus → ⊥
 unfolding flushes
 flush_needs_success law =
-    distinct 0 1 refl (ap flushes (law true flushing (fault_free_step flushing (Execute 2 0)).left 2 0 (denial_outcome 7 status.reservation_conflict) []
+    distinct 0 1 refl (ap flushes (law true flushing (fault_free_step flushing (Execute 2 0)).left 2 0
+    (denial_outcome 7 status.reservation_conflict) []
     (stepping 0 _ _ flush-seen.0 flush-calls.0) (is-flush 0 1 refl opcodes.0)))
 
 -- One command.
 
-holding-at : (controller_at holding 1 ≡ Some (ready 1 zeros (zeroes 1 ∷ []))) × (names 1 (zeroes 1) ≡ true) × (event_calls holding (Execute 1 0) ≡ Writes 0 (replicate 512 0) (Ok tt) ∷ [])
+holding-at : (controller_at holding 1 ≡ Some (ready 1 zeros (zeroes 1 ∷ []))) × (names 1 (zeroes 1) ≡ true)
+    × (event_calls holding (Execute 1 0) ≡ Writes 0 (replicate 512 0) (Ok tt) ∷ [])
 unfolding computing
 holding-at = (refl, refl, refl)
 
 pub command_needs_the_host : CommandOfAnyHost → ⊥
 command_needs_the_host law =
     let next = fault_free_step holding (Execute 1 0) in
-    let reads = law true holding next.left 1 0 1 (ready 1 zeros (zeroes 1 ∷ [])) (zeroes 1) next.seen (event_calls holding (Execute 1 0))
+    let reads = law true holding next.left 1 0 1 (ready 1 zeros (zeroes 1 ∷ [])) (zeroes 1) next.seen
+    (event_calls holding (Execute 1 0))
     (step-calls holding (Execute 1 0) (laid (held_by_a1 1) (zeroes 1 ∷ []) [])) holding-at.0 refl holding-at.1 in
     (subst (λ cs. AllByRecursion IsReading cs) holding-at.2 reads).0
 
 abbrev comes : ℕ → CommandExecution
-comes n = fault_free_command_execution (queues_of (ready 2 zeros (zeroes n ∷ []))) 2 (zeroes n) (scene_in (one_command (zeroes n)))
+comes n = fault_free_command_execution (queues_of (ready 2 zeros (zeroes n ∷ []))) 2 (zeroes n)
+    (scene_in (one_command (zeroes n)))
 
 abbrev finished : ℕ → Setting
-finished n = setting (after_completion 0 (zeroes n) queues (comes n) (ready 2 zeros (zeroes n ∷ []))) (comes n).left.world (comes n).left.device
+finished n = setting (after_completion 0 (zeroes n) queues (comes n) (ready 2 zeros (zeroes n ∷ [])))
+    (comes n).left.world (comes n).left.device
   where
     queues : QueuePair
     queues = record {
@@ -297,7 +411,13 @@ one-writes = record {
       refl,
       record {
         returned = [];
-        effect = record { world = refl; effect = (inl (record { answered = refl; failures = refl }, λ told. refl), refl) };
+        effect = record {
+          world = refl;
+          effect = (
+            inl (record { answered = refl; failures = refl }, λ told. refl),
+            refl,
+          );
+        };
         window = refl;
         dw0 = refl;
         rule = refl;
@@ -312,10 +432,18 @@ one-writes = record {
   are = record { read = []; passed = 1; answer = Ok tt; reached = (refl, refl); are = refl };
 }
 
-one-refused : AreCallsNth true 0 (one_command (zeroes 1)) (Posted (denial_outcome 7 status.reservation_conflict)) (finished 1) []
+one-refused : AreCallsNth true 0 (one_command (zeroes 1)) (Posted (denial_outcome 7 status.reservation_conflict))
+    (finished 1) []
 unfolding computing AreCallsOfExecution
 one-refused = record {
-  finishes = record { execution = comes 1; comes_to = (refl, (refl, refl)); gives = refl; controller = refl; world = refl; device = refl };
+  finishes = record {
+    execution = comes 1;
+    comes_to = (refl, (refl, refl));
+    gives = refl;
+    controller = refl;
+    world = refl;
+    device = refl;
+  };
   are = refl;
 }
 
@@ -324,4 +452,5 @@ command_at_work = record { written = finished 2; writes = one-writes; refused = 
 
 pub no_call_needs_a_denial : NoCallOfAnyCommand → ⊥
 unfolding flushes fenced_calls
-no_call_needs_a_denial law = distinct 2 0 refl (ap flushes (law true 0 (one_command (zeroes 2)) (finished 2) done fenced_calls one-writes))
+no_call_needs_a_denial law = distinct 2 0 refl (ap flushes (law true 0 (one_command (zeroes 2)) (finished 2) done
+    fenced_calls one-writes))

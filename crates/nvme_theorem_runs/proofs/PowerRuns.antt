@@ -20,14 +20,65 @@ use Rattle.nvme_machine.specs.PowerCycles.{IsCycled, Persists}
 use Rattle.nvme_machine.specs.Secrecy.{MayNotRead, over}
 use Rattle.nvme_machine.specs.Subsystems.{OfItsController, Run, Subsystem, after_power_cycle, controller_at}
 use Rattle.nvme_machine.proofs.Determined.{steps}
-use Rattle.nvme_machine.proofs.PowerCycles.{fencing_outlasts_power, persistence_lasts, power_takes, protected_until_power, secrecy_outlasts_power}
-use Rattle.nvme_theorem_runs.specs.Cluster.{acquire, cluster, fetched_of, forgotten, held_by_a1, ready, register, reserved, zeroes, zeros}
+use Rattle.nvme_machine.proofs.PowerCycles.{
+  fencing_outlasts_power,
+  persistence_lasts,
+  power_takes,
+  protected_until_power,
+  secrecy_outlasts_power,
+}
+use Rattle.nvme_theorem_runs.specs.Cluster.{
+  acquire,
+  cluster,
+  fetched_of,
+  forgotten,
+  held_by_a1,
+  ready,
+  register,
+  reserved,
+  zeroes,
+  zeros,
+}
 use Rattle.nvme_theorem_runs.specs.Fencing.{after_fenced, fenced, fenced_events, fenced_seen}
 use Rattle.nvme_theorem_runs.specs.Medium.{fleeting}
-use Rattle.nvme_theorem_runs.specs.Power.{OutlastingAtWork, OutlastingOfAnyReservation, OutlastingOverAnyRun, PowerAtWork, PowerTakesByAnyEvent, ProtectionAtWork, ProtectionOfAnyKind, ProtectionOverPower, SecrecyAtWork, SecrecyOfAnyReservation, powered, protected, protected_events, protected_seen, until_cycle}
+use Rattle.nvme_theorem_runs.specs.Power.{
+  OutlastingAtWork,
+  OutlastingOfAnyReservation,
+  OutlastingOverAnyRun,
+  PowerAtWork,
+  PowerTakesByAnyEvent,
+  ProtectionAtWork,
+  ProtectionOfAnyKind,
+  ProtectionOverPower,
+  SecrecyAtWork,
+  SecrecyOfAnyReservation,
+  powered,
+  protected,
+  protected_events,
+  protected_seen,
+  until_cycle,
+}
 use Rattle.nvme_theorem_runs.specs.Reading.{after_secret, denied_seen, other_blocks, read_entry, secret, sends}
-use Rattle.nvme_theorem_runs.proofs.Computing.{all_along, apart, distinct, plain-run, reserves_nothing, reserving-nothing, run-where}
-use Rattle.nvme_theorem_runs.proofs.FencingRuns.{fenced-host, holding, holding-bytes, hostile, hostile-bytes, hostile-host, hostile_events, one_execution, seen-so}
+use Rattle.nvme_theorem_runs.proofs.Computing.{
+  all_along,
+  apart,
+  distinct,
+  plain-run,
+  reserves_nothing,
+  reserving-nothing,
+  run-where,
+}
+use Rattle.nvme_theorem_runs.proofs.FencingRuns.{
+  fenced-host,
+  holding,
+  holding-bytes,
+  hostile,
+  hostile-bytes,
+  hostile-host,
+  hostile_events,
+  one_execution,
+  seen-so,
+}
 use Rattle.nvme_theorem_runs.proofs.Laying.{laid}
 use Rattle.nvme_theorem_runs.proofs.ReadingRuns.{differ, may-not, secret-seen}
 use Rattle.nvme_theorem_runs.proofs.Unfolding.{computing}
@@ -44,7 +95,8 @@ fenced-reserves = refl
 
 outlasting-run : RunWhere (ReservesNothing 1) fenced fenced_events fenced_seen after_fenced
 outlasting-run = subst (λ seen. RunWhere (ReservesNothing 1) fenced fenced_events seen after_fenced) seen-so
-    (run-where (reserves_nothing 1) (ReservesNothing 1) (reserving-nothing 1) fenced fenced_events (laid (held_by_a1 1) [] []) fenced-reserves)
+    (run-where (reserves_nothing 1) (ReservesNothing 1) (reserving-nothing 1) fenced fenced_events
+    (laid (held_by_a1 1) [] []) fenced-reserves)
 
 still-fenced : may_write after_fenced.world 2 1 ≡ false
 unfolding computing fenced_events
@@ -54,7 +106,8 @@ pub outlasting_at_work : OutlastingAtWork
 outlasting_at_work = record {
   persists = persists 1 [] [];
   run = outlasting-run;
-  holds = fencing_outlasts_power fenced after_fenced fenced_events fenced_seen 1 (laid (held_by_a1 1) [] []) (persists 1 [] []) outlasting-run fenced-host;
+  holds = fencing_outlasts_power fenced after_fenced fenced_events fenced_seen 1 (laid (held_by_a1 1) [] [])
+      (persists 1 [] []) outlasting-run fenced-host;
   lasts = persistence_lasts fenced after_fenced fenced_events fenced_seen 1 (persists 1 [] []) outlasting-run;
   still = still-fenced;
 }
@@ -75,14 +128,16 @@ pub outlasting_needs_persistence : OutlastingOfAnyReservation → ⊥
 outlasting_needs_persistence law =
     let on = laid (forgotten 1) [] [] in
     let same = law fleeting (fault_free_left fleeting power_lost) power_lost (fault_free_seen fleeting power_lost) 1 on
-    (run-where (reserves_nothing 1) (ReservesNothing 1) (reserving-nothing 1) fleeting power_lost on fleeting-facts.0) fleeting-host 2 in
+    (run-where (reserves_nothing 1) (ReservesNothing 1) (reserving-nothing 1) fleeting power_lost on fleeting-facts.0)
+    fleeting-host 2 in
     false≢true (sym fleeting-facts.1 ∙ sym same ∙ fleeting-facts.2)
 
 pub outlasting_needs_the_reservation : OutlastingOverAnyRun → ⊥
 outlasting_needs_the_reservation law =
     let commands = register ∷ acquire 1 ∷ zeroes 1 ∷ [] in
     let on = laid (held_by_a1 1) [] commands in
-    let same = law hostile (fault_free_left hostile hostile_events) hostile_events (fault_free_seen hostile hostile_events) 1 on (persists 1 [] commands)
+    let same = law hostile (fault_free_left hostile hostile_events) hostile_events
+    (fault_free_seen hostile hostile_events) 1 on (persists 1 [] commands)
     (plain-run hostile hostile_events on) hostile-host in
     apart _ _ hostile-bytes.1 hostile-bytes.0 same
 
@@ -92,13 +147,15 @@ secret-reserves = refl
 
 secret-outlasts : RunWhere (ReservesNothing 1) secret (sends read_entry) denied_seen after_secret
 secret-outlasts = subst (λ seen. RunWhere (ReservesNothing 1) secret (sends read_entry) seen after_secret) secret-seen
-    (run-where (reserves_nothing 1) (ReservesNothing 1) (reserving-nothing 1) secret (sends read_entry) (laid (held_by_a1 2) [] []) secret-reserves)
+    (run-where (reserves_nothing 1) (ReservesNothing 1) (reserving-nothing 1) secret (sends read_entry)
+    (laid (held_by_a1 2) [] []) secret-reserves)
 
 pub secrecy_at_work : SecrecyAtWork
 secrecy_at_work = record {
   persists = persists 2 [] [];
   run = secret-outlasts;
-  holds = secrecy_outlasts_power secret after_secret other_blocks (sends read_entry) denied_seen 1 (laid (held_by_a1 2) [] []) (differ (held_by_a1 2) [] [])
+  holds = secrecy_outlasts_power secret after_secret other_blocks (sends read_entry) denied_seen 1
+      (laid (held_by_a1 2) [] []) (differ (held_by_a1 2) [] [])
       (persists 2 [] []) secret-outlasts may-not;
 }
 
@@ -106,7 +163,8 @@ forgets : Forgets (over other_blocks fleeting) PowerCycle 1
 unfolding computing
 forgets = refl
 
-leaves-nothing : (events : List Event) (seen : List Seen) (new : Subsystem) → events ≡ power_lost → RunWhere (LeavesReservation 1) (over other_blocks fleeting) events seen new → ⊥
+leaves-nothing : (events : List Event) (seen : List Seen) (new : Subsystem) → events ≡ power_lost
+    → RunWhere (LeavesReservation 1) (over other_blocks fleeting) events seen new → ⊥
 unfolding power_lost
 leaves-nothing [] seen new e run = absurd (cc)
 leaves-nothing (event ∷ events) [] new e run = absurd run
@@ -121,9 +179,12 @@ fleeting-reads = (tt, tt)
 pub secrecy_needs_persistence : SecrecyOfAnyReservation → ⊥
 secrecy_needs_persistence law =
     let on = laid (forgotten 1) [] [] in
-    let r = law fleeting (fault_free_left fleeting power_lost) other_blocks power_lost (fault_free_seen fleeting power_lost) 1 on (differ (forgotten 1) [] [])
-    (run-where (reserves_nothing 1) (ReservesNothing 1) (reserving-nothing 1) fleeting power_lost on fleeting-facts.0) fleeting-reads in
-    leaves-nothing power_lost (fault_free_seen fleeting power_lost) (over r.0 (fault_free_left fleeting power_lost)) refl r.1
+    let r = law fleeting (fault_free_left fleeting power_lost) other_blocks power_lost
+    (fault_free_seen fleeting power_lost) 1 on (differ (forgotten 1) [] [])
+    (run-where (reserves_nothing 1) (ReservesNothing 1) (reserving-nothing 1) fleeting power_lost on fleeting-facts.0)
+    fleeting-reads in
+    leaves-nothing power_lost (fault_free_seen fleeting power_lost) (over r.0 (fault_free_left fleeting power_lost))
+    refl r.1
 
 -- What power takes.
 
@@ -156,7 +217,8 @@ unfolding computing
 powered-laid r =
     let on = laid r (zeroes 1 ∷ []) (zeroes 1 ∷ []) in
     let same : (n : ℕ) → extent_of (until_cycle r) n ≡ extent_of (reserved r) n =
-    (λ n. found-still (λ (space : Namespace). record { first = space.first; blocks = space.blocks }) (λ (space : Namespace). record space { protection = UntilCycle })
+    (λ n. found-still (λ (space : Namespace). record { first = space.first; blocks = space.blocks })
+    (λ (space : Namespace). record space { protection = UntilCycle })
     (λ m. refl) (λ m. refl) 1 n (reserved r).namespaces) in
     record {
       within = λ n x is. on.within n x (sym (same n) ∙ is);
@@ -184,19 +246,31 @@ protected-so : fault_free_seen protected protected_events ≡ protected_seen
 unfolding computing protected_events protected_seen
 protected-so = refl
 
-protected-facts : (may_write protected.world 1 1 ≡ true) × (namespace_bytes (fault_free_left protected protected_events) 1 ≡ replicate 512 1)
+protected-facts : (may_write protected.world 1 1 ≡ true) × (namespace_bytes
+    (fault_free_left protected protected_events) 1 ≡ replicate 512 1)
 unfolding computing protected_events
 protected-facts = (refl, refl)
 
 no-power : AllByRecursion (λ event. event ≢ PowerCycle) protected_events
 unfolding protected_events
-no-power = ((λ e. absurd (cc)), ((λ e. absurd (cc)), ((λ e. absurd (cc)), ((λ e. absurd (cc)), ((λ e. absurd (cc)), ((λ e. absurd (cc)), tt))))))
+no-power = (
+  (λ e. absurd (cc)),
+  (
+    (λ e. absurd (cc)),
+    (
+      (λ e. absurd (cc)),
+      ((λ e. absurd (cc)), ((λ e. absurd (cc)), ((λ e. absurd (cc)), tt))),
+    ),
+  ),
+)
 
 pub protection_at_work : ProtectionAtWork
 protection_at_work =
     let on = powered-laid (held_by_a1 1) in
-    let run = subst (λ seen. Run true protected protected_events seen (fault_free_left protected protected_events)) protected-so (plain-run protected protected_events on) in
-    let holds = protected_until_power protected (fault_free_left protected protected_events) protected_events protected_seen 1 on power-facts.4 no-power run in
+    let run = subst (λ seen. Run true protected protected_events seen (fault_free_left protected protected_events))
+    protected-so (plain-run protected protected_events on) in
+    let holds = protected_until_power protected (fault_free_left protected protected_events) protected_events
+    protected_seen 1 on power-facts.4 no-power run in
     record {
       laid = on;
       until = power-facts.4;
@@ -213,13 +287,15 @@ lost-facts = refl
 pub protection_needs_power : ProtectionOverPower → ⊥
 protection_needs_power law =
     let on = powered-laid (held_by_a1 1) in
-    let still = law protected (fault_free_left protected power_lost) power_lost (fault_free_seen protected power_lost) 1 on power-facts.4 (plain-run protected power_lost on) in
+    let still = law protected (fault_free_left protected power_lost) power_lost (fault_free_seen protected power_lost)
+    1 on power-facts.4 (plain-run protected power_lost on) in
     let both = sym lost-facts ∙ still in absurd (cc)
 
 pub protection_needs_a_kind : ProtectionOfAnyKind → ⊥
 unfolding one_execution
 protection_needs_a_kind law =
     let on = laid (held_by_a1 1) (zeroes 1 ∷ []) [] in
-    let same = law holding (fault_free_left holding (one_execution 1)) (one_execution 1) (fault_free_seen holding (one_execution 1)) 1 on
+    let same = law holding (fault_free_left holding (one_execution 1)) (one_execution 1)
+    (fault_free_seen holding (one_execution 1)) 1 on
     ((λ e. absurd (cc)), tt) (plain-run holding (one_execution 1) on) in
     apart _ _ holding-bytes.1 holding-bytes.0 same

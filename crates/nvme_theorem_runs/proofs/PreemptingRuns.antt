@@ -25,7 +25,18 @@ use Rattle.nvme_machine.specs.Subsystems.{Subsystem, after_power_cycle, controll
 use Rattle.nvme_machine.proofs.Determined.{steps}
 use Rattle.nvme_machine.proofs.Preempted.{preempted_stays_out}
 use Rattle.nvme_theorem_runs.specs.Cluster.{acquire, cluster, ready, stores, stores_keys, with_b2, zeroes, zeros}
-use Rattle.nvme_theorem_runs.specs.Preempting.{MarkingAtWork, OthersAtWork, OthersOfAnyController, PreemptingAtWork, PreemptingByAnyStep, PreemptingOfAnyHost, armed, later, meanwhile, preempted}
+use Rattle.nvme_theorem_runs.specs.Preempting.{
+  MarkingAtWork,
+  OthersAtWork,
+  OthersOfAnyController,
+  PreemptingAtWork,
+  PreemptingByAnyStep,
+  PreemptingOfAnyHost,
+  armed,
+  later,
+  meanwhile,
+  preempted,
+}
 use Rattle.nvme_theorem_runs.proofs.Computing.{distinct, first_of, followed, left-laid, rule_of, run-keeping}
 use Rattle.nvme_theorem_runs.proofs.Laying.{laid}
 use Rattle.nvme_theorem_runs.proofs.Unfolding.{computing}
@@ -33,7 +44,8 @@ use Rattle.nvme_spec.specs.Statuses as status
 
 armed-laid : IsLaidOut armed.world armed.device.content
 unfolding armed
-armed-laid = left-laid (cluster (with_b2 1) (acquire 2 ∷ zeroes 1 ∷ []) (zeroes 1 ∷ [])) (stores_keys 1 0x11 0x22 ∷ []) (laid (with_b2 1) (acquire 2 ∷ zeroes 1 ∷ []) (zeroes 1 ∷ []))
+armed-laid = left-laid (cluster (with_b2 1) (acquire 2 ∷ zeroes 1 ∷ []) (zeroes 1 ∷ []))
+    (stores_keys 1 0x11 0x22 ∷ []) (laid (with_b2 1) (acquire 2 ∷ zeroes 1 ∷ []) (zeroes 1 ∷ []))
 
 preempted-laid : IsLaidOut preempted.world preempted.device.content
 preempted-laid = left-laid armed (Execute 1 0 ∷ []) armed-laid
@@ -55,7 +67,8 @@ waiting : Waits armed 1 0 first-one (acquire 2) queues
 unfolding computing armed
 waiting = record { at = refl; found = refl; room = refl }
 
-facts : (names 1 (acquire 2) ≡ true) × (command_of (opcode (acquire 2).entry) ≡ Some ReservationAcquire) × (action (acquire 2).entry ≡ 2)
+facts : (names 1 (acquire 2) ≡ true) × (command_of (opcode (acquire 2).entry) ≡ Some ReservationAcquire)
+    × (action (acquire 2).entry ≡ 2)
     × (judgement (queues_of first-one) 1 (acquire 2) (scene_of armed first-one) ≡ Ok tt)
 unfolding computing armed judgement
 facts = (refl, refl, refl, refl)
@@ -78,7 +91,8 @@ marked-one = record (zeroes 1) { marked = true }
 abbrev second-one : Controller
 second-one = ready 2 zeros (marked-one ∷ [])
 
-found : (controller_at preempted 2 ≡ Some second-one) × (slice_get second-one.fetched 0 ≡ Some marked-one) × (names 1 marked-one ≡ true)
+found : (controller_at preempted 2 ≡ Some second-one) × (slice_get second-one.fetched 0 ≡ Some marked-one)
+    × (names 1 marked-one ≡ true)
     × (is_host_among (removed_hosts armed 1 first-one (acquire 2)) (host_of preempted.world 2) ≡ true)
 unfolding computing armed
 found = (refl, refl, refl, refl)
@@ -88,7 +102,8 @@ unfolding computing armed meanwhile place_after
 place = refl
 
 outcome : ((namespace_bytes preempted 1 ≡ replicate 512 1) × (namespace_bytes later 1 ≡ replicate 512 0))
-    × (fault_free_seen later (Execute 2 0 ∷ []) ≡ Executed (Posted (denial_outcome 1 status.command_aborted_due_to_preempt_and_abort)) ∷ [])
+    × (fault_free_seen later (Execute 2 0 ∷ []) ≡ Executed (Posted
+    (denial_outcome 1 status.command_aborted_due_to_preempt_and_abort)) ∷ [])
 unfolding computing armed meanwhile
 outcome = ((refl, refl), refl)
 
@@ -105,7 +120,8 @@ preempting_at_work = record {
   found = found.1;
   removed = found.3;
   run = run;
-  holds = preempted_stays_out true 1 armed preempted later 1 0 first-one (acquire 2) preempts 2 0 second-one marked-one found.0 found.1 found.2 found.3
+  holds = preempted_stays_out true 1 armed preempted later 1 0 first-one (acquire 2) preempts 2 0 second-one
+      marked-one found.0 found.1 found.2 found.3
       meanwhile (fault_free_seen preempted meanwhile) 0 run;
   written = outcome.0;
   aborted = outcome.1;
@@ -116,7 +132,8 @@ preempting_at_work = record {
 abbrev own-one : Controller
 own-one = ready 1 (with_bytes zeros 0 (keys 0x11 0x22)) (zeroes 1 ∷ [])
 
-own-found : (c : Controller) × (controller_at preempted 1 ≡ Some c) × (slice_get c.fetched 0 ≡ Some (zeroes 1)) × (names 1 (zeroes 1) ≡ true)
+own-found : (c : Controller) × (controller_at preempted 1 ≡ Some c) × (slice_get c.fetched 0 ≡ Some (zeroes 1))
+    × (names 1 (zeroes 1) ≡ true)
     × ((p : QueuePair) × (open_pair c (zeroes 1) ≡ Some p))
 unfolding computing armed
 own-found = (_, refl, refl, refl, (_, refl))
@@ -128,7 +145,8 @@ own-rule = refl
 pub preempting_needs_the_host : PreemptingOfAnyHost → ⊥
 preempting_needs_the_host law =
     let f = own-found in
-    let is = law true 1 armed preempted preempted 1 0 first-one (acquire 2) preempts 1 0 f.0 (zeroes 1) f.1 f.2 f.3 [] [] 0 (refl, refl)
+    let is = law true 1 armed preempted preempted 1 0 first-one (acquire 2) preempts 1 0 f.0 (zeroes 1) f.1 f.2 f.3 []
+    [] 0 (refl, refl)
     (fault_free_step preempted (Execute 1 0)).left f.0 (zeroes 1) f.4.0 (fault_free_step preempted (Execute 1 0)).seen
     (steps preempted (Execute 1 0) preempted-laid) (record { at = f.1; found = f.2; room = f.4.1 }) in
     distinct 0 1 refl (sym own-rule ∙ ap rule_of is.0)
@@ -140,7 +158,8 @@ plain_armed = fault_free_left (cluster (with_b2 1) (acquire 1 ∷ []) (zeroes 1 
 
 plain-laid : IsLaidOut plain_armed.world plain_armed.device.content
 unfolding plain_armed
-plain-laid = left-laid (cluster (with_b2 1) (acquire 1 ∷ []) (zeroes 1 ∷ [])) (stores_keys 1 0x11 0x22 ∷ []) (laid (with_b2 1) (acquire 1 ∷ []) (zeroes 1 ∷ []))
+plain-laid = left-laid (cluster (with_b2 1) (acquire 1 ∷ []) (zeroes 1 ∷ [])) (stores_keys 1 0x11 0x22 ∷ [])
+    (laid (with_b2 1) (acquire 1 ∷ []) (zeroes 1 ∷ []))
 
 abbrev plainly : Subsystem
 plainly = (fault_free_step plain_armed (Execute 1 0)).left
@@ -154,7 +173,8 @@ plain-one = ready 1 (with_bytes zeros 0 (keys 0x11 0x22)) (acquire 1 ∷ [])
 abbrev unmarked-one : Controller
 unmarked-one = ready 2 zeros (zeroes 1 ∷ [])
 
-plain-found : (controller_at plainly 2 ≡ Some unmarked-one) × (slice_get unmarked-one.fetched 0 ≡ Some (zeroes 1)) × (names 1 (zeroes 1) ≡ true)
+plain-found : (controller_at plainly 2 ≡ Some unmarked-one) × (slice_get unmarked-one.fetched 0 ≡ Some (zeroes 1))
+    × (names 1 (zeroes 1) ≡ true)
     × (is_host_among (removed_hosts plain_armed 1 plain-one (acquire 1)) (host_of plainly.world 2) ≡ true)
 unfolding computing plain_armed
 plain-found = (refl, refl, refl, refl)
@@ -170,9 +190,11 @@ plain-rule = refl
 pub preempting_needs_the_abort : PreemptingByAnyStep → ⊥
 preempting_needs_the_abort law =
     let f = plain-found in
-    let is = law true 1 plain_armed plainly plainly 1 0 plain-one (acquire 1) (fault_free_step plain_armed (Execute 1 0)).seen (steps plain_armed (Execute 1 0) plain-laid)
+    let is = law true 1 plain_armed plainly plainly 1 0 plain-one (acquire 1)
+    (fault_free_step plain_armed (Execute 1 0)).seen (steps plain_armed (Execute 1 0) plain-laid)
     2 0 unmarked-one (zeroes 1) f.0 f.1 f.2 f.3 [] [] 0 (refl, refl)
-    (fault_free_step plainly (Execute 2 0)).left unmarked-one (zeroes 1) queues (fault_free_step plainly (Execute 2 0)).seen
+    (fault_free_step plainly (Execute 2 0)).left unmarked-one (zeroes 1) queues
+    (fault_free_step plainly (Execute 2 0)).seen
     (steps plainly (Execute 2 0) plainly-laid) plain-waits in
     distinct 7 1 refl (sym plain-rule ∙ ap rule_of is.0)
 
@@ -190,15 +212,31 @@ is_marked (Some c) = by c.fetched
     by [] = 2
     by (t ∷ ts) = if t.marked then 1 else 0
 
-before-after : (is_marked (controller_at armed 2) ≡ 0) × (is_marked (controller_at preempted 2) ≡ 1) × (is_marked (controller_at (after_power_cycle armed) 2) ≡ 2)
+before-after : (is_marked (controller_at armed 2) ≡ 0) × (is_marked (controller_at preempted 2) ≡ 1)
+    × (is_marked (controller_at (after_power_cycle armed) 2) ≡ 2)
 unfolding computing armed
 before-after = (refl, refl, refl)
 
 others-facts : (controller_at (fault_free_step armed (stores 1 0 (1 ∷ []))).left 2 ≡ controller_at armed 2)
-    × IsMarkedBy preempted.world (fault_free_step armed (Execute 1 0)).seen 2 (controller_at armed 2) (controller_at preempted 2)
+    × IsMarkedBy preempted.world (fault_free_step armed (Execute 1 0)).seen 2 (controller_at armed 2)
+    (controller_at preempted 2)
     × (controller_at (after_power_cycle armed) 2 ≡ option_map power_cycled (controller_at armed 2))
 unfolding computing armed
-others-facts = (refl, record { outcome = record { status = status.successful_completion; dw0 = 0; rule = 0; marks = record { nsid = 1; hosts = record { items = 0xb2 ∷ [] } } }; gives = refl; removed = refl; marked = refl }, refl)
+others-facts = (
+  refl,
+  record {
+    outcome = record {
+      status = status.successful_completion;
+      dw0 = 0;
+      rule = 0;
+      marks = record { nsid = 1; hosts = record { items = 0xb2 ∷ [] } };
+    };
+    gives = refl;
+    removed = refl;
+    marked = refl;
+  },
+  refl,
+)
 
 pub others_at_work : OthersAtWork
 others_at_work = record {
@@ -213,7 +251,8 @@ abbrev front_in : Option Controller → ℕ
 front_in None = 2
 front_in (Some c) = first_of c.window
 
-own-store : (front_in (controller_at armed 1) ≡ 0x11) × (front_in (controller_at (fault_free_step armed (stores 1 0 (1 ∷ []))).left 1) ≡ 1)
+own-store : (front_in (controller_at armed 1) ≡ 0x11) × (front_in
+    (controller_at (fault_free_step armed (stores 1 0 (1 ∷ []))).left 1) ≡ 1)
     × ((fault_free_step armed (stores 1 0 (1 ∷ []))).seen ≡ Stored)
 unfolding computing armed
 own-store = (refl, refl, refl)

@@ -1,6 +1,30 @@
 -- The example runs of queues, computed.
 use Rattle.std.specs.Prelude.{is_some, not, slice_get, slice_index_or, ◌&&◌}
-use Rattle.std.proofs.Common.{Bool, List, None, Option, Some, [], ap, arith, false, inl, inr, length, refl, subst, suc, sym, true, zero, ℕ, ◌==◌, ◌∙◌, ◌∷◌, ◌≡◌}
+use Rattle.std.proofs.Common.{
+  Bool,
+  List,
+  None,
+  Option,
+  Some,
+  [],
+  ap,
+  arith,
+  false,
+  inl,
+  inr,
+  length,
+  refl,
+  subst,
+  suc,
+  sym,
+  true,
+  zero,
+  ℕ,
+  ◌==◌,
+  ◌∙◌,
+  ◌∷◌,
+  ◌≡◌,
+}
 use Rattle.std.proofs.lemmas.Bool.{false≢true}
 use Rattle.std.proofs.lemmas.Option.{same_Some}
 use Rattle.nvme_spec.specs.Layout.{IsLaidOut}
@@ -14,7 +38,16 @@ use Rattle.nvme_machine.specs.declared.event.Event.TheVariants.{Execute, Fetch, 
 use Rattle.nvme_machine.specs.declared.fetched.FetchedCommand.{FetchedCommand}
 use Rattle.nvme_machine.specs.declared.seen.Executed.TheVariants.{Posted}
 use Rattle.nvme_machine.specs.declared.seen.Seen.TheVariants.{Cycled, Executed, Outside, Stored, Value, Wrote}
-use Rattle.nvme_machine.specs.Controllers.{CompletionQueue, Controller, QueuePair, SubmissionQueue, completion_at, no_submission_queues, open_pair, submission_at}
+use Rattle.nvme_machine.specs.Controllers.{
+  CompletionQueue,
+  Controller,
+  QueuePair,
+  SubmissionQueue,
+  completion_at,
+  no_submission_queues,
+  open_pair,
+  submission_at,
+}
 use Rattle.nvme_machine.specs.FaultFree.{fault_free_left, fault_free_seen, fault_free_step}
 use Rattle.nvme_machine.specs.Posted.{PostedEntry, RunSparing, StandsUnread, TakesEntry}
 use Rattle.nvme_machine.specs.Preempted.{place_after}
@@ -27,8 +60,43 @@ use Rattle.nvme_machine.proofs.Layouts.{layout_stays}
 use Rattle.nvme_machine.proofs.Posted.{posted_is_unread, unread_stands_over_runs}
 use Rattle.nvme_machine.proofs.Windows.{length-zeros, opening_has_its_windows, windows_keep_their_length}
 use Rattle.nvme_machine.proofs.Wirings.{waits_where_full}
-use Rattle.nvme_theorem_runs.specs.Cluster.{blocks, cluster, done, fetched_in, fetched_of, flush, held_by_a1, is_up, pair, ready, zeroes, zeros}
-use Rattle.nvme_theorem_runs.specs.Queues.{PostedAtWork, StayingAtWork, StayingOfAnyCommand, StayingOverAnyEvent, UnreadOverAnyRun, WaitingAtWork, WaitingOfAnyController, WindowsAtWork, WindowsOfAnyLength, entry, full, opened, posted, sparing_events, waiting, waiting_controller, waiting_events, whole, whole_pair, whole_queues, window_events}
+use Rattle.nvme_theorem_runs.specs.Cluster.{
+  blocks,
+  cluster,
+  done,
+  fetched_in,
+  fetched_of,
+  flush,
+  held_by_a1,
+  is_up,
+  pair,
+  ready,
+  zeroes,
+  zeros,
+}
+use Rattle.nvme_theorem_runs.specs.Queues.{
+  PostedAtWork,
+  StayingAtWork,
+  StayingOfAnyCommand,
+  StayingOverAnyEvent,
+  UnreadOverAnyRun,
+  WaitingAtWork,
+  WaitingOfAnyController,
+  WindowsAtWork,
+  WindowsOfAnyLength,
+  entry,
+  full,
+  opened,
+  posted,
+  sparing_events,
+  waiting,
+  waiting_controller,
+  waiting_events,
+  whole,
+  whole_pair,
+  whole_queues,
+  window_events,
+}
 use Rattle.nvme_theorem_runs.proofs.Computing.{both, distinct, followed, left-laid, negated, plain-run, run-keeping}
 use Rattle.nvme_theorem_runs.proofs.Laying.{fits, laid}
 use Rattle.nvme_theorem_runs.proofs.Unfolding.{computing}
@@ -38,8 +106,10 @@ use Rattle.nvme_theorem_runs.proofs.Unfolding.{computing}
 waiting-laid : IsLaidOut waiting.world waiting.device.content
 waiting-laid = laid (held_by_a1 1) [] (zeroes 1 ∷ zeroes 2 ∷ [])
 
-staying-facts : (followed waiting 2 1 waiting_events ≡ Some 0) × (fetched_of (fault_free_left waiting waiting_events) 2 ≡ zeroes 2 ∷ [])
-    × (fetched_of (fault_free_step waiting (Write32 2 0x14 0)).left 2 ≡ []) × (fetched_of (fault_free_step waiting PowerCycle).left 2 ≡ [])
+staying-facts : (followed waiting 2 1 waiting_events ≡ Some 0)
+    × (fetched_of (fault_free_left waiting waiting_events) 2 ≡ zeroes 2 ∷ [])
+    × (fetched_of (fault_free_step waiting (Write32 2 0x14 0)).left 2 ≡ [])
+    × (fetched_of (fault_free_step waiting PowerCycle).left 2 ≡ [])
     × TakesOut waiting waiting_controller 2 0 (zeroes 1) (Write32 2 0x14 0)
     × (controller_at waiting 2 ≡ Some waiting_controller) × (slice_get waiting_controller.fetched 0 ≡ Some (zeroes 1))
     × (fetched_of (fault_free_step waiting (Execute 2 0)).left 2 ≡ zeroes 2 ∷ [])
@@ -71,17 +141,20 @@ staying_at_work = record {
 }
 
 -- what stands in a controller without fetched commands
-none-stands : (o : Option Controller) (t : FetchedCommand) → fetched_in o ≡ [] → ((d : Controller) × (o ≡ Some d) × StandsIn t d) → ⊥
+none-stands : (o : Option Controller) (t : FetchedCommand) → fetched_in o ≡ []
+    → ((d : Controller) × (o ≡ Some d) × StandsIn t d) → ⊥
 none-stands o t none x =
     let is : x.0.fetched ≡ [] = sym (ap fetched_in x.1) ∙ none in
-    let found : slice_get [] x.2.place ≡ Some x.2.found_as = subst (λ (ts : List FetchedCommand). slice_get ts x.2.place ≡ Some x.2.found_as) is x.2.found in
+    let found : slice_get [] x.2.place ≡ Some x.2.found_as = subst
+    (λ (ts : List FetchedCommand). slice_get ts x.2.place ≡ Some x.2.found_as) is x.2.found in
     nothing-found x.2.place x.2.found_as found
   where
     nothing-found : (i : ℕ) (t : FetchedCommand) → slice_get {X = FetchedCommand} [] i ≡ Some t → ⊥
     nothing-found zero t e = absurd (cc)
     nothing-found (suc i) t e = absurd (cc)
 
-first-facts : (controller_at waiting 1 ≡ Some (ready 1 zeros [])) × (fetched_of (fault_free_step waiting (Fetch 1 1)).left 1 ≡ [])
+first-facts : (controller_at waiting 1 ≡ Some (ready 1 zeros []))
+    × (fetched_of (fault_free_step waiting (Fetch 1 1)).left 1 ≡ [])
 unfolding computing
 first-facts = (refl, refl)
 
@@ -89,7 +162,8 @@ pub staying_needs_a_command : StayingOfAnyCommand → ⊥
 staying_needs_a_command law =
     let event : Event = Fetch 1 1 in
     let next = fault_free_step waiting event in
-    elim (law true waiting next.left event next.seen (steps waiting event waiting-laid) 1 0 (ready 1 zeros []) (zeroes 1) first-facts.0) [
+    elim (law true waiting next.left event next.seen (steps waiting event waiting-laid) 1 0 (ready 1 zeros [])
+    (zeroes 1) first-facts.0) [
       | inl stands ↦ none-stands (controller_at next.left 1) (zeroes 1) first-facts.1 stands
       | inr takes ↦ absurd takes
     ]
@@ -98,12 +172,14 @@ pub staying_needs_what_takes : StayingOverAnyEvent → ⊥
 staying_needs_what_takes law =
     let event : Event = PowerCycle in
     let next = fault_free_step waiting event in
-    let stands = law true waiting next.left event next.seen (steps waiting event waiting-laid) 2 0 waiting_controller (zeroes 1) staying-facts.5 staying-facts.6 in
+    let stands = law true waiting next.left event next.seen (steps waiting event waiting-laid) 2 0 waiting_controller
+    (zeroes 1) staying-facts.5 staying-facts.6 in
     none-stands (controller_at next.left 2) (zeroes 1) staying-facts.3 stands
 
 -- Windows.
 
-only-one : {A : Type 0} (q : ℕ) (x y : A) → slice_index_or (None ∷ Some x ∷ None ∷ None ∷ None ∷ []) q None ≡ Some y → x ≡ y
+only-one : {A : Type 0} (q : ℕ) (x y : A) → slice_index_or (None ∷ Some x ∷ None ∷ None ∷ None ∷ []) q None ≡ Some y
+    → x ≡ y
 only-one zero x y e = absurd (cc)
 only-one (suc zero) x y e = same_Some x y e
 only-one (suc (suc zero)) x y e = absurd (cc)
@@ -122,10 +198,16 @@ consistent = record {
 }
 
 submits : SubmitsInside whole_queues.submission
-submits = (record { size = (omega arith, omega arith); page = refl; inside = omega arith }, record { size = (omega arith, omega arith); fetched = omega arith; waiting = omega arith })
+submits = (
+  record { size = (omega arith, omega arith); page = refl; inside = omega arith },
+  record { size = (omega arith, omega arith); fetched = omega arith; waiting = omega arith },
+)
 
 lies : LiesInside whole_queues.completion
-lies = (record { size = (omega arith, omega arith); page = refl; inside = omega arith }, record { size = (omega arith, omega arith); posted = omega arith; unread = omega arith })
+lies = (
+  record { size = (omega arith, omega arith); page = refl; inside = omega arith },
+  record { size = (omega arith, omega arith); posted = omega arith; unread = omega arith },
+)
 
 whole-window : (k : ℕ) → HasItsWindow (whole k)
 whole-window k = record {
@@ -158,10 +240,12 @@ pair-seen = refl
 
 unread-there : (d : Controller) × (controller_at posted 1 ≡ Some d) × StandsUnread entry d
 unread-there = posted_is_unread true whole_pair posted 1 0 (whole 1) (flush 1) whole_queues done
-    (subst (λ seen. Step true whole_pair (Execute 1 0) seen posted) pair-seen (steps whole_pair (Execute 1 0) pair-laid)) pair-waits pair-windows
+    (subst (λ seen. Step true whole_pair (Execute 1 0) seen posted) pair-seen
+    (steps whole_pair (Execute 1 0) pair-laid)) pair-waits pair-windows
 
 posted-windows : AllHaveTheirWindows posted
-posted-windows = windows_keep_their_length true whole_pair posted (Execute 1 0 ∷ []) ((fault_free_step whole_pair (Execute 1 0)).seen ∷ [])
+posted-windows = windows_keep_their_length true whole_pair posted (Execute 1 0 ∷ [])
+    ((fault_free_step whole_pair (Execute 1 0)).seen ∷ [])
     (plain-run whole_pair (Execute 1 0 ∷ []) pair-laid) pair-windows
 
 posted-laid : IsLaidOut posted.world posted.device.content
@@ -176,7 +260,8 @@ spares j (Read32 k offset) = true
 spares j (Fetch k q) = true
 spares j PowerCycle = false
 
-spared : (s : Subsystem) (j : ℕ) (c : Controller) (e : PostedEntry) (event : Event) → spares j event ≡ true → TakesEntry s j c e event → ⊥
+spared : (s : Subsystem) (j : ℕ) (c : Controller) (e : PostedEntry) (event : Event) → spares j event ≡ true
+    → TakesEntry s j c e event → ⊥
 spared s j c e (Store k address bytes) h x = distinct k j (negated (k == j) h) x.0
 spared s j c e (Write32 k offset v) h x = distinct k j (negated (k == j) h) x.0
 spared s j c e (Execute k i) h x = distinct k j (negated (k == j) h) x.0
@@ -188,15 +273,21 @@ all_spare : ℕ → List Event → Bool
 all_spare j [] = true
 all_spare j (event ∷ events) = spares j event && all_spare j events
 
-sparing : (j : ℕ) (e : PostedEntry) (s : Subsystem) (events : List Event) → IsLaidOut s.world s.device.content → all_spare j events ≡ true
+sparing : (j : ℕ) (e : PostedEntry) (s : Subsystem) (events : List Event) → IsLaidOut s.world s.device.content
+    → all_spare j events ≡ true
     → RunSparing true j e s events (fault_free_seen s events) (fault_free_left s events)
 unfolding all_spare
 sparing j e s [] on h = refl
 sparing j e s (event ∷ events) on h =
     let next = (fault_free_step s event).left in
     let step = steps s event on in
-    let parts = both (spares j event) (all_spare j events) h in
-    (next, step, (λ c at. spared s j c e event parts.0), sparing j e next events (layout_stays s next event (fault_free_step s event).seen on step) parts.1)
+    let parts = both (spares j event) (all_spare j events) h in (
+      next,
+      step,
+      (λ c at. spared s j c e event parts.0),
+      sparing j e next events
+          (layout_stays s next event (fault_free_step s event).seen on step) parts.1,
+    )
 
 spare-so : all_spare 1 sparing_events ≡ true
 unfolding all_spare sparing_events
@@ -212,7 +303,8 @@ posted_at_work =
       at = there.1;
       stands = there.2;
       run = run;
-      holds = unread_stands_over_runs true posted (fault_free_left posted sparing_events) sparing_events (fault_free_seen posted sparing_events) 1 entry run
+      holds = unread_stands_over_runs true posted (fault_free_left posted sparing_events) sparing_events
+          (fault_free_seen posted sparing_events) 1 entry run
           posted-windows there.0 there.1 there.2;
     }
 
@@ -229,7 +321,8 @@ unfolding has_queue
 posted_needs_a_sparing_run law =
     let there = unread-there in
     let events : List Event = Write32 1 0x14 0 ∷ [] in
-    let d = law true posted (fault_free_left posted events) events (fault_free_seen posted events) 1 entry (plain-run posted events posted-laid) posted-windows
+    let d = law true posted (fault_free_left posted events) events (fault_free_seen posted events) 1 entry
+    (plain-run posted events posted-laid) posted-windows
     there.0 there.1 there.2 in
     let has : has_queue (Some d.0) ≡ true = ap (λ (o : Option CompletionQueue). is_some o) d.2.at in
     false≢true (sym reset-posted ∙ ap has_queue d.1 ∙ has)
@@ -246,12 +339,14 @@ opened-seen = refl
 
 pub windows_at_work : WindowsAtWork
 windows_at_work =
-    let run = subst (λ seen. Run true opened window_events seen (fault_free_left opened window_events)) opened-seen (plain-run opened window_events opened-laid) in
+    let run = subst (λ seen. Run true opened window_events seen (fault_free_left opened window_events)) opened-seen
+    (plain-run opened window_events opened-laid) in
     record {
       opening = opening_has_its_windows pair blocks;
       seen = opened-seen;
       run = run;
-      holds = windows_keep_their_length true opened (fault_free_left opened window_events) window_events _ run (opening_has_its_windows pair blocks);
+      holds = windows_keep_their_length true opened (fault_free_left opened window_events) window_events _ run
+          (opening_has_its_windows pair blocks);
     }
 
 short-window : (controller_at waiting 2 ≡ Some waiting_controller) × (length waiting_controller.window ≡ 832)
@@ -267,14 +362,27 @@ windows_need_their_length law =
 -- Commands that wait.
 
 full-wired : IsWired full
-full-wired = record { fetched = fetches; completes = λ q s e. (_, subst (λ (x : SubmissionQueue). completion_at full x.cqid ≡ Some (record { base = 768; tail = record { size = 4; posted = 3; unread = 3 } })) (only-one q _ s e) refl) }
+full-wired = record {
+  fetched = fetches;
+  completes = λ q s e. (
+    _,
+    subst (λ (x : SubmissionQueue). completion_at full x.cqid ≡ Some
+        (record { base = 768; tail = record { size = 4; posted = 3; unread = 3 } })) (only-one q _ s e) refl,
+  );
+}
   where
-    fetches : (i : ℕ) → (t : FetchedCommand) → slice_get full.fetched i ≡ Some t → (s : SubmissionQueue) × (submission_at full t.queue ≡ Some s)
-    fetches zero t e = (_, subst (λ (u : FetchedCommand). submission_at full u.queue ≡ Some (record { base = 512; cqid = 1; head = empty_submission_head 4 })) (same_Some (zeroes 2) t e) refl)
+    fetches : (i : ℕ) → (t : FetchedCommand) → slice_get full.fetched i ≡ Some t → (s : SubmissionQueue)
+        × (submission_at full t.queue ≡ Some s)
+    fetches zero t e = (
+      _,
+      subst (λ (u : FetchedCommand). submission_at full u.queue ≡ Some
+          (record { base = 512; cqid = 1; head = empty_submission_head 4 })) (same_Some (zeroes 2) t e) refl,
+    )
     fetches (suc zero) t e = absurd (cc)
     fetches (suc (suc i)) t e = absurd (cc)
 
-full-waits : (open_pair full (zeroes 2) ≡ None) × ((p : QueuePair) × (open_pair (ready 2 zeros (zeroes 2 ∷ [])) (zeroes 2) ≡ Some p))
+full-waits : (open_pair full (zeroes 2) ≡ None) × ((p : QueuePair)
+    × (open_pair (ready 2 zeros (zeroes 2 ∷ [])) (zeroes 2) ≡ Some p))
 unfolding computing
 full-waits = (refl, (_, refl))
 

@@ -1,6 +1,27 @@
 -- The example runs of the theorems on runs and on the policy, computed.
 use Rattle.std.specs.Prelude.{replicate}
-use Rattle.std.proofs.Common.{Err, List, None, Some, [], ap, arith, false, inr, refl, subst, sym, true, ℕ, ◌-◌, ◌<◌, ◌^◌, ◌∙◌, ◌∷◌, ◌≡◌}
+use Rattle.std.proofs.Common.{
+  Err,
+  List,
+  None,
+  Some,
+  [],
+  ap,
+  arith,
+  false,
+  inr,
+  refl,
+  subst,
+  sym,
+  true,
+  ℕ,
+  ◌-◌,
+  ◌<◌,
+  ◌^◌,
+  ◌∙◌,
+  ◌∷◌,
+  ◌≡◌,
+}
 use Rattle.nvme_spec.specs.declared.command.Command.TheVariants.{WriteZeroes}
 use Rattle.nvme_spec.specs.declared.outcome.Outcome.{Outcome}
 use Rattle.nvme_spec.specs.declared.queues.QueueChange.TheVariants.{Keep}
@@ -25,7 +46,18 @@ use Rattle.nvme_machine.proofs.Denials.{allowed_does_its_effect, denied_changes_
 use Rattle.nvme_machine.proofs.Determined.{run_is_unique, steps}
 use Rattle.nvme_theorem_runs.specs.Cluster.{blocks, cluster, done, flush, held_by_a1, ready, reserved, zeroes, zeros}
 use Rattle.nvme_theorem_runs.specs.Fencing.{after_fenced, fenced, fenced_events, fenced_seen}
-use Rattle.nvme_theorem_runs.specs.Running.{AllowedOfAnyVerdict, DeniedOfAnyVerdict, DeniedWithoutRoom, PolicyAtWork, RunAtWork, RunOverFaults, conflict, empty_queues, judged, judged_controller}
+use Rattle.nvme_theorem_runs.specs.Running.{
+  AllowedOfAnyVerdict,
+  DeniedOfAnyVerdict,
+  DeniedWithoutRoom,
+  PolicyAtWork,
+  RunAtWork,
+  RunOverFaults,
+  conflict,
+  empty_queues,
+  judged,
+  judged_controller,
+}
 use Rattle.nvme_theorem_runs.proofs.Computing.{distinct, plain-run, rule_of}
 use Rattle.nvme_theorem_runs.proofs.FencingRuns.{seen-so}
 use Rattle.nvme_theorem_runs.proofs.Laying.{laid}
@@ -39,13 +71,15 @@ fenced-calm = (refl, refl)
 few : fenced.device.failures < 2 ^ 64 - 1
 few = subst (λ n. n < 2 ^ 64 - 1) (sym fenced-calm.1) (omega arith)
 
-alone : (new : Subsystem) (seen : List Seen) → Run true fenced fenced_events seen new → new.device.failures ≡ fenced.device.failures → (seen ≡ fenced_seen) × (new ≡ after_fenced)
+alone : (new : Subsystem) (seen : List Seen) → Run true fenced fenced_events seen new
+    → new.device.failures ≡ fenced.device.failures → (seen ≡ fenced_seen) × (new ≡ after_fenced)
 alone new seen run calm = let r = run_is_unique fenced new fenced_events seen run calm few in (r.0 ∙ seen-so, r.1)
 
 pub run_at_work : RunAtWork
 run_at_work = record {
   laid = laid (held_by_a1 1) [] [];
-  run = subst (λ seen. Run true fenced fenced_events seen after_fenced) seen-so (plain-run fenced fenced_events (laid (held_by_a1 1) [] []));
+  run = subst (λ seen. Run true fenced fenced_events seen after_fenced) seen-so
+      (plain-run fenced fenced_events (laid (held_by_a1 1) [] []));
   calm = fenced-calm.0;
   alone = alone;
 }
@@ -79,7 +113,16 @@ failing-step = record {
     refl,
     record {
       returned = [];
-      effect = record { world = refl; effect = (((λ told. refl), inr (record { answered = refl; failures = record { later = omega arith; risen = omega arith } })), refl) };
+      effect = record {
+        world = refl;
+        effect = (
+          (
+            (λ told. refl),
+            inr (record { answered = refl; failures = record { later = omega arith; risen = omega arith } }),
+          ),
+          refl,
+        );
+      };
       window = refl;
       dw0 = refl;
       rule = refl;
@@ -116,14 +159,17 @@ judged-laid = laid (held_by_a1 1) [] (zeroes 1 ∷ zeroes 2 ∷ [])
 abbrev a_plan : Plan
 a_plan = plan_of WriteZeroes (zeroes 2).entry
 
-judged-waits : Waits judged 2 0 judged_controller (zeroes 1) empty_queues × Waits judged 2 1 judged_controller (zeroes 2) empty_queues
+judged-waits : Waits judged 2 0 judged_controller (zeroes 1) empty_queues
+    × Waits judged 2 1 judged_controller (zeroes 2) empty_queues
 unfolding computing
 judged-waits = (record { at = refl; found = refl; room = refl }, record { at = refl; found = refl; room = refl })
 
 judged-facts : (judgement (queues_of judged_controller) 2 (zeroes 1) (scene_of judged judged_controller) ≡ Err conflict)
     × (io_verdict judged.world 2 (zeroes 2).entry false judged_controller.window ≡ Allowed a_plan)
-    × (namespace_bytes judged 2 ≡ replicate 512 2) × (namespace_bytes (fault_free_step judged (Execute 2 1)).left 2 ≡ replicate 512 0)
-    × (rule_of (fault_free_step judged (Execute 2 0)).seen ≡ 7) × (rule_of (fault_free_step judged (Execute 2 1)).seen ≡ 0)
+    × (namespace_bytes judged 2 ≡ replicate 512 2) × (namespace_bytes (fault_free_step judged (Execute 2 1)).left 2 ≡
+    replicate 512 0)
+    × (rule_of (fault_free_step judged (Execute 2 0)).seen ≡ 7)
+    × (rule_of (fault_free_step judged (Execute 2 1)).seen ≡ 0)
 unfolding computing judgement
 judged-facts = (refl, refl, refl, refl, refl, refl)
 
@@ -131,7 +177,8 @@ pub policy_at_work : PolicyAtWork
 policy_at_work =
     let first = fault_free_step judged (Execute 2 0) in
     let second = fault_free_step judged (Execute 2 1) in
-    let denied = denied_changes_its_entry_alone true judged first.left 2 0 judged_controller (zeroes 1) empty_queues conflict first.seen
+    let denied = denied_changes_its_entry_alone true judged first.left 2 0 judged_controller (zeroes 1) empty_queues
+    conflict first.seen
     (steps judged (Execute 2 0) judged-laid) judged-waits.0 judged-facts.0 in
     record {
       waits = judged-waits.0;
@@ -141,7 +188,8 @@ policy_at_work =
       waits_too = judged-waits.1;
       plan = a_plan;
       allowed = judged-facts.1;
-      does = allowed_does_its_effect true judged second.left 2 1 judged_controller (zeroes 2) empty_queues a_plan second.seen
+      does = allowed_does_its_effect true judged second.left 2 1 judged_controller (zeroes 2) empty_queues a_plan
+          second.seen
           (steps judged (Execute 2 1) judged-laid) judged-waits.1 refl judged-facts.1;
       before = judged-facts.2;
       written = judged-facts.3;
@@ -150,31 +198,36 @@ policy_at_work =
 pub denied_needs_a_denial : DeniedOfAnyVerdict → ⊥
 denied_needs_a_denial law =
     let second = fault_free_step judged (Execute 2 1) in
-    let is = law true judged second.left 2 1 judged_controller (zeroes 2) empty_queues conflict second.seen (steps judged (Execute 2 1) judged-laid) judged-waits.1 in
+    let is = law true judged second.left 2 1 judged_controller (zeroes 2) empty_queues conflict second.seen
+    (steps judged (Execute 2 1) judged-laid) judged-waits.1 in
     distinct 0 7 refl (sym judged-facts.5 ∙ ap rule_of is)
 
 pub allowed_needs_a_verdict : AllowedOfAnyVerdict → ⊥
 allowed_needs_a_verdict law =
     let first = fault_free_step judged (Execute 2 0) in
-    let is = law true judged first.left 2 0 judged_controller (zeroes 1) empty_queues a_plan first.seen (steps judged (Execute 2 0) judged-laid) judged-waits.0 refl in
+    let is = law true judged first.left 2 0 judged_controller (zeroes 1) empty_queues a_plan first.seen
+    (steps judged (Execute 2 0) judged-laid) judged-waits.0 refl in
     distinct 7 0 refl (sym judged-facts.4 ∙ ap rule_of is.gives ∙ is.performed.rule)
 
 -- A completion queue that is full.
 
 abbrev crowded_one : Controller
 crowded_one = record (ready 2 zeros (zeroes 1 ∷ [])) {
-  completion = None ∷ Some (record { base = 768; tail = record { size = 4; posted = 3; unread = 3 } }) ∷ None ∷ None ∷ None ∷ [];
+  completion = None ∷ Some (record { base = 768; tail = record { size = 4; posted = 3; unread = 3 } }) ∷ None ∷ None ∷
+      None ∷ [];
 }
 
 unfoldable crowded : Subsystem
 crowded = record (cluster (held_by_a1 1) [] []) { controllers = ready 1 zeros [] ∷ crowded_one ∷ [] }
 
-crowded-facts : (controller_at crowded 2 ≡ Some crowded_one) × (judgement (queues_of crowded_one) 2 (zeroes 1) (scene_of crowded crowded_one) ≡ Err conflict)
+crowded-facts : (controller_at crowded 2 ≡ Some crowded_one) ×
+    (judgement (queues_of crowded_one) 2 (zeroes 1) (scene_of crowded crowded_one) ≡ Err conflict)
     × Step true crowded (Execute 2 0) (Executed CqFull) crowded
 unfolding computing judgement crowded
 crowded-facts = (refl, refl, (refl, refl))
 
 pub denied_needs_room : DeniedWithoutRoom → ⊥
 denied_needs_room law =
-    let is = law true crowded crowded 2 0 crowded_one (zeroes 1) conflict (Executed CqFull) crowded-facts.2 crowded-facts.0 refl crowded-facts.1 in
+    let is = law true crowded crowded 2 0 crowded_one (zeroes 1) conflict (Executed CqFull) crowded-facts.2
+    crowded-facts.0 refl crowded-facts.1 in
     distinct 0 7 refl (ap rule_of is)

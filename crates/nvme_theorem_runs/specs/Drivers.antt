@@ -1,5 +1,22 @@
 -- Example runs of drivers: hosts that are apart, tickets, answers, faults that never come, and power cycles.
-use Rattle.std.specs.Prelude.{Bool, List, None, Ok, Option, Some, [], false, map, replicate, true, ℕ, ◌++◌, ◌+◌, ◌∷◌, ◌≡◌}
+use Rattle.std.specs.Prelude.{
+  Bool,
+  List,
+  None,
+  Ok,
+  Option,
+  Some,
+  [],
+  false,
+  map,
+  replicate,
+  true,
+  ℕ,
+  ◌++◌,
+  ◌+◌,
+  ◌∷◌,
+  ◌≡◌,
+}
 use Rattle.nvme_wire.specs.declared.status.Status.{Status}
 use Rattle.nvme_spec.specs.Blocks.{Device}
 use Rattle.nvme_spec.specs.Configuration.{Configuration}

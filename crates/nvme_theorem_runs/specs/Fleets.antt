@@ -1,5 +1,22 @@
 -- Example runs of fleets: two hosts with drivers that are up, over the namespaces of `Cluster`.
-use Rattle.std.specs.Prelude.{Bool, List, Option, Some, [], false, replicate, slice_get, true, ℕ, ◌++◌, ◌-◌, ◌<◌, ◌^◌, ◌∷◌, ◌≡◌}
+use Rattle.std.specs.Prelude.{
+  Bool,
+  List,
+  Option,
+  Some,
+  [],
+  false,
+  replicate,
+  slice_get,
+  true,
+  ℕ,
+  ◌++◌,
+  ◌-◌,
+  ◌<◌,
+  ◌^◌,
+  ◌∷◌,
+  ◌≡◌,
+}
 use Rattle.nvme_spec.specs.declared.outcome.Outcome.{Outcome}
 use Rattle.nvme_spec.specs.Blocks.{Device}
 use Rattle.nvme_spec.specs.Commands.{writers}
@@ -14,7 +31,16 @@ use Rattle.nvme_machine.specs.Secrecy.{DifferIn}
 use Rattle.nvme_machine.specs.Subsystems.{is_host_among}
 use Rattle.nvme_driver.specs.declared.request.Request.{Request}
 use Rattle.nvme_event.specs.declared.event.FleetEvent.{FleetEvent}
-use Rattle.nvme_event.specs.declared.event.FleetEvent.TheVariants.{BringUp, Execute, Fetch, Place, Poll, PowerCycle, Reset, Ring}
+use Rattle.nvme_event.specs.declared.event.FleetEvent.TheVariants.{
+  BringUp,
+  Execute,
+  Fetch,
+  Place,
+  Poll,
+  PowerCycle,
+  Reset,
+  Ring,
+}
 use Rattle.nvme_event.specs.Replies.{Reply}
 use Rattle.nvme_mailbox.specs.Deliveries.{plain}
 use Rattle.nvme_mailbox.specs.Determined.{failures_in}

@@ -23,7 +23,23 @@ use Rattle.nvme_machine.specs.Executing.{Setting, setting}
 use Rattle.nvme_machine.specs.FaultFree.{fault_free_left, fault_free_step}
 use Rattle.nvme_machine.specs.Fencing.{Allows, Forgets, LeavesReservation, namespace_bytes}
 use Rattle.nvme_machine.specs.Subsystems.{Step, Subsystem, controller_at}
-use Rattle.nvme_theorem_runs.specs.Cluster.{acquire, blocks, cluster, done, flush, forgotten, held_by_a1, ready, register, reserved, stores, stores_keys, with_b2, zeroes, zeros}
+use Rattle.nvme_theorem_runs.specs.Cluster.{
+  acquire,
+  blocks,
+  cluster,
+  done,
+  flush,
+  forgotten,
+  held_by_a1,
+  ready,
+  register,
+  reserved,
+  stores,
+  stores_keys,
+  with_b2,
+  zeroes,
+  zeros,
+}
 use Rattle.nvme_theorem_runs.specs.Fencing.{after_fenced, fenced, fenced_events, fenced_seen}
 use Rattle.nvme_spec.specs.Statuses as status
 
@@ -31,7 +47,7 @@ use Rattle.nvme_spec.specs.Statuses as status
 abbrev pub writing : Subsystem
 writing = cluster (held_by_a1 1) [] (zeroes 1 ∷ zeroes 2 ∷ [])
 
--- OnlyAllowedWritesWrite: the write of namespace 2 is allowed and changes its bytes; no other event is allowed, and none
+-- OnlyAllowedWritesWrite: the write of namespace 2 is allowed and changes its bytes. No other event is allowed, or
 -- changes a byte.
 pub record WritingAtWork : Type 0 where
   pub allowed : Allows altering writing (Execute 2 1) 2

@@ -20,7 +20,16 @@ use Rattle.nvme_machine.specs.Fencing.{LeavesReservation, ReservesNothing, RunWh
 use Rattle.nvme_machine.specs.PowerCycles.{IsCycled, Persists}
 use Rattle.nvme_machine.specs.Secrecy.{DifferIn, MayNotRead, over}
 use Rattle.nvme_machine.specs.Subsystems.{OfItsController, Run, Step, Subsystem, after_power_cycle}
-use Rattle.nvme_theorem_runs.specs.Cluster.{cluster, fetched_of, forgotten, held_by_a1, reserved, stores, zeroes, zeroes_entry}
+use Rattle.nvme_theorem_runs.specs.Cluster.{
+  cluster,
+  fetched_of,
+  forgotten,
+  held_by_a1,
+  reserved,
+  stores,
+  zeroes,
+  zeroes_entry,
+}
 use Rattle.nvme_theorem_runs.specs.Fencing.{after_fenced, fenced, fenced_events, fenced_seen}
 use Rattle.nvme_theorem_runs.specs.Reading.{after_secret, denied_seen, other_blocks, read_entry, secret, sends}
 use Rattle.nvme_spec.specs.Statuses as status
@@ -57,7 +66,8 @@ pub record SecrecyAtWork : Type 0 where
   pub persists : Persists secret.world 1
   pub run : RunWhere (ReservesNothing 1) secret (sends read_entry) denied_seen after_secret
   pub holds : (left : Device)
-      × RunWhere (LeavesReservation 1) (over other_blocks secret) (sends read_entry) denied_seen (over left after_secret)
+      × RunWhere (LeavesReservation 1) (over other_blocks secret) (sends read_entry) denied_seen
+      (over left after_secret)
       × DifferIn 1 after_secret.world after_secret.device left
 
 abbrev pub SecrecyOfAnyReservation : Type 0

@@ -15,7 +15,16 @@ use Rattle.nvme_machine.specs.Fencing.{namespace_bytes}
 use Rattle.nvme_machine.specs.Preempted.{IsAbortedAt, Preempts, RunKeeping, removed_hosts}
 use Rattle.nvme_machine.specs.Runs.{IsMarkedBy}
 use Rattle.nvme_machine.specs.Subsystems.{Step, Subsystem, after_power_cycle, controller_at, is_host_among}
-use Rattle.nvme_theorem_runs.specs.Cluster.{acquire, cluster, fetched_of, stores, stores_keys, with_b2, zeroes, zeroes_entry}
+use Rattle.nvme_theorem_runs.specs.Cluster.{
+  acquire,
+  cluster,
+  fetched_of,
+  stores,
+  stores_keys,
+  with_b2,
+  zeroes,
+  zeroes_entry,
+}
 use Rattle.nvme_spec.specs.Statuses as status
 
 -- Host a1h has fetched a Preempt and Abort of host b2h, with its keys in place, and a write; host b2h has fetched a

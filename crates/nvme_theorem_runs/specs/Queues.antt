@@ -7,7 +7,16 @@ use Rattle.nvme_machine.specs.declared.event.Event.TheVariants.{Execute, Fetch, 
 use Rattle.nvme_machine.specs.declared.fetched.FetchedCommand.{FetchedCommand}
 use Rattle.nvme_machine.specs.declared.seen.Seen.{Seen}
 use Rattle.nvme_machine.specs.declared.seen.Seen.TheVariants.{Cycled, Outside, Stored, Value, Wrote}
-use Rattle.nvme_machine.specs.Controllers.{CompletionQueue, Controller, QueuePair, SubmissionQueue, completion_at, completion_of, open_pair, submission_at}
+use Rattle.nvme_machine.specs.Controllers.{
+  CompletionQueue,
+  Controller,
+  QueuePair,
+  SubmissionQueue,
+  completion_at,
+  completion_of,
+  open_pair,
+  submission_at,
+}
 use Rattle.nvme_machine.specs.FaultFree.{fault_free_left, fault_free_seen, fault_free_step}
 use Rattle.nvme_machine.specs.Posted.{PostedEntry, RunSparing, StandsUnread}
 use Rattle.nvme_machine.specs.Preempted.{RunKeeping}
@@ -15,7 +24,18 @@ use Rattle.nvme_machine.specs.Runs.{StandsIn, TakesOut}
 use Rattle.nvme_machine.specs.Subsystems.{Run, Step, Subsystem, controller_at, opening}
 use Rattle.nvme_machine.specs.Windows.{AllHaveTheirWindows}
 use Rattle.nvme_machine.specs.Wiring.{IsWired}
-use Rattle.nvme_theorem_runs.specs.Cluster.{blocks, cluster, fetched_of, flush, held_by_a1, pair, ready, stores, zeroes, zeros}
+use Rattle.nvme_theorem_runs.specs.Cluster.{
+  blocks,
+  cluster,
+  fetched_of,
+  flush,
+  held_by_a1,
+  pair,
+  ready,
+  stores,
+  zeroes,
+  zeros,
+}
 use Rattle.nvme_spec.specs.Memory as memory
 use Rattle.nvme_spec.specs.Statuses as status
 
@@ -31,8 +51,8 @@ unfoldable pub waiting_events : List Event
 waiting_events =
     stores 2 0 (1 ∷ []) ∷ Write32 2 0x100c 0 ∷ Read32 2 0x1c ∷ Fetch 2 1 ∷ Execute 2 0 ∷ []
 
--- FetchedStays and CommandsAreFollowed: the second write goes from place 1 to place 0. An execution, a reset and a power
--- cycle take the first one out; a store, another register write, a read, a fetch and events of host a1h don't.
+-- FetchedStays and CommandsAreFollowed: the second write goes from place 1 to place 0. An execution, a reset and a
+-- power cycle take the first one out; a store, another register write, a read, a fetch and events of host a1h don't.
 pub record StayingAtWork : Type 0 where
   pub run : RunKeeping true 2 waiting 1 waiting_events (fault_free_seen waiting waiting_events)
       (fault_free_left waiting waiting_events) 0
@@ -92,8 +112,8 @@ entry = record {
   bytes = completion_of (flush 1) whole_queues status.successful_completion 0;
 }
 
--- Host b2h stores where the entry of host a1h is in its own window, resets, and its commands are gone; host a1h reads its
--- status and has nothing more to fetch.
+-- Host b2h stores in its own window at the address of the entry, has its Flush executed, and resets; host a1h reads
+-- its status and has nothing more to fetch.
 unfoldable pub sparing_events : List Event
 sparing_events =
     stores 2 8192 (1 ∷ []) ∷ Execute 2 0 ∷ Write32 2 0x14 0 ∷ Read32 1 0x1c ∷ Fetch 1 1 ∷ []

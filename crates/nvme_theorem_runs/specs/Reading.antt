@@ -51,7 +51,8 @@ pub record ReadingAtWork : Type 0 where
   pub bytes : namespace_bytes secret 1 ≡ replicate 512 1
   pub other_bytes : namespace_bytes (over other_blocks secret) 1 ≡ replicate 512 9
   pub holds : (left : Device)
-      × RunWhere (LeavesReservation 1) (over other_blocks secret) (sends read_entry) denied_seen (over left after_secret)
+      × RunWhere (LeavesReservation 1) (over other_blocks secret) (sends read_entry) denied_seen
+      (over left after_secret)
       × DifferIn 1 after_secret.world after_secret.device left
   pub same : (other : Subsystem) → (others : List Seen)
       → Run true (over other_blocks secret) (sends read_entry) others other → other.device.failures ≡ 0

@@ -1,6 +1,20 @@
 //! Runs of the theorems about drivers.
 
-ghost use Rattle.nvme_theorem_runs.specs.Drivers.{AbortingAtWork, AbortingByAnyEvent, AnswersAtWork, AnswersOfAnyMailbox, ApartAtWork, ApartOfAnyHost, SinceAnyEvent, SinceAnyMoment, SinceUpAtWork, TicketsAtWork, TicketsOfAnyMailbox, UnseenAtWork, UnseenOfAnyHost};
+ghost use Rattle.nvme_theorem_runs.specs.Drivers.{
+  AbortingAtWork,
+  AbortingByAnyEvent,
+  AnswersAtWork,
+  AnswersOfAnyMailbox,
+  ApartAtWork,
+  ApartOfAnyHost,
+  SinceAnyEvent,
+  SinceAnyMoment,
+  SinceUpAtWork,
+  TicketsAtWork,
+  TicketsOfAnyMailbox,
+  UnseenAtWork,
+  UnseenOfAnyHost,
+};
 
 /// HostsAreApart: a request of one host, and a Preempt and Abort, which marks. A raw host has no mailbox.
 #[tactic(auto, using(crate::proofs::DriverRuns::apart_at_work, crate::proofs::DriverRuns::apart_needs_a_driver))]

@@ -1,7 +1,12 @@
 //! Runs of the theorems about fencing.
 
 ghost use Rattle.nvme_theorem_runs.specs.EachEvent.{EachEventAtWork, EachEventOfAnyHost, SecrecyOfAnyHost};
-ghost use Rattle.nvme_theorem_runs.specs.Fencing.{FencingAtWork, FencingOfAnyHost, FencingOnAnyLayout, FencingOverAnyRun};
+ghost use Rattle.nvme_theorem_runs.specs.Fencing.{
+  FencingAtWork,
+  FencingOfAnyHost,
+  FencingOnAnyLayout,
+  FencingOverAnyRun,
+};
 ghost use Rattle.nvme_theorem_runs.specs.Reading.{ReadingAtWork, ReadingOfAnyHost};
 
 /// FencingHolds: a host that may not write namespace 1 sends a write to each namespace. The first is denied.

@@ -1,6 +1,18 @@
 //! Runs of the theorems about fleets: the policy, fencing, preempted hosts, secrecy, and fencing that outlasts power.
 
-ghost use Rattle.nvme_theorem_runs.specs.Fleets.{FleetFencingAtWork, FleetFencingOfAnyHost, FleetFencingOverAnyRun, FleetOutlastingAtWork, FleetOutlastingOfAnyReservation, FleetPreemptingAtWork, FleetPreemptingOverAnyRun, FleetPreemptingUnheld, FleetReadingAtWork, FleetReadingOfAnyHost, PolicyOfAnyCommand};
+ghost use Rattle.nvme_theorem_runs.specs.Fleets.{
+  FleetFencingAtWork,
+  FleetFencingOfAnyHost,
+  FleetFencingOverAnyRun,
+  FleetOutlastingAtWork,
+  FleetOutlastingOfAnyReservation,
+  FleetPreemptingAtWork,
+  FleetPreemptingOverAnyRun,
+  FleetPreemptingUnheld,
+  FleetReadingAtWork,
+  FleetReadingOfAnyHost,
+  PolicyOfAnyCommand,
+};
 
 /// FencingHolds and ExecutedAsThePolicyAllows of a fleet: the holder's write is done, that of the other host is denied.
 #[tactic(auto, using(crate::proofs::FleetRuns::fleet_fencing_at_work))]

@@ -1,6 +1,20 @@
 //! Runs of the theorems about what changes a medium and a reservation, and about calls of the medium.
 
-ghost use Rattle.nvme_theorem_runs.specs.Medium.{CallsAtWork, CallsOfAnyHost, CallsOfAnyList, CommandAtWork, CommandOfAnyHost, FlushAtWork, FlushOfAnyCommand, FlushOfAnyStatus, NoCallOfAnyCommand, ReservingAtWork, ReservingWithoutAStep, WritingAtWork, WritingOnAnyLayout};
+ghost use Rattle.nvme_theorem_runs.specs.Medium.{
+  CallsAtWork,
+  CallsOfAnyHost,
+  CallsOfAnyList,
+  CommandAtWork,
+  CommandOfAnyHost,
+  FlushAtWork,
+  FlushOfAnyCommand,
+  FlushOfAnyStatus,
+  NoCallOfAnyCommand,
+  ReservingAtWork,
+  ReservingWithoutAStep,
+  WritingAtWork,
+  WritingOnAnyLayout,
+};
 
 /// OnlyAllowedWritesWrite: one of two writes is allowed. Namespaces that share a block need no write of their own.
 #[tactic(auto, using(crate::proofs::MediumRuns::writing_at_work, crate::proofs::MediumRuns::writing_needs_the_layout))]

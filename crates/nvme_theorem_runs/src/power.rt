@@ -1,6 +1,17 @@
 //! Runs of the theorems about power cycles and write protection.
 
-ghost use Rattle.nvme_theorem_runs.specs.Power.{OutlastingAtWork, OutlastingOfAnyReservation, OutlastingOverAnyRun, PowerAtWork, PowerTakesByAnyEvent, ProtectionAtWork, ProtectionOfAnyKind, ProtectionOverPower, SecrecyAtWork, SecrecyOfAnyReservation};
+ghost use Rattle.nvme_theorem_runs.specs.Power.{
+  OutlastingAtWork,
+  OutlastingOfAnyReservation,
+  OutlastingOverAnyRun,
+  PowerAtWork,
+  PowerTakesByAnyEvent,
+  ProtectionAtWork,
+  ProtectionOfAnyKind,
+  ProtectionOverPower,
+  SecrecyAtWork,
+  SecrecyOfAnyReservation,
+};
 
 /// FencingOutlastsPower and PersistenceLasts: a fenced host is fenced when power is back.
 #[tactic(auto, using(crate::proofs::PowerRuns::outlasting_at_work))]
@@ -29,7 +40,8 @@ fn power_takes()
     ensures cycle { PowerTakesByAnyEvent → ⊥ }
 {}
 
-/// ProtectedUntilPower: the holder's writes are denied. A power cycle ends the protection; without it the holder writes.
+/// ProtectedUntilPower: the holder's writes are denied. A power cycle ends the protection, and a namespace without it
+/// is written.
 #[tactic(auto, using(crate::proofs::PowerRuns::protection_at_work, crate::proofs::PowerRuns::protection_needs_power, crate::proofs::PowerRuns::protection_needs_a_kind))]
 fn protected_until_power()
     ensures at_work { ProtectionAtWork }

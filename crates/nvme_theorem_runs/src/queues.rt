@@ -1,6 +1,16 @@
 //! Runs of the theorems about queues: fetched commands, completions and windows.
 
-ghost use Rattle.nvme_theorem_runs.specs.Queues.{PostedAtWork, StayingAtWork, StayingOfAnyCommand, StayingOverAnyEvent, UnreadOverAnyRun, WaitingAtWork, WaitingOfAnyController, WindowsAtWork, WindowsOfAnyLength};
+ghost use Rattle.nvme_theorem_runs.specs.Queues.{
+  PostedAtWork,
+  StayingAtWork,
+  StayingOfAnyCommand,
+  StayingOverAnyEvent,
+  UnreadOverAnyRun,
+  WaitingAtWork,
+  WaitingOfAnyController,
+  WindowsAtWork,
+  WindowsOfAnyLength,
+};
 
 /// FetchedStays: a fetched command moves up in its list, and leaves it by an execution, a reset or a power cycle.
 #[tactic(auto, using(crate::proofs::QueueRuns::staying_at_work, crate::proofs::QueueRuns::staying_needs_a_command, crate::proofs::QueueRuns::staying_needs_what_takes))]
