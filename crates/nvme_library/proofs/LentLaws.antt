@@ -1,5 +1,5 @@
 -- What calls leave of the bytes that C lends.
-use Rattle.std.proofs.Common.{◌≡◌, ℕ, zero, suc, ◌<◌, ◌^◌, ◌-◌, List, [], ◌∷◌, ◌++◌, Option, None, Some, Result, Ok, Err, refl, sym, ap, subst, ◌∙◌, true, arith}
+use Rattle.std.proofs.Common.{◌≡◌, ℕ, zero, suc, List, [], ◌∷◌, ◌++◌, Option, None, Some, Result, Ok, Err, refl, sym, ap, subst, ◌∙◌, true, arith}
 use Rattle.std.proofs.lemmas.List.{append-nil}
 use Rattle.nvme_spec.specs.declared.medium.MediumFault.{MediumFault}
 use Rattle.nvme_spec.specs.FaultFreeCalls.{content_step}

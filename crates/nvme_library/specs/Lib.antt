@@ -1,5 +1,6 @@
 pub mod Access
 pub mod Answers
+pub mod CallExamples
 pub mod Events
 pub mod Examples
 pub mod Given

@@ -1,5 +1,6 @@
-//! Worked examples of the definitions. The function does nothing: its contract is proved by computing.
+//! Worked examples of the definitions. The functions do nothing: their contracts are proved by computing.
 
+ghost use Rattle.nvme_library.specs.CallExamples.{CyclingMakesNoCall, ExecutingMakesItsCalls, LooksMakeTheirReads};
 ghost use Rattle.nvme_library.specs.Examples.{OneBlockOpens, NoBlockDoesNotOpen, HostlessDoesNotOpen, CopyIsNotLent};
 
 /// A controller of host 5 and a namespace of one block open over any medium of one block, and over none of no block. A
@@ -10,4 +11,12 @@ pub fn one_block_is_opened()
     ensures no_block { NoBlockDoesNotOpen }
     ensures hostless { HostlessDoesNotOpen }
     ensures copy { CopyIsNotLent }
+{}
+
+/// An executed Flush makes one flush, and a Write its writes; a power cycle makes no call, and a look at a block one read.
+#[tactic(auto, using(crate::proofs::CallExamples::executing_makes_its_calls, crate::proofs::CallExamples::cycling_makes_no_call, crate::proofs::CallExamples::looks_make_their_reads))]
+pub fn calls_are_made()
+    ensures execution { ExecutingMakesItsCalls }
+    ensures cycle { CyclingMakesNoCall }
+    ensures look { LooksMakeTheirReads }
 {}

@@ -1,0 +1,188 @@
+-- Examples of calls, by computing.
+use Rattle.std.proofs.Common.{◌≡◌, ℕ, List, [], ◌∷◌, ◌++◌, None, Ok, Some, refl, sym, ap, subst, ◌∙◌, true}
+use Rattle.std.specs.Prelude.{replicate, slice_range}
+use Rattle.std.proofs.lemmas.List.{append-nil}
+use Rattle.nvme_wire.specs.Completion.{completion_entry}
+use Rattle.nvme_wire.specs.Submission.{cdw10, cdw11, cdw12, cid, fuse, nsid, opcode, prp1, prp2, psdt}
+use Rattle.nvme_spec.specs.Commands.{block_count, command_of, starting_lba}
+use Rattle.nvme_spec.specs.Configuration.{first_config_fault}
+use Rattle.nvme_spec.specs.DataRules.{data_addresses, pointer_rule}
+use Rattle.nvme_spec.specs.Entries.{command_entry, transfer_entry}
+use Rattle.nvme_spec.specs.Execution.{no_marks}
+use Rattle.nvme_spec.specs.FaultFree.{fault_free_execution}
+use Rattle.nvme_spec.specs.FaultFreeCalls.{command_calls}
+use Rattle.nvme_spec.specs.IoData.{action_outcome, action_rule, io_judgement, reservation_outcome}
+use Rattle.nvme_spec.specs.IoRules.{
+  attachment_rule,
+  field_rule,
+  form_rule,
+  mark_rule,
+  nsid_rule,
+  opcode_rule,
+  protection_rule,
+  range_rule,
+  reservation_rule,
+}
+use Rattle.nvme_spec.specs.Layout.{IsLaidOut}
+use Rattle.nvme_spec.specs.MediumCalls.{Calls, Reads, Flushes}
+use Rattle.nvme_spec.specs.Memory.{qword}
+use Rattle.nvme_spec.specs.Pointer.{fault_of, first_fault}
+use Rattle.nvme_spec.specs.Rules.{judgement_by}
+use Rattle.nvme_spec.specs.Transfers.{addresses, with_scattered}
+use Rattle.nvme_spec.specs.World.{host_of, is_attached, namespace_of, opening_world}
+use Rattle.nvme_spec.proofs.Openings.{opening_is_laid_out}
+use Rattle.nvme_lent.specs.OwnOrLent.{bytes_of, step_of}
+use Rattle.nvme_lent.specs.declared.either.OwnOrLent.{OwnOrLent}
+use Rattle.nvme_lent.specs.declared.either.OwnOrLent.TheVariants.{Own, Lent}
+use Rattle.nvme_lent.proofs.CallLaws.{bytes_follow}
+use Rattle.nvme_machine.specs.declared.event.Event.TheVariants.{Execute}
+use Rattle.nvme_machine.specs.Bare.{seen_with}
+use Rattle.nvme_machine.specs.CallLaws.{IsFlushAt}
+use Rattle.nvme_machine.specs.Controllers.{after_posting, after_queue_change, open_pair}
+use Rattle.nvme_machine.specs.EventCalls.{AreCallsOfStep}
+use Rattle.nvme_machine.specs.Examples.{a_flush, small}
+use Rattle.nvme_machine.specs.FaultFree.{fault_free_command_execution, fault_free_step}
+use Rattle.nvme_machine.specs.FaultFreeCalls.{event_calls}
+use Rattle.nvme_machine.specs.Subsystems.{Subsystem, Step, after_completion, after_execution, controller_at}
+use Rattle.nvme_machine.proofs.CallLaws.{flushed_is_one_flush, run_calls_exist}
+use Rattle.nvme_machine.proofs.Determined.{steps}
+use Rattle.nvme_subsys.specs.OverMedium.{over}
+use Rattle.nvme_library.specs.CallExamples.{
+  CyclingMakesNoCall,
+  ExecutingMakesItsCalls,
+  LooksAtFirst,
+  LooksMakeTheirReads,
+  after,
+  flushing,
+  is_done,
+  writing,
+}
+use Rattle.nvme_library.specs.Events.{Executing}
+use Rattle.nvme_library.proofs.LentLaws.{bytes_stay_the_content, looks_leave_the_medium}
+
+-- all that executions are computed with: to unfold this word is to unfold them
+unfoldable computing : Unit {0}
+unfolding completion_entry cdw10 cdw11 cdw12 cid fuse nsid opcode prp1 prp2 psdt block_count command_of starting_lba
+    data_addresses pointer_rule command_entry transfer_entry fault_free_execution command_calls action_outcome action_rule
+    io_judgement reservation_outcome attachment_rule field_rule form_rule mark_rule nsid_rule opcode_rule protection_rule
+    range_rule reservation_rule qword fault_of first_fault judgement_by addresses with_scattered host_of is_attached
+    namespace_of opening_world after_posting after_queue_change open_pair fault_free_command_execution after_completion
+    after_execution controller_at flushing writing
+computing = tt
+
+fits : first_config_fault small 2 ≡ None
+unfolding first_config_fault
+fits = refl
+
+flushing-laid : IsLaidOut flushing.world flushing.device.content
+unfolding flushing
+flushing-laid = opening_is_laid_out small 2 _ refl fits
+
+writing-laid : IsLaidOut writing.world writing.device.content
+unfolding writing
+writing-laid = opening_is_laid_out small 2 _ refl fits
+
+-- An execution.
+
+its-calls : (s : Subsystem) → IsLaidOut s.world s.device.content
+    → AreCallsOfStep true s (Execute 1 0) (fault_free_step s (Execute 1 0)).seen (after s) (event_calls s (Execute 1 0))
+its-calls s laid =
+    let r = (run_calls_exist s (Execute 1 0 ∷ []) laid).0 in
+    let own : r.1 ≡ event_calls s (Execute 1 0) =
+    sym (append-nil r.1) ∙ ap (λ cs. r.1 ++ cs) (sym r.4.1) ∙ sym r.5 ∙ append-nil (event_calls s (Execute 1 0)) in
+    subst (λ cs. AreCallsOfStep true s (Execute 1 0) (fault_free_step s (Execute 1 0)).seen (after s) cs) own
+    (subst (λ mid. AreCallsOfStep true s (Execute 1 0) (fault_free_step s (Execute 1 0)).seen mid r.1) (sym r.4.0) r.3)
+
+flush-seen : (fault_free_step flushing (Execute 1 0)).seen ≡ seen_with no_marks is_done
+unfolding computing
+flush-seen = refl
+
+flush-calls : event_calls flushing (Execute 1 0) ≡ Flushes (Ok tt) ∷ []
+unfolding computing
+flush-calls = refl
+
+flush-step : (m : OwnOrLent) → step_of m (Flushes (Ok tt)) m
+flush-step (Own m) = (refl, refl)
+flush-step (Lent m) = (refl, refl)
+
+executes : (m : OwnOrLent) → Executing 1 0 (over flushing m) is_done (over (after flushing) m)
+executes m = record {
+  marks = no_marks;
+  marked = refl;
+  executes = subst (λ seen. Step true flushing (Execute 1 0) seen (after flushing)) flush-seen (steps flushing (Execute 1 0) flushing-laid);
+  calls = record {
+    calls = Flushes (Ok tt) ∷ [];
+    are = subst (λ seen. AreCallsOfStep true flushing (Execute 1 0) seen (after flushing) (Flushes (Ok tt) ∷ [])) flush-seen
+        (subst (λ cs. AreCallsOfStep true flushing (Execute 1 0) (fault_free_step flushing (Execute 1 0)).seen (after flushing) cs) flush-calls
+        (its-calls flushing flushing-laid));
+    made = (m, flush-step m, refl);
+  };
+}
+
+is-flush : IsFlushAt flushing 1 0
+unfolding computing
+is-flush = record { controller = _; command = a_flush; at = refl; found = refl; io = refl; is = refl }
+
+flush-leaves : (m other : OwnOrLent) → Executing 1 0 (over flushing m) is_done (over (after flushing) other) → bytes_of other ≡ bytes_of m
+flush-leaves m other h =
+    let one = flushed_is_one_flush true flushing (after flushing) 1 0 _ h.calls.calls h.calls.are is-flush refl in
+    let made = bytes_follow m other (Flushes (Ok tt) ∷ []) (subst (λ cs. Calls step_of m cs other) one h.calls.made) in
+    made.2 ∙ made.1.1
+
+quiet : (writing.device.failures ≡ 0) × ((after writing).device.failures ≡ 0) × ((after writing).device.content ≡ replicate 1024 0)
+unfolding computing
+quiet = (refl, refl, refl)
+
+pub executing_makes_its_calls : ExecutingMakesItsCalls
+executing_makes_its_calls = record {
+  flushes = executes;
+  no_write = λ m other differ h. differ (flush-leaves m other h);
+  writes = λ m other is h. bytes_stay_the_content 1 0 (over writing m) (over (after writing) other) is_done h writing-laid quiet.0 quiet.1 is ∙ quiet.2;
+}
+
+-- A power cycle.
+
+pub cycling_makes_no_call : CyclingMakesNoCall
+cycling_makes_no_call = record {
+  leaves = λ s. (refl, refl, refl);
+  no_write = λ s other differ h. differ (ap bytes_of h.2);
+}
+
+-- Looks.
+
+read-step : (m : OwnOrLent) → bytes_of m ≡ flushing.device.content → step_of m (Reads 0 (Ok (replicate 512 1))) m
+unfolding flushing
+read-step (Own m) is = (ap (λ bytes. Ok (slice_range bytes 0 512)) (sym is), refl)
+read-step (Lent m) is = (ap (λ bytes. Ok (slice_range bytes 0 512)) (sym is), refl)
+
+looks : (m : OwnOrLent) → bytes_of m ≡ flushing.device.content → LooksAtFirst m (replicate 512 1) m
+unfolding computing
+looks m is = record {
+  looks = record {
+    read = λ told. refl;
+    content = λ told. refl;
+    count = record { done = λ h. refl; failed = λ h. absurd (cc) };
+    world = refl;
+    controllers = refl;
+  };
+  calls = record { passed = 1; ends = refl; made = (m, read-step m is, refl); read = λ told. refl; behind = refl; long = refl };
+}
+
+first_byte : List ℕ → ℕ
+first_byte [] = 0
+first_byte (x ∷ xs) = x
+
+looked-bytes : (m other : OwnOrLent) → LooksAtFirst m (replicate 512 2) other → replicate {A = ℕ} 512 2 ≡ replicate 512 1
+unfolding computing
+looked-bytes m other h = h.looks.read refl
+
+pub looks_make_their_reads : LooksMakeTheirReads
+unfolding first_byte
+looks_make_their_reads = record {
+  reads = looks;
+  no_other_bytes = λ m other h. two-is-one (ap first_byte (looked-bytes m other h));
+  no_write = λ m other differ h. differ (ap bytes_of (looks_leave_the_medium 1 0 1 (over flushing m) (over flushing other) (replicate 512 7) (replicate 512 1) (Some (Ok tt)) h));
+}
+  where
+    two-is-one : ◌≡◌ {A = ℕ} 2 1 → ⊥
+    two-is-one e = absurd (cc)

@@ -1,0 +1,2 @@
+pub mod LayerRuns
+pub mod SessionRuns

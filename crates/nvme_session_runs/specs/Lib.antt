@@ -1,0 +1,2 @@
+pub mod BothLayers
+pub mod Sessions

@@ -1,0 +1,15 @@
+pub mod Unfolding
+pub mod Computing
+pub mod Laying
+pub mod FencingRuns
+pub mod ReadingRuns
+pub mod PreemptingRuns
+pub mod MediumRuns
+pub mod EachEventRuns
+pub mod PowerRuns
+pub mod QueueRuns
+pub mod RunningRuns
+pub mod FleetUnfolding
+pub mod FleetComputing
+pub mod FleetRuns
+pub mod DriverRuns

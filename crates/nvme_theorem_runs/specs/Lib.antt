@@ -1,0 +1,11 @@
+pub mod Cluster
+pub mod Fencing
+pub mod Reading
+pub mod Preempting
+pub mod Medium
+pub mod EachEvent
+pub mod Power
+pub mod Queues
+pub mod Running
+pub mod Fleets
+pub mod Drivers
