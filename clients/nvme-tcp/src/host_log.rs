@@ -86,7 +86,7 @@ impl Target<'_> {
             (CONNECT_PARAMETERS, SUBNQN) => "there is no subsystem of this name",
             (CONNECT_PARAMETERS, HOSTNQN) => "the name of the host is wrong",
             (CONNECT_PARAMETERS, _) => "a parameter of Connect is wrong",
-            _ => "the command is out of sequence",
+            _ => "the command can't be executed",
         }
     }
 

@@ -181,7 +181,7 @@ class Logs(LogTest):
                 ("this host has no such controller", "1:82", {"host": 0xb2, "cntlid": 1}),
                 ("the name of the host is wrong", "1:82", {"host": 0xb2, "host_name": "n" * 256}),
                 ("a parameter of Connect is wrong", "1:82", {"host": 0xb2, "size": 1}),
-                ("the command is out of sequence", "0:0c", {"host": 0xa1, "qid": 1, "cntlid": a.cntlid})):
+                ("the command can't be executed", "0:0c", {"host": 0xa1, "qid": 1, "cntlid": a.cntlid})):
             queue = Queue(self.target.port)
             queue.connect(**{"qid": 0, **how})
             host = f"{how['host']:02x}000000-0000-0000-0000-000000000000"
