@@ -1,5 +1,5 @@
-/* A subsystem over a file of blocks, by mmap. A Write stands in the file at once; a Flush is followed by a sync, before
- * its completion is handed on.
+/* A subsystem over a file of blocks, by mmap. A Write changes the file at once; a Flush is followed by a sync, before
+ * its completion is used.
  *
  *     cc image.c $(pkg-config --cflags --libs nvmesim) && ./a.out disk.img
  */
