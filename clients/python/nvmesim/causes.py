@@ -1,7 +1,7 @@
 """Why a command was denied by rule 6 or 11: which field has which value, and what it met.
 
 The program says that a command is denied, by which rule and with which status. These rows say what for: the first that
-holds, and has that status. A denied command changes nothing, so that what it met can be looked at behind it.
+holds, and has that status. A denied command changes nothing, so that what it met can be looked at after it.
 """
 from __future__ import annotations
 
@@ -119,7 +119,7 @@ def _asked_raw(command: Command, entry: Entry, host: int, look: Look) -> Optiona
 
 
 def _read_data(asked: _Asked) -> None:
-    """The keys, or the list of controllers, that lie in the window of a raw host."""
+    """The keys, or the list of controllers, that are in the window of a raw host."""
     place = asked["PRP1"]
     if asked.verb == "attachment":
         asked.verb = "detach" if asked["SEL"] else "attach"

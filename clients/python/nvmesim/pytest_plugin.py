@@ -91,7 +91,7 @@ class ScriptItem(pytest.Item):
             raise ExpectationsFailed(trial)
 
     def repr_failure(self, excinfo: Any, style: Optional[str] = None) -> Any:
-        """What was wanted beside what came, in place of a trace."""
+        """What was expected next to what came, instead of a trace."""
         if isinstance(excinfo.value, ExpectationsFailed):
             return "\n".join(trial_lines(excinfo.value.trial))
         if isinstance(excinfo.value, NvmesimError):  # no script, or no program

@@ -42,7 +42,7 @@ class CommandTest(FolderCase):
                 (["explore", str(RACE), "--jobs", "0"], "--jobs and --shards are 1 at least"),
                 (["explore", str(RACE), "--shard", "9/8"], "'9/8' is no part: K/N was wanted, such as 1/8"),
                 (["explore"], "explore wants a SCRIPT, or --merge and files"),
-                (["explore", "--merge", str(text), "--image", str(text)], "--image stands where parts are explored"),
+                (["explore", "--merge", str(text), "--image", str(text)], "--image belongs to the parts, not to their --merge"),
                 (["timeline", str(RACE), "--format", "png"], "a PNG file needs a name: -o FILE"),
                 (["timeline", str(RACE), "-o", "a.pdf"], "a.pdf ends with .pdf, which is no format that is written "
                  "here: .html or .svg or .png, or no ending"),

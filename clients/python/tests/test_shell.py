@@ -120,7 +120,7 @@ class ShellTest(FolderCase):
                  "change 2 namespace 1 blocks 8 shared", "start", "up 1", "why"]
         status, told, errors = self.typed(lines)
         self.assertEqual((status, errors), (0, ""))
-        kept = "what was typed is kept: list shows it, change K LINE and drop K mend it, and start tries it again"
+        kept = "the lines are kept: list shows them, change K LINE and drop K fix them, and start tries again"
         self.assertEqual(told[5:11], [
             "refused line 5: BadId; line 4: controller 1 is attached to namespace 1 twice", kept,
             "  1  controller 1 host 1", "  2  namespace 1 blocks 70000 shared", "  3  attached 1 1",

@@ -14,7 +14,7 @@ Record = Dict[str, Any]
 
 
 def trial_records(trial: Trial) -> Iterator[str]:
-    """The lines about one test: its events and expectations as they stand in the script, then what is left."""
+    """The lines about one test: its events and expectations as they are in the script, then what is left."""
     judged = list(trial.judged)
     for record in _in_order(trial, judged):
         yield json.dumps({"script": trial.test.name, **record})

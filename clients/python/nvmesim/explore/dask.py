@@ -38,7 +38,7 @@ def explore_on_dask(plan: Plan, address: str, shards: int, program: Optional[str
         shards: so many parts.
         program: the program `nvmelive` as the workers find it, or None for what they find themselves.
         seconds: the time limit of each answer.
-        image: the image, which the workers find where it lies here; None for zeros in memory.
+        image: the image, which the workers find where it is here; None for zeros in memory.
         client: a client of the cluster, if there is one.
 
     Raises:

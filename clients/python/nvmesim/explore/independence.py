@@ -13,7 +13,7 @@ from .plan import Plan, Step
 from .states import State
 
 Part = Tuple[Union[str, int], ...]
-"""A part: ('host', C) is a controller, its window and its host's driver, but for the commands that it has fetched,
+"""A part: ('host', C) is a controller, its window and its host's driver, except for the commands that it has fetched,
 which are ('fetched', C); ('access', N) is the reservation and the write protection of namespace N, ('attached',) all
 attachments, ('block', N, LBA) a block, ('write cache',) what a Flush covers, and ('calls',) the number of calls of the
 image."""

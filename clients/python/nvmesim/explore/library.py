@@ -45,7 +45,7 @@ def library() -> Path:
 
 
 def _compile(compiler: str, place: Path) -> None:
-    """Compiles the library beside its place, and puts it there whole."""
+    """Compiles the library next to its place, then moves it there."""
     number, new = tempfile.mkstemp(dir=place.parent, suffix=".new")
     os.close(number)
     try:

@@ -11,7 +11,7 @@ Labels = Tuple[Tuple[str, str], ...]
 
 @dataclass(frozen=True)
 class Outcome:
-    """What an order comes to: the answer of each event by its name, and what looking lines told behind the last."""
+    """The outcome of an order: the answer of each event by its name, and the answers of queries after the last."""
 
     labels: Labels
     last: Tuple[str, ...]
@@ -31,7 +31,7 @@ def in_one_form(told: str) -> str:
 
 @dataclass(frozen=True)
 class Ways:
-    """The orders that come to the same: how many, and one that is told most shortly.
+    """The orders with one outcome: how many, and the one with the fewest changes between parts.
 
     That is one in which the parts change least often; of several the first, part by part as the script has them.
     """
@@ -59,5 +59,5 @@ def joined(parts: Iterable[Findings]) -> Findings:
 
 
 def ranked(found: Findings) -> List[Tuple[Outcome, Ways]]:
-    """Outcomes as they are shown: by the order that tells them, which no two share."""
+    """Outcomes as they are shown: by the order that represents them, which no two share."""
     return sorted(found.items(), key=lambda it: (it[1].changes, it[1].order))

@@ -14,14 +14,14 @@ from .decoded import LOOKS, shown
 from .talk import Talk
 
 PROMPT = "> "
-"""What stands before a line that is typed."""
+"""The prompt."""
 
 _LINE = re.compile(r"\A! line [0-9]+ ")
 
 HELP = {
     "help": "help [WORD]        all lines, or how those are written that begin with WORD",
     "list": "list               what was typed before start, by its numbers",
-    "change": "change K LINE      before start: LINE in the place of line K",
+    "change": "change K LINE      before start: replace line K by LINE",
     "drop": "drop K             before start: without line K",
     "why": "why                what the last event and its answer mean",
     "save": "save FILE          write the session as a script, for nvmesim; FILE must not be there yet",
@@ -75,7 +75,7 @@ class Shell:
         answer = _LINE.sub(f"! line {self._count} ", self._talk.say(line))
         yield answer
         if answer.startswith("refused line"):
-            yield "what was typed is kept: list shows it, change K LINE and drop K mend it, and start tries it again"
+            yield "the lines are kept: list shows them, change K LINE and drop K fix them, and start tries again"
             if " DoesNotFit;" in answer and self._talk.is_in_memory:
                 yield "for more blocks than the 1,024 in memory: truncate -s 32M disk.img, and ./nvmelive disk.img"
 

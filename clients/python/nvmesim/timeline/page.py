@@ -1,4 +1,4 @@
-"""Makes the page of a picture: one HTML file that needs nothing beside it."""
+"""Makes the page of a picture: one self-contained HTML file."""
 from __future__ import annotations
 
 import base64
@@ -15,7 +15,7 @@ from .picture import Picture, is_denial
 from .style import SCRIPT, STYLE
 
 MOST_INLINE = 1500
-"""The most events of a page whose parts all stand in it as they are."""
+"""The most events of a page that has all its parts uncompressed."""
 _FIRST_PARTS = 4
 _MOST_DENIED = 200
 _STATES = {
@@ -31,7 +31,7 @@ def timeline(script: str, transcript: str, title: str = "Timeline", told: Sequen
         script: the script's text.
         transcript: what `nvmesim` printed for it.
         title: the heading of the page.
-        told: what looks told of reservations, for the bands of who holds them and who is registered.
+        told: what looks reported about reservations, for the bands of who holds them and who is registered.
 
     Raises:
         ScriptError: the script can't be read, or the two have different counts of events.

@@ -24,7 +24,7 @@ class Picture:
         head: the comments before `start`, in one text.
         events: the events.
         commands: all commands.
-        texts: what stands beside each event: its line, and what came of it.
+        texts: what is beside each event: its line, and what came of it.
         parts: the parts, from above to below.
     """
 
