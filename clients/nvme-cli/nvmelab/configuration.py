@@ -36,8 +36,8 @@ class Configuration:
         return [cntlid for cntlid, its_host in sorted(self.hosts.items()) if its_host == host]
 
     def take(self, words: List[str], has_drivers: bool) -> None:
-        """Takes a line in, by its words as nvmelive answers them. A host has a driver if drivers are wanted and its line
-        does not end in `raw`; else the lab itself is its software, and it is handed on as a raw host."""
+        """Takes a line in, by its words as nvmelive answers them. A host has a driver if `--drivers` is given and its
+        line does not end in `raw`; else the lab itself is its software, and it is handed on as a raw host."""
         if words[0] == "controller":
             cntlid = int(words[1])
             self.hosts[cntlid] = int(words[3], 16)
@@ -60,7 +60,8 @@ class Configuration:
 
 
 def judge_by(program: str, room: Path, medium_bytes: int, name: str) -> Judge:
-    """Judges scripts by nvmesim, over zeros of so many bytes, with files in a folder; the reason names the script so."""
+    """Checks scripts by nvmesim, over `size` zero bytes, with files in a folder; the reason names the script
+    so."""
     medium, script = room / "medium", room / "script"
 
     def judge(text: str) -> Optional[str]:
@@ -96,8 +97,8 @@ def column_of(line: str) -> int:
 
 
 def read_configuration(text: str, name: str, has_drivers: bool, ask: Ask, judge: Judge) -> Configuration:
-    """Reads CONFIG, or says what is wrong with it, as `FILE:LINE:COLUMN: REASON`. `start` may be missing, and nothing but
-    comments may follow it."""
+    """Reads CONFIG, or says what is wrong with it, as `FILE:LINE:COLUMN: REASON`. `start` may be missing, and nothing
+    but comments may follow it."""
     lines = text.split("\n")
     said = answered(name, lines, ask)
     reason = judge(text if ["start"] in said else f"{text}\nstart\n")

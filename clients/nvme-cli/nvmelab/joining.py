@@ -21,7 +21,7 @@ from nvmelab.faults import LabFault
 from nvmelab.subsystem import Subsystem
 
 PACKAGE = Path(__file__).resolve().parent.parent
-# What the server tells while it starts is shown where it takes longer than this: the program is being built.
+# After this many seconds the output of a starting server is shown: the program is being built.
 QUIET_SECONDS = 2.0
 SHOW_SECONDS = 0.2
 # The name of a socket has 107 bytes at most, of which a lab's own part takes the rest.
@@ -53,7 +53,7 @@ def simulator_of(program: str) -> str:
 
 @dataclass
 class Lab:
-    """The lab of one CONFIG: its text, its options, and where it lies."""
+    """The lab of one CONFIG: its text, its options, and where it is."""
     name: str
     text: str
     program: List[str]
@@ -181,7 +181,7 @@ class Lab:
         started.returncode = 0
 
     def reason(self, said: str) -> str:
-        """Why the server has not started: what the program told last if it has ended, as over an image in use."""
+        """Why the server has not started: the last output of the program if it has ended, as over an image in use."""
         told = [it for it in self.log.read_text(errors="replace").splitlines() if it.startswith("nvmelive: ")]
         if told and said.startswith("the program has ended"):
             # The lab itself can't wait for an image.
@@ -207,7 +207,7 @@ class Lab:
         return str(image)
 
     def wait_for(self, started: "subprocess.Popen[bytes]") -> str:
-        """The server's first line. Meanwhile what it tells is shown, where it takes long."""
+        """The server's first line. If it takes long, its output is shown meanwhile."""
         limit = QUIET_SECONDS
         with started.stdout as answers, open(self.log, "rb") as log:
             while not select.select([answers], [], [], limit)[0]:

@@ -1,7 +1,7 @@
-"""The queues of a controller as its host keeps them, and where things lie in the window that both share.
+"""The queues of a controller as its host keeps them, and where things are in the window that both share.
 
-The window has 4,194,304 bytes. Page 0 is left alone. Submission queue q lies at page 2q + 1, completion queue q at page
-2q + 2, for q from 0 to 4; the list of PRP entries and the data of the one command under way lie behind them.
+The window has 4,194,304 bytes. Page 0 is left alone. Submission queue q is at page 2q + 1, completion queue q at page
+2q + 2, for q from 0 to 4; the list of PRP entries and the data of the one command under way are after them.
 """
 from dataclasses import dataclass
 from typing import Dict, Optional
@@ -17,7 +17,7 @@ SPARE_PLACE = 0xf000
 LIST_PLACE = 0x10000
 DATA_PLACE = 0x100000
 MOST_DATA = 32 * PAGE
-# An address behind the window: what is sent there, or asked from there, is answered by Data Transfer Error.
+# An address outside the window: a transfer to or from it is answered Data Transfer Error.
 NOWHERE = WINDOW_BYTES
 
 

@@ -84,7 +84,7 @@ def attached(host: Host) -> List[int]:
 
 
 def write_files(folder: Path, lines: Dict[str, object]) -> None:
-    """Writes attributes, each with a line feed behind it; one that is there already is put in its place whole."""
+    """Writes attributes, each with a line feed; an existing one is replaced atomically."""
     folder.mkdir(parents=True, exist_ok=True)
     for name, value in lines.items():
         place = folder / name
@@ -149,7 +149,7 @@ class View:
             self.shown[number] = set(now)
 
     def show_registers(self, number: int, host: Host) -> None:
-        """The registers, as the file that stands for them under /sys has them."""
+        """The registers, as their file under /sys has them."""
         place = self.classes("nvme") / f"nvme{number}" / "device" / "resource0"
         place.parent.mkdir(exist_ok=True)
         content = bytearray(REGISTER_BYTES)

@@ -59,7 +59,7 @@ def careful(bench: Bench) -> None:
 
 
 def wrong(bench: Bench) -> None:
-    """Each wrong device is told from the model."""
+    """Each wrong device is distinguished from the model."""
     done = bench.run([sys.executable, str(HERE / "wrong_devices.py")])
     check_is(f"the end of the wrong devices, with {done.errors!r},", done.status, 0)
     found = [it for it in done.output.splitlines() if it.startswith("# ") and " differs, " in it]

@@ -53,7 +53,7 @@ def is_admin(command: Command, opcode: int) -> bool:
 
 
 def status(opcode: int, found: str, told: str, admin: bool = False) -> Fault:
-    """Tells another status in the place of one."""
+    """Returns another status instead of one."""
     def fault(wrong: Wrong, command: Command) -> Optional[Answer]:
         if command.is_admin is not admin or command.opcode != opcode:
             return None
@@ -64,12 +64,12 @@ def status(opcode: int, found: str, told: str, admin: bool = False) -> Fault:
 
 
 def altered(opcode: int, change: Callable[[Command], Command]) -> Fault:
-    """Carries another command out in the place of one."""
+    """Executes another command instead of one."""
     return lambda wrong, command: wrong.device.submit(change(command)) if is_io(command, opcode) else None
 
 
 def of_report(change: Callable[[bytearray], None]) -> Fault:
-    """Tells another report."""
+    """Returns another report."""
     def fault(wrong: Wrong, command: Command) -> Optional[Answer]:
         if not is_io(command, REPORT):
             return None

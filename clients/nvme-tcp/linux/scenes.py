@@ -409,7 +409,7 @@ def nvme_cli(built: Path, folder: Path) -> None:
 
 
 def paths(built: Path, folder: Path) -> None:
-    """Two paths of one host, of which ctl takes one away: Linux goes on by the other."""
+    """Two paths of one host, of which ctl takes one away: Linux continues by the other."""
     with stage(built, folder, 2048, "a1", "a1") as it:
         a = it.connected("a1")
         a.run(f"echo transport=tcp,traddr={ADDRESS},trsvcid={it.port},nqn=$nqn,hostnqn=nqn.2024-01.example:a1,"

@@ -24,7 +24,7 @@ SLACK = 128 << 10
 
 @unittest.skipUnless(shutil.which("cc"), "there is no cc")
 class CallsTest(TargetTest):
-    """A target that tells which calls it makes: see calls.c."""
+    """A target that reports which calls it makes: see calls.c."""
 
     def setUp(self) -> None:
         room = tempfile.TemporaryDirectory()
@@ -210,7 +210,7 @@ class Rooms(CallsTest):
         self.target.start()
 
     def other(self, **environment: str) -> list:
-        """Writes the same to a target over whose calls these words say more: the files are the same. What is told of
+        """Writes the same to a target over whose calls these words say more: the files are the same. What it writes
         them."""
         self.write(self.host(), 10)
         with tempfile.TemporaryDirectory() as room:

@@ -55,9 +55,9 @@ def connect(made: Connection, qid: int) -> bytes:
 
 
 def changed(rng: random.Random, unit: bytes, digests: int) -> bytes:
-    """A PDU with some bytes changed, or cut, or with bytes behind it. The digest of its header is mostly made right."""
+    """A PDU with some bytes changed, or cut, or with bytes after it. The digest of its header is mostly made right."""
     out = bytearray(unit)
-    # Most changes leave the eight bytes alone that all PDUs have, so that the connection goes on.
+    # Most changes leave the eight bytes alone that all PDUs have, so that the connection continues.
     first = 0 if rng.random() < 0.04 else 8
     for _ in range(rng.choice((0, 1, 1, 1, 2, 3, 8))):
         at = rng.randrange(first, min(len(out), rng.choice((24, 76, len(out)))))

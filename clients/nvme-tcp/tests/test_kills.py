@@ -29,7 +29,7 @@ class Kills(TargetTest):
         for turn in range(8):
             before = self.content()
             hosts = [Host(self.target.port, 0xa1), Host(self.target.port, 0xb2)]
-            # Of each place what may stand there.
+            # The possible bytes of each position.
             may = {place: [before[BLOCK * place:BLOCK * (place + REGION)]]
                    for place in (1024 * which + REGION * it for which in range(2) for it in range(REGIONS))}
             first = {place: pieces[0] for place, pieces in may.items()}

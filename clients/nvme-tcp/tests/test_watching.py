@@ -20,7 +20,7 @@ LINE = re.compile(r"(\d{4}-\d\d-\d\dT\d\d:\d\d:\d\d\.\d{3}Z) nvmetcp: ([a-z-]+)"
 
 def samples_of(text: str) -> Dict[str, int]:
     """The samples of a text, by name and labels, as Prometheus' tools want them: each metric is described once, before
-    its samples, which stand together; a counter's name ends in _total; no sample is there twice."""
+    its samples, which are together; a counter's name ends in _total; no sample is there twice."""
     kinds, samples, current = {}, {}, ""
     lines = text.split("\n")
     assert lines.pop() == "# EOF", text

@@ -44,7 +44,7 @@ class InProcess:
         return self.opened(io.BytesIO(branch.world.image.getvalue()))
 
     def wait(self, asked: Collection[Branch]) -> List[Tuple[Branch, List[str]]]:
-        """The first that was asked, so that of several some go on for longer."""
+        """The first of them, so that some of several stay longer."""
         it = next(iter(asked))
         assert isinstance(it, Copied)
         return [(it, it.answers)]

@@ -33,7 +33,7 @@ BAD_REQUESTS = [
     ("attach 1 1" + " 1" * 2048, "the list has 2,048 controllers, and 2,047 are the most"),
 ]
 
-# A request, and why it is denied; None where it is carried out.
+# A request, and why it is denied; None where it is executed.
 REQUESTS: List[Tuple[str, Optional[str]]] = [
     ("register 1 1 3 0 0 0 0x11", "RREGA (ACTION) is 3, and 2 is the most"),
     ("register 1 1 3 0 1 0 0x11", "RREGA (ACTION) is 3, and 2 is the most"),
@@ -202,7 +202,7 @@ class CausesTest(FolderCase):
         told = "\n".join(explain(script, transcript, 400, causes=causes))
         self.assertIn("the command does not take: CNS is 9, and 2 is the most", told)
         self.assertEqual(causes_of(script, transcript, LIVE), causes)
-        # Of a transcript that is not what the program prints, and without a program, none is told.
+        # With a transcript that the program does not print, and without a program, there is none.
         self.assertEqual(causes_of(script, transcript.replace("0:02 6", "0:0b 4"), LIVE), {})
         self.assertEqual(causes_of(script, transcript, self.folder / "absent"), {})
         self.assertEqual(causes_of(script, transcript, STANDIN), {})

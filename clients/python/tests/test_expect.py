@@ -1,4 +1,4 @@
-"""Scripts as tests: which comments are expectations, which are refused, and what is told of those that do not hold."""
+"""Scripts as tests: which comments are expectations, which are refused, and the report of those that do not hold."""
 from __future__ import annotations
 
 import contextlib
@@ -18,7 +18,7 @@ FENCING = PACKAGE / "examples" / "fencing-test.nvme"
 HEAD = "controller 1 host 0xa1\nnamespace 1 blocks 8 shared\nattached 1 1\nstart\n"
 WRITE = "up 1\nwrite 1 1 0 1 hex:48656c6c6f\nring 1\nfetch 1 1\nexecute 1 0\n"
 
-# A comment behind `up 1`, and what is said of it.
+# A comment after `up 1`, and what is said of it.
 REFUSED = {
     "# expect": "names no answer",
     "#expect up 1 ok": "nearly is an expectation; did you mean '# expect ..'",
@@ -62,7 +62,7 @@ REFUSED = {
 }
 OTHER = ("# except this", "# the host is expected to come up", "# inspect", "#", "# exp", "# e x p e c t")
 
-# Whether these hold behind the last event of a Write that succeeds.
+# Whether these hold after the last event of a Write that succeeds.
 HOLDS = {
     "execute 1 0 posted 0:00 0": True, "  execute \t1 0  posted 0:00 0 \r": True, "* 0:00": True,
     "* posted 0:00 0": True,

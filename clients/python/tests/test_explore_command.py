@@ -159,7 +159,7 @@ class CommandTest(FolderCase):
         self.assertNotRegex(text, r"<link|<img|@import|src=|url\((?!#)")
 
     def test_the_red_reasons_of_a_page_are_whole(self) -> None:
-        """They are not cut short, lie within their pictures by bold letters of 8 pixels, and these within the page."""
+        """Texts are not cut, and fit into their pictures with bold letters of 8 pixels, and these into the page."""
         page = self.folder / "page.html"
         self.explored(str(RACE), "--page", str(page), "--never", "a.write1.rule == 1")
         text = page.read_text(encoding="utf-8")

@@ -47,7 +47,7 @@ class ShellTest(FolderCase):
         return done.returncode, done.stdout.splitlines(), done.stderr
 
     def answers(self, lines: Sequence[str], image: str = "-") -> List[str]:
-        """What is printed for lines behind the set up and the reservation."""
+        """What is printed for lines after the set up and the reservation."""
         before = [*SETUP, *RESERVED]
         status, told, errors = self.typed([*before, *lines], image)
         self.assertEqual((status, errors), (0, ""))

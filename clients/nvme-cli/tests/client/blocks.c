@@ -136,7 +136,7 @@ void try_pointers(void) {
     CHECK_IS(io(fd, COMPARE, 1, 4, 0, 0, sealed, BLOCK), MISCOMPARE);
     CHECK_FAILS(ioctl(fd, NVME_IOCTL_IO_CMD, NULL), EFAULT);
     CHECK_FAILS(io(fd, READ, 1, 0, 0, 255, room, MOST + BLOCK), EINVAL);
-    // More than the data have: they end with a page, and nothing is behind it.
+    // More than the data have: they end with a page, and nothing is after it.
     CHECK_IS(io(fd, READ, 1, 0, 0, 8, room, PAGE), DATA_TRANSFER);
     CHECK_IS(io(fd, READ, 1, 0, 0, 255, room, 3 * PAGE), DATA_TRANSFER);
     CHECK(is_filled(room, MOST, 5));

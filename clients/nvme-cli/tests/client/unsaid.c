@@ -63,7 +63,7 @@ static void short_data(int fd, int namespace) {
     CHECK_IS(admin(fd, ATTACHMENT, 1, 0, 0, NULL, PAGE), DATA_TRANSFER);
     CHECK(is_filled(room, 2 * PAGE, 3));
     CHECK_IS(on_blocks(namespace, COMPARE, 0, 16, room), SUCCESS);
-    // What lies behind short data in their page are zeros.
+    // What is after short data in their page are zeros.
     CHECK_IS(io(namespace, WRITE, 1, 0, 0, 7, room, BLOCK), SUCCESS);
     memset(room + BLOCK, 0, PAGE - BLOCK);
     CHECK_IS(on_blocks(namespace, COMPARE, 0, 16, room), SUCCESS);
