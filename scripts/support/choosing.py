@@ -1,4 +1,4 @@
-"""Which wrong bodies there are, and which of them have to be tried."""
+"""The mutants, and which of them have to be tried."""
 import hashlib
 from dataclasses import dataclass, field
 
@@ -7,7 +7,7 @@ from support import edits, record
 
 @dataclass
 class Book:
-    """The wrong bodies of the crates, with what the records say of them, and what is bad about either."""
+    """The mutants of the crates, with what the records say of them, and what is bad about either."""
     crates: dict
     edits: dict = field(default_factory=dict)
     lines: dict = field(default_factory=dict)
@@ -23,7 +23,7 @@ class Book:
 
 
 def read_book(rt, root, crates, logic):
-    """Reads every wrong body and every record."""
+    """Reads every mutant and every record."""
     book, digests = Book(crates), record.Digests(logic)
     for folder in edits.orphans(root, crates.values()):
         book.faults.append(f"{folder.relative_to(root)}: nobody tries these, since no crate stands there")
@@ -47,7 +47,7 @@ def read_book(rt, root, crates, logic):
 
 
 def lacking(book):
-    """The wrong bodies for which no record speaks."""
+    """The mutants for which no record speaks."""
     return {name: [it for it in found if not book.is_recorded(it)] for name, found in book.edits.items()}
 
 

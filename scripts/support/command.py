@@ -73,7 +73,7 @@ class Run:
                 self.keep_record(name)
 
     def try_part(self, name, checks):
-        """Tries wrong bodies of a crate, one check after the other over the same folder."""
+        """Tries mutants of a crate, one check after the other over the same folder."""
         bench = trial.Bench(self.rt, self.book.crates[name])
         for batch in checks:
             try:
@@ -86,7 +86,7 @@ class Run:
         self.close(bench)
 
     def results_of(self, bench, batch):
-        """What comes of wrong bodies that share a check, or of one that is no function's."""
+        """What comes of mutants that share a check, or of one that is no function's."""
         if batch[0].function:
             return bench.try_batch(batch)
         line = self.book.lines[batch[0].crate].get(batch[0].name)
@@ -94,7 +94,7 @@ class Run:
 
 
 def chosen_of(words, book):
-    """The wrong bodies that this run tries, by crate."""
+    """The mutants that this run tries, by crate."""
     if words.gate:
         return choosing.of_gate(book, words.gate)
     named = {name for name in book.edits if not words.names or name in words.names}
@@ -103,8 +103,8 @@ def chosen_of(words, book):
 
 
 def build_below(rt, crates, jobs):
-    """Has the libraries built that the crates stand on, where `rt ci` has not just built them. Of the crates themselves
-    each check proves what it needs, where nothing is kept of them."""
+    """Has the libraries built that the crates depend on, where `rt ci` has not just built them. Of the crates
+    themselves each check proves what it needs, where nothing is kept of them."""
     below = [it for it in proving.cone_of(crates) if any(it in other.below() for other in crates)]
     if all(map(proving.is_left_by_ci, below)):
         return True
@@ -113,7 +113,7 @@ def build_below(rt, crates, jobs):
 
 
 def parts_of(found, count):
-    """A crate's wrong bodies in so many parts, or fewer: each the checks that one worker makes, one after the other."""
+    """A crate's mutants in at most `parts` parts: each the checks that one worker makes, one after the other."""
     batches, alone = edits.batches_of(found, min(MOST, -(-len(found) // count)))
     checks = [*batches, *([it] for it in alone)]
     return [checks[at::count] for at in range(min(count, len(checks)))]
@@ -136,7 +136,7 @@ def try_all(run, chosen, jobs):
 
 
 def end(run, book, count):
-    """The last lines: what each crate's wrong bodies took, what is wrong, and how many passed."""
+    """The last lines: what each crate's mutants took, what is wrong, and how many passed."""
     for name, seconds in run.spent.items():
         tried = sum(it.edit.crate == name for it in run.results)
         say(f"{name}: {tried} wrong bodies, {seconds:.0f} processor seconds, {seconds / max(tried, 1):.1f} each")

@@ -55,7 +55,7 @@ class Store:
         os.replace(name, place)
 
     def forget_others(self, folder: Path) -> None:
-        """Removes builds of other sources, but for the newest."""
+        """Removes builds of other sources, except for the newest."""
         others = sorted((it for it in folder.parent.iterdir() if it != folder), key=lambda it: it.stat().st_mtime)
         for it in others[:-OTHERS]:
             shutil.rmtree(it, ignore_errors=True)

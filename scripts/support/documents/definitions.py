@@ -1,4 +1,4 @@
-"""The definitions of crates/*/specs and the types of crates/*/src: where each stands, and which it is made of."""
+"""The definitions of crates/*/specs and the types of crates/*/src: where each is, and which it is made of."""
 import re
 from dataclasses import dataclass, field
 from pathlib import Path
@@ -106,7 +106,7 @@ def read_code(name: str, text: str) -> Module:
 
 
 class Library:
-    """All modules of the crates, and what stands where."""
+    """All modules of the crates, and what is where."""
 
     def __init__(self, top: Path):
         self.modules: Dict[str, Module] = {}
@@ -163,7 +163,7 @@ class Library:
                 yield found
 
     def cone(self, begin: List[Definition]) -> Dict[Key, Definition]:
-        """The definitions and all that they are made of, each behind what it is made of."""
+        """The definitions and all that they are made of, each after what it is made of."""
         found: Dict[Key, Definition] = {}
         seen = set()
 

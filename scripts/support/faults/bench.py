@@ -29,7 +29,7 @@ class Wrong(Exception):
 
 @dataclass(frozen=True)
 class Plan:
-    """Which calls fail: the one of a kind with a number, from 1, and perhaps all behind it; and how."""
+    """Which calls fail: the one of a kind with a number, from 1, and perhaps all after it; and how."""
     kind: str
     at: int
     how: str
@@ -70,7 +70,7 @@ class Bench:
         return room
 
     def orders(self, room: Path, plan: Optional[Plan], image: str = "image") -> Dict[str, str]:
-        """What the environment of a run has beside the caller's: without a plan and a lie nothing."""
+        """The additions to a run's environment: none without a plan and a planted fault."""
         if not plan and not self.lie:
             return {}
         return {"LD_PRELOAD": str(self.library), "FAULTS_LIE": self.lie, "FAULTS_PLAN": str(plan or ""),
@@ -108,7 +108,8 @@ class Bench:
         return shown
 
     def finish(self, room: Path, started: subprocess.Popen, lines: Optional[bytes] = None) -> Shown:
-        """Waits for a run, which is given these lines by a pipe if there are any, and gathers what it showed and left."""
+        """Waits for a run, which is given these lines by a pipe if there are any, and gathers what it showed and
+        left."""
         try:
             output, errors = started.communicate(lines, timeout=WITHIN)
         except subprocess.TimeoutExpired:
@@ -170,7 +171,7 @@ def clip(bytes_shown: Optional[bytes]) -> str:
 
 
 def difference(found: Optional[bytes], wanted: Optional[bytes]) -> str:
-    """Where bytes differ from those that are wanted, for a message."""
+    """Where bytes differ from those that are expected, for a message."""
     if found is None or wanted is None:
         return f"{clip(found)}, and not {clip(wanted)}"
     at = next((i for i, (a, b) in enumerate(zip(found, wanted)) if a != b), min(len(found), len(wanted)))
@@ -180,7 +181,7 @@ def difference(found: Optional[bytes], wanted: Optional[bytes]) -> str:
 
 
 def tells(errors: bytes, text: bytes) -> bool:
-    """Whether standard error is a text of one line, or none, and at most a line with the reason behind it."""
+    """Whether standard error is a text of one line, or none, and at most a line with the reason after it."""
     if errors == text or not text:
         return errors == text
     return errors.startswith(text) and REASON.fullmatch(errors[len(text):]) is not None

@@ -1,7 +1,7 @@
 """Each request for memory refused in turn, in a run over zeros in memory and in one over an image.
 
 What is refused before the first event ends the program: status 4, one line on standard error, no transcript, and the
-image as it was. Behind the first event only the cache of an image asks for memory, and its refusal changes nothing.
+image as it was. After the first event only the cache of an image asks for memory, and its refusal changes nothing.
 """
 from dataclasses import dataclass
 from pathlib import Path
@@ -26,7 +26,7 @@ class Case:
 
 
 def is_refused(case: Case, what: str, shown: Shown) -> bool:
-    """Whether a run ended before its first event for want of memory; it must have, or be whole."""
+    """Whether a run ended before its first event without memory; it must have, or be whole."""
     if shown.status == 0:
         must_be(what, shown, 0, case.transcript, b"", case.after)
         return False

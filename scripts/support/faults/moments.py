@@ -43,7 +43,7 @@ class Case:
 
 
 def prefixes(before: bytes, image: bytes, writes: List[Tuple[int, bytes]]) -> Iterator[int]:
-    """For which counts of first writes the image is what they leave, but for the block of the next."""
+    """For which counts of first writes the image is what they leave, except for the block of the next."""
     now = [before[at:at + BLOCK] for at in range(0, len(before) // BLOCK * BLOCK, BLOCK)]
     wrong = {i for i, block in enumerate(now) if block != image[BLOCK * i:BLOCK * (i + 1)]}
     for count in range(len(writes) + 1):

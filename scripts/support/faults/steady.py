@@ -23,7 +23,7 @@ attached 1 1
 attached 2 1
 start
 """
-# Requests of both hosts, one of them fenced and one aborted; each is carried out by a turn below.
+# Requests of both hosts, one of them fenced and one aborted; each is executed by a turn below.
 PLACED = """register 1 1 0 0 0 0 0xaa
 register 2 1 0 0 0 0 0xbb
 acquire 2 1 0 1 0xbb 0
@@ -93,7 +93,7 @@ def counted(bench: Bench, rounds: int, first: int, image: Optional[bytes]) -> Di
 
 
 def must_be_as_few(what: str, few: Dict[str, int], many: Dict[str, int], rounds: int) -> None:
-    """A run of many rounds takes as much behind its text as one of a few, and gives as much back."""
+    """A run of many rounds takes as much after its text as one of a few, and gives as much back."""
     for name in (SINCE_READ, FREED_SINCE_READ):
         if many[name] != few[name]:
             raise Wrong(f"{what}, {rounds} rounds: {many[name]} {name}, where a run of {FEW} rounds has {few[name]}")

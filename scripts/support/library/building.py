@@ -40,7 +40,7 @@ def call(words, folder):
 
 
 def is_built_over_ci(top):
-    """Builds the archive over the libraries that `rt ci` has just built, where they stand; whether it could. Elsewhere
+    """Builds the archive over the libraries that `rt ci` has just built, where they are; whether it could. Elsewhere
     `rt lib` takes those that are kept: it would prove all of them again here."""
     rt = toolchain.load(top)
     crate = toolchain.crates_of(rt, str(top))[CRATE]

@@ -53,7 +53,7 @@ DEFINED = re.compile(r'^define internal (.*@"nvme_library::\w+::(nvmesim_\w+)".*
 # A function that its source has inlined everywhere, and the definition of a function in the module, with its name.
 INLINED = re.compile(r"#\[inline\(always\)\]\s*(?:#\[[^\]]*\]\s*)*(?:pub(?:\([^)]*\))?\s+)?fn (\w+)")
 INTERNAL = re.compile(r'^(define internal [^\n]*?@"([^"]+)"\([^\n]*\)) (#\d+ \{)$', re.M)
-# What stands before the name of an export that C calls by another function.
+# What is before the name of an export that C calls by another function.
 BEHIND = "rattle_"
 # Structures of two words, which Rattle's calls leave in registers as C's do.
 IN_REGISTERS = ("nvmesim_written",)

@@ -16,7 +16,7 @@ def last_block(blocks: int) -> str:
 
 
 def two_namespaces(private_blocks: int) -> str:
-    """Four controllers, a namespace of 64 blocks, and one of so many behind it."""
+    """Four controllers, a namespace of 64 blocks, and one of so many after it."""
     return ("controller 1 host 0xa1\ncontroller 2 host 0xb2\ncontroller 3 host 0xa1\ncontroller 4 host 0xc3\n"
             f"namespace 1 blocks 64 shared\nnamespace 2 blocks {private_blocks} private\n"
             "attached 1 1\nattached 2 1\nattached 3 1\nattached 4 1\nattached 1 2\nstart\n")
@@ -65,7 +65,7 @@ def make_pipe(room: Path) -> None:
 
 
 def cut_and_tell(room: Path) -> None:
-    """Cuts the image to nothing behind its opening and before the script is read: the pipe is opened behind it."""
+    """Cuts the image to nothing after its opening and before the script is read: the pipe is opened after it."""
     with open(room / "script", "w", encoding="ascii") as pipe:
         os.truncate(room / "image", 0)
         pipe.write(carried("read 1 1 0 1", "read 1 1 64 1"))
