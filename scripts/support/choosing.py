@@ -52,7 +52,7 @@ def lacking(book):
 
 
 def of_gate(book, commit):
-    """What the merge gate tries beside `rt ci`, which tries must-fail itself: what the records lack; and of the rest a
+    """What the merge gate tries besides `rt ci`, which tries must-fail itself: what the records lack; and of the rest a
     tenth, whole crates that the commit chooses, so that a record which is not true is found out after a few."""
     beside = {name: [it for it in found if it.file.parent.name != "must-fail"] for name, found in book.edits.items()}
     chosen = {name: [it for it in found if not book.is_recorded(it)] for name, found in beside.items()}

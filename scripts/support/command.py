@@ -113,7 +113,7 @@ def build_below(rt, crates, jobs):
 
 
 def parts_of(found, count):
-    """A crate's mutants in at most `parts` parts: each the checks that one worker makes, one after the other."""
+    """A crate's mutants in at most `count` parts: each the checks that one worker makes, one after the other."""
     batches, alone = edits.batches_of(found, min(MOST, -(-len(found) // count)))
     checks = [*batches, *([it] for it in alone)]
     return [checks[at::count] for at in range(min(count, len(checks)))]

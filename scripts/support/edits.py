@@ -23,7 +23,7 @@ class Change:
 @dataclass(frozen=True)
 class Edit:
     """A mutant: its crate, its file, and what it changes; the function, where it changes the body of one alone,
-    with the text of that body and of its changes, and whether a copy of the function can be beside it."""
+    with the text of that body and of its changes, and whether a copy of the function can be added."""
     crate: str
     file: Path
     text: str
@@ -126,7 +126,7 @@ def orphans(root, crates):
 
 def are_apart(one, other):
     """Whether two mutants can share a check: as copies; or instead of their functions, where these are two
-    and neither of them names the other. A copy is beside none that is in its function's place, since what calls
+    and neither of them names the other. No copy is added if its function is replaced, since what calls
     that function, by whatever way, is not proved there."""
     def names(edit, function):
         return edit.function.name == function.name or re.search(rf"\b{function.word}\b", edit.body)
@@ -137,7 +137,7 @@ def are_apart(one, other):
 
 
 def batches_of(edits, most):
-    """The mutants of one crate in as few checks as may be, those of one function beside one another, since each
+    """The mutants of one crate in as few checks as may be, those of one function together, since each
     check proves the functions too that its copies are of; and those that are no function's, each of which needs a check
     of its own."""
     batches = []

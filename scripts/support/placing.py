@@ -1,4 +1,4 @@
-"""Puts mutants into the text of one check: each instead of its function, or beside it as a copy.
+"""Puts mutants into the text of one check: each instead of its function, or next to it as a copy.
 
 A copy has the contract, the attributes and the proofs of its function, and a name of its own. So mutants of one
 function, and of functions that call one another, share a check, in which the functions as they are are proved too.
@@ -34,7 +34,7 @@ def proofs_of(folder, name):
 
 
 def stands_beside(folder, text, function):
-    """Whether a copy of the function can be beside it: a trait has no other names, a cycle of calls no other
+    """Whether a copy of the function can be added: a trait has no other names, a cycle of calls no other
     members, and proofs are copied where they are those of one function for certain."""
     head = "\n".join(text.split("\n")[function.first:function.body])
     return not function.is_of_trait and "#[cycle" not in head and len(proofs_of(folder, function.name)) < 2

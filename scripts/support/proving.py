@@ -13,8 +13,8 @@ from support.proof_seconds import seconds_of
 
 # What a job of the prover takes of memory, in bytes.
 JOB_MEMORY = 1_200_000_000
-# What the first program waits for comes before the rest: it begins first, as if its proof took so many times as long,
-# and the rest has a lower priority by so much.
+# What the first program waits for comes before the rest: it begins first, as if its proof took this factor longer, and
+# the rest has a lower priority by this number.
 FIRST = 4
 LOWER = 5
 
@@ -138,9 +138,9 @@ class Processors:
 
     @contextmanager
     def some(self, least):
-        """As many jobs as there are processors that no other crate has and that memory is free for, and so many at
-        least. A crate keeps those that it begins with. By two jobs a proof takes two fifths more of processors than by
-        one."""
+        """As many jobs as there are processors that no other crate has and that memory is free for, and at least
+        `least`. A crate keeps those that it begins with. By two jobs a proof takes two fifths more of processors than
+        by one."""
         with self.counting:
             idle = min(self.rt.processors() - self.taken, self.rt.free() // JOB_MEMORY)
             jobs = max(least, idle)

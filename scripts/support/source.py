@@ -33,7 +33,7 @@ class Owner:
     shows_all: bool = False
 
     def passes(self, line):
-        """Goes by one line, and says whether it is the head of a block."""
+        """Reads one line, and says whether it is the head of a block."""
         if found := IMPL.match(line):
             head = without_parameters(found[1])
             self.name, self.shows_all = type_of(head), " for " in head

@@ -19,7 +19,7 @@ CLAUSE = re.compile(r"^ +ensures\*? (?:([\w-]+) )?(\{.*?\});?$(?=\n +(?:requires
 OPEN = re.compile(r"did not prove ((?:`[^`]+`(?:, | and )?)+)")
 # How the check of some functions ends where it is finished.
 SOME = re.compile(r"^only=\d+ proved=\d+\n*\Z", re.M)
-# What `rt` says of a mutant that is refused for what it says: with the first goal, and not for a name alone.
+# What `rt` says of a mutant that is refused for what it says: with the first goal, rather than for a name alone.
 BY_A_GOAL = re.compile(r"refused, as it must be: \S")
 NOT_PROVED = ("not proved", "no proof: expected")
 
@@ -126,7 +126,7 @@ def plain_copy(batch):
 class Bench:
     """A crate, and the folder that the checks of its mutants keep their work in. It begins with a copy of the crate's
     earlier results, or with nothing: then the first check proves what it asks for, with the lemmas that this cites, and
-    the next checks take that. Where `rt ci` has just proved the crate as it is, a check does not prove again the
+    the next checks take that. If `rt ci` has just proved the crate as it is, a check does not prove again the
     functions that its copies are of, but a copy of one that is unchanged."""
 
     def __init__(self, rt, crate):

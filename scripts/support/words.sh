@@ -9,7 +9,7 @@ tell() {
     echo "$name: $1" >&2
 }
 
-# Ends where this script, and not the program, can't do what it should.
+# Ends if this script itself can't do what it should.
 give_up() {
     tell "$1"
     exit 70
@@ -66,7 +66,7 @@ refuse_script_as_image() {
 }
 
 # A single word is a script over zeros in memory if it ends in `.nvme`, whether it is there or not, if it is one by its
-# text, and if it is to be checked. Else the first word is an image. Then `words` are the program's.
+# text, and if it will be checked. Else the first word is an image. Then `words` are the program's.
 judge_words() {
     local first=${words[0]-}
     if [ -n "$is_meant" ]; then

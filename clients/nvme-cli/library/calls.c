@@ -233,7 +233,7 @@ int euidaccess(const char *path, int mode) {
     return NEXT(euidaccess)(placed(path, place), mode);
 }
 
-// Devices have no attributes beside those of `stat`.
+// Devices have no attributes except those of `stat`.
 ssize_t getxattr(const char *path, const char *name, void *value, size_t room) {
     char place[PATH_MAX];
     return NEXT(getxattr)(placed(path, place), name, value, room);

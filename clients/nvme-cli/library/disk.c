@@ -109,7 +109,7 @@ static int error_of(unsigned status) {
     }
 }
 
-// A command to its end: on so many blocks, with data at an address where there are any.
+// Executes a command on `blocks` blocks, with data at an address if there are any.
 static int command(const struct lab_disk *disk, uint8_t opcode, uint64_t first, uint32_t blocks, void *data) {
     struct iovec part = {.iov_base = data, .iov_len = blocks * (size_t)BLOCK_BYTES};
     struct lab_request request = {.asking = LAB_COMMAND, .device = disk->device};

@@ -9,7 +9,7 @@
 #include <stdint.h>
 #include <sys/uio.h>
 
-// Where a host's view is: a folder with the socket of the server, and with dev and sys as that host has them.
+// A host's view: the path of a folder with the socket of the server, and with dev and sys as that host has them.
 #define LAB_VIEW "NVME_LAB"
 
 enum lab_kind { LAB_NO_PATH, LAB_DEVICE_PATH, LAB_OTHER_PATH };
@@ -56,7 +56,7 @@ uint64_t lab_blocks(const struct lab_device *device);
 // wire.c
 enum lab_asking { LAB_COMMAND = 1, LAB_RESET = 2, LAB_LOOK = 3 };
 
-// Where the data of a command are. There may be none (`count` 0); `is_mapped` is false where there is a length, and no
+// The location of a command's data. There may be none (`count` 0); `is_mapped` is false where there is a length, and no
 // address.
 struct lab_data {
     struct iovec *parts;

@@ -60,7 +60,7 @@ class Configuration:
 
 
 def judge_by(program: str, room: Path, medium_bytes: int, name: str) -> Judge:
-    """Checks scripts by nvmesim, over `size` zero bytes, with files in a folder; the reason names the script
+    """Checks scripts by nvmesim, over `medium_bytes` zero bytes, with files in a folder; the reason names the script
     so."""
     medium, script = room / "medium", room / "script"
 

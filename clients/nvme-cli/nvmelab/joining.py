@@ -44,7 +44,7 @@ def base_folder() -> Path:
 
 
 def simulator_of(program: str) -> str:
-    """The nvmesim that judges CONFIG: the one that NVMESIM names, or else the one beside this nvmelive."""
+    """The nvmesim that judges CONFIG: the one that NVMESIM names, or else the one next to this nvmelive."""
     found = os.environ.get("NVMESIM", "") or str(Path(program).with_name("nvmesim"))
     if not os.access(found, os.X_OK):
         raise LabFault(f"there is no program {found}, which judges CONFIG; the variable NVMESIM names one")

@@ -100,7 +100,7 @@ def program_words(program: str) -> List[str]:
 
 
 def library_folder() -> Path:
-    """Where the library is kept: beside its sources, where that can be written and be named to the loader."""
+    """The folder of the library: next to its sources, if that is writable and its path can be given to the loader."""
     place = PACKAGE / "out"
     try:
         place.mkdir(exist_ok=True)

@@ -49,7 +49,7 @@ def check(is_said: bool) -> None:
 
 
 def moved(data: Data, length: int) -> bytes:
-    """The bytes that a command finds at its data pointer, of which it moves `count`."""
+    """The bytes that a command finds at its data pointer, of which it moves `length`."""
     check(length <= MOST_DATA)
     if length > len(data.padded):
         raise Unsaid(DATA_TRANSFER_ERROR)
@@ -167,7 +167,7 @@ def protection(command: Command, data: Data) -> List[object]:
 
 
 def attachment(command: Command, data: Data) -> List[object]:
-    """SEL is in bits 3:0; the data are a Controller List, a page with a count and so many identifiers."""
+    """SEL is in bits 3:0; the data are a Controller List, a page with a count and as many identifiers."""
     sel = command.double_word(10) & 0xf
     check(sel in (ATTACH, DETACH))
     listed = moved(data, PAGE)

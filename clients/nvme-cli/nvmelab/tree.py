@@ -53,7 +53,7 @@ class Identity:
 
     @property
     def subsystem(self) -> str:
-        """The subsystem's name. Where Identify has none Linux makes one of the other fields, and so does this."""
+        """The subsystem's name. If Identify has none, Linux makes one of the other fields, and so does this."""
         made = (f"nqn.2014.08.org.nvmexpress:{self.vendor:04x}{self.subsystem_vendor:04x}"
                 f"{self.serial.decode('ascii', 'replace')}{self.model.decode('ascii', 'replace')}")
         return self.nqn or made.rstrip(" ")

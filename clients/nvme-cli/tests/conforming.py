@@ -1,4 +1,4 @@
-"""Trials of `python3 -m nvmesim conform`: the lab's devices beside the model, and wrong devices beside it."""
+"""Trials of `python3 -m nvmesim conform`: the lab's devices compared with the model, and wrong devices."""
 import sys
 from typing import List
 

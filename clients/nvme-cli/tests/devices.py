@@ -60,7 +60,8 @@ def commands(bench: Bench) -> None:
 
 
 def requests(bench: Bench) -> None:
-    """The same by requests of drivers: of both hosts, and of one beside a raw host. Who joins need not ask for them."""
+    """The same by requests of drivers: of both hosts, and of one next to a raw host. Those who join need not ask for
+    them."""
     mixed = bench.place / "mixed.nvme"
     mixed.write_text(CONFIG.read_text().replace("host 0xb2", "host 0xb2 raw"))
     for config in (CONFIG, mixed):

@@ -6,7 +6,7 @@ import subprocess
 import time
 from pathlib import Path
 
-# Where a guest finds the machine that it runs on.
+# The address at which a guest reaches the machine that it runs on.
 ADDRESS = "10.0.2.2"
 # Time limits for a guest to boot, and for a line.
 BOOT, LINE = 180, 120

@@ -24,7 +24,7 @@ def write(text: str, device: str = "nvme0n1") -> str:
 
 
 def config(blocks: int, *hosts: str) -> str:
-    """A disk of so many blocks, which these hosts share."""
+    """A disk of `blocks` blocks, which these hosts share."""
     lines = [f"controller {n} host 0x{host}" for n, host in enumerate(hosts, 1)]
     return "\n".join([*lines, f"namespace 1 blocks {blocks} shared",
                       *[f"attached {n} 1" for n in range(1, len(hosts) + 1)]]) + "\n"
@@ -91,7 +91,7 @@ class Stage:
             self.faults.append(what)
 
     def hold(self, guest: Guest, line: str) -> None:
-        """Has a line of the first host under way: its command is fetched, and not executed."""
+        """Starts a line of the first host, whose command is fetched but not executed."""
         self.ask("hold 1")
         guest.type(line)
         self.wait_until_held()

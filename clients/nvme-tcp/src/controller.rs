@@ -23,7 +23,7 @@ const DOORBELLS: u64 = 0x1000;
 /// CC.EN.
 pub const ENABLE: u32 = 1;
 
-/// Where a command's data go.
+/// The direction and place of a command's data.
 #[derive(Clone, Copy)]
 pub enum Data<'d> {
     /// Nowhere: it has none, or keeps the data pointer that it has.

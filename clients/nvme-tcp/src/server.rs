@@ -286,7 +286,7 @@ impl<'a> Server<'a> {
     }
 
     /// Sends a connection's answers, and takes PDUs that had to wait for that. Script and image are written first, so
-    /// that they have all that a host was told. If that takes a while, the connection waits for them.
+    /// that they have everything that a host was answered. If that takes a while, the connection waits for them.
     fn send(&mut self, name: u64, is_handed: bool) -> Outcome<()> {
         let Server { target, connections, waiting, is_alone, .. } = self;
         let served = match connections.get_mut(&name) {

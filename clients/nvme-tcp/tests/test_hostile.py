@@ -10,7 +10,7 @@ from tests.host import CAPSULE, HOST_DATA, SUBSYSTEM, Connection, digest_of, ent
 from tests.targets import TargetTest
 
 MUTATIONS = int(os.environ.get("MUTATIONS", "100000"))
-# So many PDUs go over a connection, unless it ends before.
+# The number of PDUs over a connection, unless it ends before.
 FOR_EACH = 40
 
 
@@ -110,7 +110,7 @@ class Hostile(TargetTest):
             sent.append(changed(rng, rng.choice(units.commands if rng.random() < 0.98 else units.others), digests))
         try:
             connection.socket.sendall(b"".join(sent))
-            # Where it closes at once, what it has sent may be lost; else the target takes it all.
+            # If it closes at once, what it has sent may be lost; else the target takes it all.
             if rng.random() < 0.9:
                 connection.socket.shutdown(socket.SHUT_WR)
                 while connection.socket.recv(1 << 18):

@@ -295,7 +295,7 @@ class Lasts(TargetTest):
         self.assertIn(text, ran.stderr)
 
     def test_a_journal_that_is_not_whole(self) -> None:
-        """In a folder that was used it is refused, and not begun anew without the reservations."""
+        """In a used folder it is refused instead of begun anew without the reservations."""
         self.host().register(0, 0xa)
         self.target.kill()
         whole = self.journal.read_bytes()

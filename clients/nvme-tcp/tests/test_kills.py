@@ -13,8 +13,8 @@ from pathlib import Path
 from tests.host import BLOCK, Ended, Host
 from tests.targets import BLOCKS, LIVE, TargetTest
 
-# Each host writes so many regions of so many blocks at a time. They are neighbours, which an image gets together; and
-# their lines are several pieces of a script.
+# Number of regions that each host writes at a time, and their blocks. They are neighbours, which an image gets
+# together; and their lines are several pieces of a script.
 REGIONS, REGION = 6, 100
 
 

@@ -1,4 +1,4 @@
-"""Listening: at several addresses, without descriptors, and beside someone who reads lines of control slowly."""
+"""Listening: at several addresses, without descriptors, and with a client that reads answers of control slowly."""
 import os
 import resource
 import socket
@@ -143,7 +143,7 @@ class Paths(TargetTest):
 
 class Consoles(TargetTest):
     def asking(self, line: str, count: int) -> socket.socket:
-        """Someone who asks a line so often."""
+        """A client that asks a line `count` times."""
         asking = socket.socket(socket.AF_UNIX)
         self.addCleanup(asking.close)
         asking.connect(str(self.folder / "control/socket"))

@@ -124,7 +124,7 @@ class Submitted:
 
 
 def find_library() -> str:
-    """The shared object: the one that the environment names, that is installed beside this package or in one of the
+    """The shared object: the one that the environment names, that is installed with this package or in one of the
     usual places, or that the system knows.
 
     Raises:

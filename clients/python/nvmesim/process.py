@@ -28,7 +28,7 @@ _MOST_TOLD = 1 << 16
 
 def find_program(given: Optional[PathLike] = None, name: str = "nvmelive", variable: str = VARIABLE) -> Path:
     """The program: the one that is given, that the environment names, that the repository of this package builds, that
-    is installed beside this package, that is on the path, or that is installed in one of the usual places.
+    is installed with this package, that is on the path, or that is installed in one of the usual places.
 
     Args:
         given: the program, if the caller knows it.

@@ -1,6 +1,6 @@
 """A plugin for pytest: the fixture `subsystem`, and scripts with expectations as tests.
 
-pytest finds it where the package is installed. Where it is only on the path: `pytest -p nvmesim.pytest_plugin`.
+pytest finds it if the package is installed. If it is only on the path: `pytest -p nvmesim.pytest_plugin`.
 """
 from __future__ import annotations
 

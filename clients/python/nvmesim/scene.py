@@ -17,9 +17,9 @@ def scene(kept: str, begin: int = 0, most: int = MOST, apart: Collection[int] = 
         kept: the lines that a session was sent, or a script. Looking lines and comments are left out.
         begin: the line of them from which on events come in any order; 0 to choose it, so that no command is under way
             there and the scene is not too large.
-        most: so many states at least such a scene may have.
-        apart: controllers whose fetches and executions are a part of their own, beside their drivers' events: then a
-            driver continues before its controller has done what it was reported.
+        most: the limit of states of such a scene.
+        apart: controllers whose fetches and executions are a part of their own, apart from their drivers' events: then
+            a driver may continue before its controller has acted.
 
     Raises:
         ScriptError: it is no script, or has no events after the line.

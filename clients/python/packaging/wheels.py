@@ -1,4 +1,4 @@
-"""Builds the package for pip and its like, with nothing beside Python: so `pip install` needs no network.
+"""Builds the package for pip and the like by Python alone: so `pip install` needs no network.
 
 It is the build backend that `pyproject.toml` names, by PEP 517 and PEP 660. Every other one would have to be fetched
 first. The table `[project]` is the only place of what is said of the package, except for its version, which is in

@@ -19,7 +19,7 @@ Ask = Callable[[Sequence[str]], List[str]]
 
 
 class InProcess:
-    """Branches that are stand-ins, which are copied. Where `can_fork` is false, none is."""
+    """Branches that are stand-ins, which are copied. If `can_fork` is false, none is."""
 
     def __init__(self, plan: Plan, can_fork: bool = True) -> None:
         self.plan, self.can_fork, self.live = plan, can_fork, 0

@@ -1,5 +1,5 @@
-"""A device beside the model, without a device: scenes, and what a step is for either side. The lab's trials have the
-rest."""
+"""A device compared with the model, without a device: scenes, and what a step is for either side. The lab's trials have
+the rest."""
 from __future__ import annotations
 
 import argparse

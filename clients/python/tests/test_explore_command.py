@@ -103,7 +103,7 @@ class CommandTest(FolderCase):
         counts = [sum(int(it.split(" ")[1]) for it in told.splitlines() if "orders, such as" in it)
                   for told in (few, many)]
         self.assertEqual(*counts)
-        power = self.folder / "power.nvme"  # whether a driver comes up is no trifle
+        power = self.folder / "power.nvme"  # an outcome depends on whether a driver comes up
         power.write_text(HEAD + "# host a\nreset 1\npoll 1\n# host b\nup 1\n# host c\nread 1 1 0 1\n", encoding="utf-8")
         self.assertIn("c.read1  refused NotReady\n   b.up1    AlreadyUp", self.explored(str(power))[1])
 

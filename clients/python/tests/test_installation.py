@@ -68,7 +68,7 @@ class InstallationTest(FolderCase):
             self.assertIn("rule 7", self.run_python(["-m", "nvmesim", *command], **where))
 
     def test_an_installed_package_finds_installed_programs(self) -> None:
-        """Beside itself before all; else on the path, and then under the user's prefix."""
+        """With itself before all; else on the path, and then under the user's prefix."""
         prefix, home, path = (self.folder / it for it in ("prefix", "home", "path"))
         package = prefix / "lib" / "nvmesim" / "python"
         shutil.copytree(PACKAGE / "nvmesim", package / "nvmesim", ignore=shutil.ignore_patterns("__pycache__"))

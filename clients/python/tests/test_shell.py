@@ -133,7 +133,7 @@ class ShellTest(FolderCase):
             "ok", "started", "up 1 ok", "host 1h's driver comes up, and controller 1 with it"])
 
     def test_blocks_that_do_not_fit(self) -> None:
-        """In memory it is said how to get more; over an image there is none to be had so."""
+        """In memory the message says how to get more blocks; over an image there is no such way."""
         lines = ["controller 1 host 1", "namespace 1 blocks 65536 shared", "start"]
         more = "for more blocks than the 1,024 in memory: truncate -s 32M disk.img, and ./nvmelive disk.img"
         status, told, _ = self.typed(lines)
@@ -196,7 +196,7 @@ class ShellTest(FolderCase):
 
 def at_terminal(command: Sequence[str], keys: Sequence[Tuple[bytes, bytes]]) -> Tuple[int, str]:
     """Runs a command at a terminal, and types keys, each after something that is waited for; its status, and all that
-    it shows. A key that comes before the prompt is the terminal's to read, and not the command's."""
+    it shows. A key that comes before the prompt belongs to the terminal."""
     child, terminal = pty.fork()
     if child == 0:
         os.execvpe(command[0], list(command), {**environment(), "TERM": "xterm"})

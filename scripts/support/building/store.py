@@ -10,7 +10,7 @@ from typing import IO, Dict, List, Optional
 
 # How many builds of other sources stay.
 OTHERS = 3
-# For so many seconds a lock is tried that others may only look at.
+# Seconds to try for a lock that others hold only to look at it.
 PATIENCE = 0.2
 
 

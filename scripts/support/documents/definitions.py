@@ -137,7 +137,7 @@ class Library:
         return self.found(again) if again and again != key else None
 
     def is_ours(self, key: Key) -> bool:
-        """Whether a place is in a crate of this repository, and not of the toolchain."""
+        """Whether a place is in a crate of this repository instead of the toolchain."""
         return key[0].split("/")[1] in self.crates
 
     def types_of(self, module: Module, name: str) -> List[Key]:

@@ -26,7 +26,7 @@ PICTURE = "docs/pictures/layers.svg"
 # The timeline in README, and the script that it shows.
 TIMELINE = "docs/pictures/timeline.svg"
 TIMED = "crates/nvme_examples/data/fenced.nvme"
-# Where each crate, each module of definitions, and what is proved of each crate are.
+# The documents that have each crate, each module of definitions, and what is proved of each crate.
 CRATES = "docs/ARCHITECTURE.md"
 CONTRACTS = "docs/PROVED.md"
 SECTION = "Crate by crate"

@@ -19,7 +19,7 @@ BY_CHOICE = re.compile(r"/(?:examples|laws|tests)(?:/|\.rt$)|_examples\.rt$|crat
 
 
 def files_with(top: Path, word: str) -> Iterator[Path]:
-    """The files of code and of definitions that name a word, beside their imports."""
+    """The files of code and of definitions that name a word outside their imports."""
     for part, ending in (("src", "rt"), ("specs", "antt")):
         for path in sorted(top.glob(f"crates/*/{part}/**/*.{ending}")):
             text = IMPORT.sub("", code_of(path.read_text(encoding="utf-8")))

@@ -167,7 +167,7 @@ def outside_angles(code: List[Token]) -> List[Token]:
 
 
 def is_item(code: List[Token], at: int, word: str) -> bool:
-    """Whether an item begins here with this word, and not the type of a function or of what has a trait."""
+    """Whether an item begins here with this word, rather than the type of a function or of what has a trait."""
     if not code[at].is_name(word):
         return False
     before = code[at - 1] if at else None
@@ -211,7 +211,7 @@ def functions(code: List[Token]) -> Iterator[Tuple[int, int, str, bool]]:
 
 
 def is_public(code: List[Token], at: int) -> bool:
-    """Whether `pub` is before the function here, and not for its crate alone."""
+    """Whether `pub` without a limit to its crate precedes the function here."""
     while at and (code[at - 1].is_name("const", "unsafe", "extern", "final") or code[at - 1].kind == "text"):
         at -= 1
     return at > 0 and code[at - 1].is_name("pub")

@@ -143,8 +143,7 @@ def compared(path: str, source: Source, owned: Owned, given: Lists) -> Iterator[
 
 
 def lacking_rows(top: Path) -> Iterator[str]:
-    """The rows as they would have to be, of each function whose row is not so: the kind and the reason are to be
-    given."""
+    """The missing rows, of each function whose row is not so; add the kind and the reason."""
     given, found = lists(), sources(top)
     owned = owned_by(top, found)
     for path, source in found.items():

@@ -13,7 +13,7 @@ from typing import Any, Callable, Dict, Iterable, Iterator, List, Optional, Sequ
 
 # The kinds of calls that the library counts, in its order.
 KINDS = ("alloc", "open", "stat", "read", "write", "pread", "pwrite", "sync", "lock")
-# What it counts beside these: the requests for memory since the last read, how often memory was given back, and how
+# What else it counts: the requests for memory since the last read, how often memory was given back, and how
 # often since the last read.
 SINCE_READ, FREED, FREED_SINCE_READ = OTHERS = ("since read", "freed", "freed since read")
 # How many seconds a run may take; it takes a few hundredths.
@@ -86,7 +86,7 @@ class Bench:
         return subprocess.Popen([str(self.program), *words], cwd=room, env=self.environment(room, plan), **streams)
 
     def live(self) -> Path:
-        """The built nvmelive, which is beside the program or in the folder of its own crate."""
+        """The built nvmelive, which is next to the program or in the folder of its own crate."""
         places = [self.origin.with_name("nvmelive"), self.origin.parents[2] / "nvmelive/out/nvmelive"]
         found = next((it for it in places if it.is_file()), None)
         if not found:

@@ -52,7 +52,7 @@ def refuse_each(bench: Bench, case: Case, is_onward: bool) -> str:
 
 
 def tally(case: Case, requests: int, ended: int) -> str:
-    """How many requests were refused, of which so many ended the run."""
+    """The number of refused requests, of which `ended` ended the run."""
     if ended < 5:
         raise Wrong(f"{case.name}: {ended} requests for memory ended the run, which is too few")
     if case.before is not None and requests == ended:

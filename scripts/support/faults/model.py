@@ -134,7 +134,7 @@ def lines_of(ticket: int, answer: Tuple[str, int, bytes]) -> List[str]:
 
 
 def script_of(commands: List[Command], blocks: int) -> bytes:
-    """The script of these commands, on a namespace of so many blocks."""
+    """The script of these commands, on a namespace of `blocks` blocks."""
     head = f"controller 1 host 0xa1\nnamespace 1 blocks {blocks} shared\nattached 1 1\nstart\nup 1\n"
     return (head + "".join(f"{it.line()}\nring 1\nfetch 1 1\nexecute 1 0\npoll 1\n" for it in commands)).encode()
 
@@ -155,7 +155,7 @@ class Told:
         return bytes(self.disk.bytes)
 
     def image_behind(self, events: int) -> bytes:
-        """The image after so many events: the driver comes up, and the fourth of each command's five executes it."""
+        """The image after `events` events: the driver comes up, and the fourth of each command's five executes it."""
         return self.images[events // 5]
 
 

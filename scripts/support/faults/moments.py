@@ -75,7 +75,7 @@ def judge(what: str, case: Case, shown: Shown) -> int:
 
 
 def one_run(bench: Bench, case: Case, seconds: float = 0) -> Tuple[Shown, float]:
-    """A run with its transcript in a file, killed after so many seconds if any; and what it took."""
+    """A run with its transcript in a file, killed after `seconds` seconds if given; and its time."""
     room = bench.room()
     (room / "script").write_bytes(case.script)
     (room / "image").write_bytes(case.before)

@@ -14,7 +14,7 @@
 //   unharmed  no call is made to fail, though that is reported
 //   lost      the second block written to the image is not written, though the program sees success
 //   stray     whatever is written to the image, its last byte is changed too
-//   late      the image is written when the program ends, and not before
+//   late      the image is written only when the program ends
 //   garbled   the first byte of the transcript is changed
 //   calm      the program ends with status 0, whatever happened
 //   blurred   the last byte of each text on standard error is changed

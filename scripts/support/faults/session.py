@@ -66,7 +66,7 @@ def session(bench: Bench, text: str, image: Optional[bytes]) -> Shown:
 
 
 def counted(bench: Bench, rounds: int, first: int, image: Optional[bytes]) -> Dict[str, int]:
-    """What a session of so many rounds takes and gives back; each must go as the first does."""
+    """The memory that a session of `rounds` rounds takes and frees; each must go as the first does."""
     shown = session(bench, SETUP + rounds * round_of_lines(first), image)
     refused = sum(line.startswith(b"!") for line in shown.output.splitlines())
     if shown.status != 0 or answers(shown) != rounds * ANSWERS or refused != rounds * len(REFUSED.splitlines()):

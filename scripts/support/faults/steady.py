@@ -85,7 +85,7 @@ def answers(shown: Shown) -> List[str]:
 
 
 def counted(bench: Bench, rounds: int, first: int, image: Optional[bytes]) -> Dict[str, int]:
-    """How many calls a run of so many rounds makes; each must go as the first does."""
+    """The number of calls of a run of `rounds` rounds; each must go as the first does."""
     shown = bench.run((SETUP + rounds * round_of_events(first)).encode(), image, plan("sync", 10 ** 9, "EIO"))
     if shown.status != 0 or answers(shown) != rounds * ANSWERS:
         raise Wrong(f"{rounds} rounds: status {shown.status}, and executions that are not {rounds} times {ANSWERS}")

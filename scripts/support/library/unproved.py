@@ -171,7 +171,7 @@ def archive(top: Path) -> Path:
             raise NotBuilt(str(error)) from error
         kept = unproved_archive(top)
         kept.parent.mkdir(parents=True, exist_ok=True)
-        # Whoever reads it meanwhile has a whole one.
+        # A concurrent reader has a whole one.
         shutil.copyfile(compiled(kit, room, top), kept.with_suffix(".new"))
         return kept.with_suffix(".new").replace(kept)
 

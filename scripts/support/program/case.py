@@ -49,9 +49,9 @@ class Case:
     output: str = ""
     errors: str = ""
     left: Mapping[str, bytes] = field(default_factory=dict)
-    # Where standard output goes; else it is compared with `output`.
+    # The file of standard output; without it the output is compared with `output`.
     shown_on: Optional[Opened] = None
-    # What is done in the folder before the run, and beside it.
+    # Preparations in the folder before the run, and actions during it.
     before: Optional[Callable[[Path], None]] = None
     beside: Optional[Callable[[Path], None]] = None
     # Whether a file `image` must still take no room on the disk, and have the time of its last change.

@@ -10,13 +10,13 @@ KEPT = b"\7" * 40000
 
 
 def last_block(blocks: int) -> str:
-    """A block is written at 8 in a namespace of so many blocks."""
+    """A block is written at 8 in a namespace of `blocks` blocks."""
     return (f"controller 1 host 1\nnamespace 1 blocks {blocks} shared\nattached 1 1\nstart\nup 1\n"
             "write 1 1 8 1 fill:5a\nring 1\nfetch 1 1\nexecute 1 0\n")
 
 
 def two_namespaces(private_blocks: int) -> str:
-    """Four controllers, a namespace of 64 blocks, and one of so many after it."""
+    """Four controllers, a namespace of 64 blocks, and one of `private_blocks` after it."""
     return ("controller 1 host 0xa1\ncontroller 2 host 0xb2\ncontroller 3 host 0xa1\ncontroller 4 host 0xc3\n"
             f"namespace 1 blocks 64 shared\nnamespace 2 blocks {private_blocks} private\n"
             "attached 1 1\nattached 2 1\nattached 3 1\nattached 4 1\nattached 1 2\nstart\n")
@@ -26,7 +26,7 @@ TAIL = b"\7" * 5000
 
 
 def hello_over(blocks: int) -> str:
-    """The program's first script, whose namespace has so many blocks."""
+    """The program's first script, whose namespace has `blocks` blocks."""
     return HELLO.replace("blocks 64", f"blocks {blocks}")
 
 

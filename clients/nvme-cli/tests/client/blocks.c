@@ -62,7 +62,7 @@ static void other_forms(int fd) {
     free(in);
 }
 
-// A command that fails leaves what is to be read alone.
+// A failed command leaves the buffer unchanged.
 static void failures(int fd) {
     uint8_t *room = room_at(MOST, 0);
     CHECK_IS(on_blocks(fd, READ, 1 << 20, 1, room), OUT_OF_RANGE);

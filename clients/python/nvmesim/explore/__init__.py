@@ -25,7 +25,7 @@ def explore(plan: Plan, program: Optional[PathLike] = None, prefixes: Sequence[O
         plan: the script with its parts.
         program: the program `nvmelive`; None for the one that `find_program` finds.
         prefixes: the beginnings of the orders that are explored; by default all orders.
-        jobs: so many events are run at once.
+        jobs: the number of events that run at once.
         seconds: the time limit of each answer.
         report: receives what was done, while it continues.
         medium: what each run begins with; None for zeros, as many blocks as its namespaces take.

@@ -35,7 +35,7 @@ def explore_on_dask(plan: Plan, address: str, shards: int, program: Optional[str
     Args:
         plan: the script with its parts.
         address: the scheduler, such as `tcp://host:8786`.
-        shards: so many parts.
+        shards: the number of parts.
         program: the program `nvmelive` as the workers find it, or None for what they find themselves.
         seconds: the time limit of each answer.
         image: the image, which the workers find where it is here; None for zeros in memory.

@@ -1,7 +1,7 @@
 /* Forks the program nvmelive where it waits for a line, at a word of `python3 -m nvmesim explore`.
  *
  * It is loaded before the C library (LD_PRELOAD). The explorer gives the program a Unix stream socket as standard input
- * and output. What it sends with file descriptors beside it is no input, but the word to fork: the child has the first
+ * and output. What it sends together with file descriptors is no input, but the word to fork: the child has the first
  * descriptor, a socket of its own, as standard input and output, and the second, if there is one, instead of every
  * regular file that is open after standard error, which is its image. The parent continues waiting. Each process says
  * its number on its socket before it reads, after a byte 0, which begins no answer. If the explorer has gone, a read
@@ -173,7 +173,7 @@ static long number_of(const char *digits, size_t size)
     return number;
 }
 
-/* What was sent beside the bytes: how many descriptors, and each. */
+/* The descriptors that were sent with the bytes. */
 static int sent_with(struct msghdr *message, int *sent)
 {
     int count = 0;

@@ -45,7 +45,7 @@ def grouped(found: Sequence[Tuple[Outcome, Ways]], values: Sequence[Values], key
 
 def matters(plan: Plan, step: Step) -> bool:
     """Whether an event's answer distinguishes outcomes: that of a request does, of a bringing up, and of what a raw
-    host's controller executes. Another event's answer, such as a poll that finds nothing, is a trifle: what it did
+    host's controller executes. Another event's answer, such as a poll that finds nothing, is ignored: what it did
     shows in these."""
     is_of_raw = step.line.verb == "execute" and step.line.controller in plan.configuration.raw
     return step.line.is_request or step.line.verb == "up" or is_of_raw

@@ -110,7 +110,7 @@ class Medium:
 
 
 def _file_of(blocks: int) -> Optional[int]:
-    """A file of so many blocks of zeros, all of it a hole, which the caller closes; None for more than a file has: the
+    """A file of `blocks` blocks of zeros, all of it a hole, which the caller closes; None for more than a file has: the
     program says so better."""
     if blocks > _MOST_BLOCKS:
         return None
@@ -140,7 +140,7 @@ def _copy(source: int, target: int) -> None:
 
 
 def _pieces(file: int) -> Iterator[Tuple[int, int]]:
-    """Where the file has bytes, and not holes: each piece by its beginning and its end."""
+    """The parts of the file that are no holes, each by its beginning and its end."""
     end = 0
     while True:
         try:

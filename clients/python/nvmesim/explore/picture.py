@@ -1,5 +1,5 @@
 """The outcomes as a page: a table, the timeline of one order of each and where it parts from another, and each
-counterexample beside the nearest order that is good."""
+counterexample next to the nearest good order."""
 from __future__ import annotations
 
 from html import escape

@@ -14,7 +14,7 @@ ABORTED = "aborted"
 NOT_EXECUTED = "not executed"
 
 _OF_ALL = frozenset(("0:00", "0:02", "0:0b", "0:1b"))
-# The statuses that a request of a driver is answered beside those of all requests, by USING.md, "Rules".
+# The statuses of each request of a driver besides those of all requests, by USING.md, "Rules".
 _OF_REQUEST: Dict[str, Tuple[str, ...]] = {
     "read": ("0:80", "0:83", "2:81"), "write": ("0:20", "0:80", "0:83", "2:80"),
     "compare": ("0:80", "0:83", "2:81", "2:85"), "zeroes": ("0:20", "0:80", "0:83", "2:80"),

@@ -9,7 +9,7 @@ from .walk import Statistics
 
 _EVERY = 0.1
 _FIRST = 3.0
-"""So many seconds pass before a long exploration says that it is one."""
+"""Seconds until a long exploration prints an estimate."""
 _LONG = 20.0
 
 

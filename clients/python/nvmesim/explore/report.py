@@ -88,7 +88,7 @@ class Report:
         return sum(ways.count for _, ways in self.found)
 
     def why_one_order(self) -> str:
-        """Why there is but one order: a script of one part, or parts that have no events beside one another."""
+        """Why there is only one order: a script of one part, or parts without concurrent events."""
         names = list(self.plan.parts)
         if not names:
             nearest = f" ({self.plan.nearest})" if self.plan.nearest else ""

@@ -1,7 +1,7 @@
 """Walks all orders, and runs each event once from each state: what was met before is not run again.
 
 From a state the events that may come next are run, each in a branch of its own. If one leads to a state that is
-known, the rest of it reports nothing new. Where two events commute, the second order of them is not run either: its
+known, the rest of it reports nothing new. If two events commute, the second order of them is not run either: its
 answers and its state are those of the first.
 """
 from __future__ import annotations
@@ -96,7 +96,7 @@ class Walk:
             plan: the script with its parts.
             branches: what runs events.
             prefixes: the beginnings of the orders that are explored, all equally long.
-            jobs: so many events are run at once.
+            jobs: the number of events that run at once.
             report: is called with the progress, now and then.
             is_reduced: whether the second order of two events that commute is spared.
         """
@@ -246,7 +246,7 @@ class Walk:
         return node, True
 
     def _arrive(self, node: Node, branch: Branch) -> None:
-        """Lets a branch wait at a new state, whose choices are to be begun. If too many wait, the first one ends."""
+        """Lets a branch wait at a new state, whose choices come next. If too many wait, the first one ends."""
         choices = self._choices(node.path, node.state.position)
         node.left, node.branch = len(choices), branch
         self._waiting += [(node, it) for it in reversed(choices)]

@@ -1,4 +1,4 @@
-"""The prompt: reads what is typed, has the program answer it, and answers what is about the session itself."""
+"""The prompt: sends typed lines to the program, and answers those about the session itself."""
 from __future__ import annotations
 
 import os

@@ -223,7 +223,7 @@ def is_denied(event: Event) -> bool:
 
 
 def event_texts(event: Event, is_short: bool = False) -> Tuple[str, str]:
-    """What is beside an event: its line, and in few words what came of it; of both less where `is_short`, but the
+    """The words next to an event: its line, and in few words what came of it; of both less where `is_short`, but the
     reason of a denial stays whole."""
     if is_short:
         line, words = event_texts(event)

@@ -31,7 +31,7 @@ def timeline(script: str, transcript: str, title: str = "Timeline", told: Sequen
         script: the script's text.
         transcript: what `nvmesim` printed for it.
         title: the heading of the page.
-        told: what looks reported about reservations, for the bands of who holds them and who is registered.
+        told: the answers of queries about reservations, for the bands of who holds them and who is registered.
 
     Raises:
         ScriptError: the script can't be read, or the two have different counts of events.
