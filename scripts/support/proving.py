@@ -96,8 +96,7 @@ def build(rt, crate, flags):
         return crate.build_static(flags) == 0
     if not crate.is_program:
         return crate.build_rlib(flags, anew=False) == 0
-    # The toolchain runs what it has built in the crate's folder; `true` replaces it, since runs_well has the
-    # program's files around it.
+    # The toolchain runs what it has built in the crate's folder; `true` replaces it, since runs_well prepares the program's files.
     return crate.run(flags, [], executable=shutil.which("true"), input=b"", timeout=rt.rtlib.LIMIT) == 0
 
 

@@ -92,7 +92,7 @@ def answered(name: str, lines: List[str], ask: Ask) -> List[List[str]]:
 
 
 def column_of(line: str) -> int:
-    """Where a line's first word begins, from 1."""
+    """The column of a line's first word, from 1."""
     return len(line) - len(line.lstrip(" \t\r")) + 1
 
 

@@ -39,7 +39,7 @@ class SubmissionQueue:
 
     @property
     def slot(self) -> int:
-        """Where the next entry goes."""
+        """The address of the next entry."""
         return submission_place(self.qid) + ENTRY_BYTES * self.tail
 
     @property
@@ -80,7 +80,7 @@ class Queues:
         self.completion: Dict[int, CompletionQueue] = {0: CompletionQueue(0)}
 
     def lane(self, is_admin: bool) -> Optional[SubmissionQueue]:
-        """Where a command goes: the admin queue, or the first I/O queue that there is."""
+        """The queue of a command: the admin queue, or the first I/O queue that exists."""
         if is_admin:
             return self.submission[0]
         there = [qid for qid in self.submission if qid > 0]

@@ -99,8 +99,8 @@ class RawHost(Host):
         return lines
 
     def new_place(self, command: Command) -> int:
-        """Where a queue goes that a command makes: its own page where it is not there yet, else a page that no other
-        has, since the command is refused."""
+        """The address of a queue that a command creates: its own page if it does not exist yet, else a page that no
+        other has, since the command is refused."""
         qid = command.double_word(10) & 0xffff
         is_submission = command.opcode == entries.CREATE_SUBMISSION
         there = self.queues.submission if is_submission else self.queues.completion

@@ -70,8 +70,8 @@ class Connection:
 
 @dataclass
 class Place:
-    """Where a lab is: its folder, and the lock that those hold who join it. The folder is a later lab's where its
-    token is another."""
+    """The place of a lab: its folder, and the lock that all its processes hold. If its token differs, the folder is a
+    later lab's."""
     folder: Path
     lock: Path
     token: str

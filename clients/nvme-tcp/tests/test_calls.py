@@ -176,7 +176,7 @@ class Rooms(CallsTest):
         return self.script.stat().st_blocks * 512 - self.script.stat().st_size
 
     def reserved(self) -> list:
-        """Where room was reserved, and how much, each time in such a way that the file's length stays."""
+        """Positions and lengths of reserved space; each reservation keeps the file's length."""
         told = [words for words in self.told() if words[0] == "reserves"]
         self.assertTrue(all(words[1] == "1" for words in told))
         return [(int(place), int(count)) for _, _, place, count in told]

@@ -17,7 +17,7 @@ from tests.targets import PROGRAM, TWO_HOSTS, Target, has_keys
 
 
 class Thieves(KeysTest):
-    """Whoever knows all names, and no secret."""
+    """A host that knows all names, but no secret."""
 
     def test_an_unproved_connect_holds_no_controller(self) -> None:
         thieves = [self.queue() for _ in range(5)]

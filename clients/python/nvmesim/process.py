@@ -20,7 +20,7 @@ VARIABLE = "NVMELIVE"
 """The variable of the environment that names the program."""
 
 INSTALLED = "lib/nvmesim"
-"""Where `scripts/install` puts the programs, under its PREFIX."""
+"""The folder of the installed programs under the PREFIX of `scripts/install`."""
 
 _PIECE = 1 << 16
 _MOST_TOLD = 1 << 16
@@ -62,7 +62,7 @@ def _beside(name: str) -> Optional[str]:
 
 
 def _prefixes() -> List[Path]:
-    """Where programs are installed: with this Python, for this user, for all."""
+    """The prefixes of installed programs: this Python's, the user's, the system's."""
     return list(dict.fromkeys((Path(sys.prefix), Path.home() / ".local", Path("/usr/local"), Path("/usr"))))
 
 

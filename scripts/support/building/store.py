@@ -1,4 +1,4 @@
-"""Where builds are kept: in out/ at the top, by the digest of their sources."""
+"""The folder of builds, out/ at the top, by the digest of their sources."""
 import fcntl
 import hashlib
 import os
@@ -25,11 +25,11 @@ class Store:
         self.proving = self.folder / "proving"
 
     def unproved(self, digest: str) -> Path:
-        """Where the programs are that were built without their proofs."""
+        """The folder of programs that were built without their proofs."""
         return self.folder / "unproved" / digest
 
     def proved(self, digest: str) -> Path:
-        """Where the proved programs are, with a record of how they were proved."""
+        """The folder of proved programs, with a record of how they were proved."""
         return self.folder / "proved" / digest
 
     def gate(self, digest: str) -> Path:

@@ -66,8 +66,8 @@ def lines_of(name: str, text: str) -> List[str]:
 
 
 def end_of(lines: List[str], part: List[str], begin: int) -> int:
-    """Where a part ends that is at or after a line; 0 where it is nowhere. Its lines follow one another but
-    for an elision, and after the last of them the source does not continue."""
+    """The end of the first occurrence of a part at or after a line; 0 if there is none. Its lines follow one another
+    except for an elision, and after the last of them the source does not continue."""
     for at in range(begin, len(lines)):
         if lines[at].strip() == part[0].strip():
             end = match(lines, part, at)

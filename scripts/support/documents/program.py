@@ -218,7 +218,7 @@ def is_public(code: List[Token], at: int) -> bool:
 
 
 def use_places(code: List[Token]) -> Iterator[Tuple[int, int]]:
-    """Where each `use` begins and ends."""
+    """Beginning and end of each `use`."""
     for at, it in enumerate(code):
         if it.is_name("use"):
             yield at, next((n for n in range(at, len(code)) if code[n].is_sign(";")), len(code))

@@ -64,7 +64,7 @@ def parameters_of(head: str) -> int:
 
 
 def end_of_name(head: str) -> int:
-    """Where the name of a function ends, and the types that it is generic in."""
+    """The end of a function's name and of its generic parameters."""
     at, depth = NAME.search(head).end(), 0
     while head[at] == "<" or depth:
         depth += (head[at] == "<") - (head[at] == ">")

@@ -171,7 +171,7 @@ def clip(bytes_shown: Optional[bytes]) -> str:
 
 
 def difference(found: Optional[bytes], wanted: Optional[bytes]) -> str:
-    """Where bytes differ from those that are expected, for a message."""
+    """The first difference of bytes from the expected ones, for a message."""
     if found is None or wanted is None:
         return f"{clip(found)}, and not {clip(wanted)}"
     at = next((i for i, (a, b) in enumerate(zip(found, wanted)) if a != b), min(len(found), len(wanted)))

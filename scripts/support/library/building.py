@@ -60,7 +60,7 @@ def proved_archive(top):
 
 
 def unproved_archive(top):
-    """Where the archive is kept that is built without its proofs."""
+    """The path of the archive that is built without its proofs."""
     return top / "out" / "library" / "libnvmesim-unproved.a"
 
 

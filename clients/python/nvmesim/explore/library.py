@@ -19,7 +19,7 @@ class NoLibrary(NvmesimError):
 
 
 def folder() -> Path:
-    """Where compiled libraries are kept: the caller's folder of caches."""
+    """The folder of compiled libraries: in the caller's cache folder."""
     named = os.environ.get("XDG_CACHE_HOME")
     return (Path(named) if named else Path.home() / ".cache") / "nvmesim"
 

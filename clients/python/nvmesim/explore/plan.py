@@ -123,7 +123,7 @@ class Plan:
         return found
 
     def begin(self) -> Position:
-        """Where every order begins."""
+        """The first position of every order."""
         return self._settled(0, tuple(0 for _ in self.phases[0].parts))
 
     def choices(self, position: Position) -> List[Choice]:

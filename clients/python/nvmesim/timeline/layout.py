@@ -43,7 +43,7 @@ class Lane:
 
 @dataclass(frozen=True)
 class Layout:
-    """Where the lanes are, and which slot of its host's lane each request has."""
+    """The positions of lanes, and the slot of each request in its host's lane."""
 
     hosts: Dict[int, Lane]
     controllers: Dict[int, Lane]
@@ -63,16 +63,16 @@ class Layout:
         return [*pairs, self.media, *self.access.values()]
 
     def band_left(self, band: Band) -> float:
-        """Where the band of a host begins in the lane of its namespace, from the left."""
+        """The left edge of a host's band in the lane of its namespace."""
         return self.access[band.nsid].left + 8 + _BAR * self.registered[band.nsid].index(band.host)
 
     def slot_left(self, command: Command) -> float:
-        """Where the span of a request begins, from the left."""
+        """The left edge of a request's span."""
         lane = self.hosts[command.controller]
         return lane.left + 6 + _BAR * self.slots.get(command, 0)
 
     def held_left(self, command: Command) -> float:
-        """Where the span of a fetched command begins in its controller's lane, from the left."""
+        """The left edge of a fetched command's span in its controller's lane."""
         return self.controllers[command.controller].left + 14 + _BAR * self.held.get(command, 0)
 
     def end_of(self, command: Command) -> int:
