@@ -26,7 +26,7 @@ def read_book(rt, root, crates, logic):
     """Reads every mutant and every record."""
     book, digests = Book(crates), record.Digests(logic)
     for folder in edits.orphans(root, crates.values()):
-        book.faults.append(f"{folder.relative_to(root)}: nobody tries these, since no crate stands there")
+        book.faults.append(f"{folder.relative_to(root)}: nobody tries these, since no crate is there")
     for name, crate in crates.items():
         book.edits[name], book.lines[name] = [], {}
         try:

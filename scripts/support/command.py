@@ -9,12 +9,12 @@ from support import choosing, edits, proving, record, toolchain, trial
 from support.proving import say
 
 MOST = 60
-USAGE = """Tries wrong bodies, over kept work where there is some: the prover must refuse each.
+USAGE = """Tries mutants, over earlier results if there are any: the prover must refuse each.
 
-A wrong body is a file NAME.edit in crates/CRATE/must-fail or crates/CRATE/wrong-bodies. Without names, it tries those
+A mutant is a file NAME.edit in crates/CRATE/must-fail or crates/CRATE/wrong-bodies. Without names, it tries those
 that crates/CRATE/wrong-bodies.record does not show as refused with their present text; with --all, or with names of
-crates, all of them. It writes to the records what was refused. The last line is `N passed, M failed`; the status is 1 where one
-failed, and 2 where nothing could be tried."""
+crates, all of them. It writes to the records what was refused. The last line is `N passed, M failed`; the
+status is 1 if one failed, and 2 if nothing could be tried."""
 
 
 def words_of(given):
@@ -22,7 +22,7 @@ def words_of(given):
     parser = argparse.ArgumentParser(prog="scripts/wrong-bodies", description=USAGE,
                                      formatter_class=argparse.RawDescriptionHelpFormatter)
     parser.add_argument("names", nargs="*", metavar="NAME", help="a crate")
-    parser.add_argument("--all", action="store_true", help="all wrong bodies of all crates")
+    parser.add_argument("--all", action="store_true", help="all mutants of all crates")
     parser.add_argument("--lacking", action="store_true", help="of the named crates, only what their records lack")
     parser.add_argument("--jobs", type=int, default=0, metavar="N", help="run N checks side by side; without it one a core")
     parser.add_argument("--gate", metavar="COMMIT", help="for the merge gate: those of wrong-bodies/ that the records "
@@ -139,9 +139,9 @@ def end(run, book, count):
     """The last lines: what each crate's mutants took, what is wrong, and how many passed."""
     for name, seconds in run.spent.items():
         tried = sum(it.edit.crate == name for it in run.results)
-        say(f"{name}: {tried} wrong bodies, {seconds:.0f} processor seconds, {seconds / max(tried, 1):.1f} each")
+        say(f"{name}: {tried} mutants, {seconds:.0f} processor seconds, {seconds / max(tried, 1):.1f} each")
     for name in sorted(run.unsound):
-        say(f"{name}: as it stands it is not proved over the kept work: remove crates/{name}/out, and try again")
+        say(f"{name}: it is not proved over the earlier results: remove crates/{name}/out, and try again")
     for fault in book.faults:
         say(f"FAILED {fault}")
     passed = sum(it.is_refused and it.edit.crate not in run.unsound for it in run.results)
@@ -166,7 +166,7 @@ def main(root, given):
     book = choosing.read_book(rt, root, crates, toolchain.logic())
     chosen = {name: found for name, found in chosen_of(words, book).items() if found}
     count = sum(map(len, chosen.values()))
-    say(f"{count} of {book.tally()} wrong bodies are tried, of {len(chosen)} crates: {' '.join(chosen)}")
+    say(f"{count} of {book.tally()} mutants are tried, of {len(chosen)} crates: {' '.join(chosen)}")
     run = Run(rt, book, not words.gate)
     if count and build_below(rt, [crates[it] for it in chosen], words.jobs):
         try_all(run, chosen, words.jobs)

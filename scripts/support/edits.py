@@ -110,9 +110,9 @@ def files_of(crate, folders=FOLDERS):
             if file.suffix == ".md":
                 continue
             if not re.fullmatch(r"[A-Za-z0-9_-][A-Za-z0-9_.-]*\.edit", file.name) or file.parent.name != folder:
-                raise BadEdit(f"{crate.name}: {folder}/{file.name} is no wrong body, which is a file NAME.edit")
+                raise BadEdit(f"{crate.name}: {folder}/{file.name} is no mutant, which is a file NAME.edit")
             if file.name in found:
-                raise BadEdit(f"{crate.name}/{file.name} stands in two folders")
+                raise BadEdit(f"{crate.name}/{file.name} is in two folders")
             found[file.name] = file
     return list(found.values())
 

@@ -137,7 +137,7 @@ def fields_of(top: Path) -> Dict[str, str]:
     digest = asked(top, "scripts/build", "digest")
     gate, proved = record_of(Store(top).gate(digest)), record_of(Store(top).proved(digest) / "record")
     commit = subprocess.run(["git", "-C", str(top), "rev-parse", "HEAD"], capture_output=True, text=True).stdout.strip()
-    passed = f"passed at {gate['passed']}, commit {gate['commit']}, changes beside it: {gate['changes']}" if gate else "no"
+    passed = f"passed at {gate['passed']}, commit {gate['commit']}, uncommitted changes: {gate['changes']}" if gate else "no"
     return {"nvmesim": version_of(top), "platform": "x86_64-linux", "commit": commit or "none", "sources": digest,
             "proved": proved.get("proved", "no"), "gate": passed, "toolchain": proved.get("toolchain", "unknown")}
 

@@ -129,7 +129,7 @@ run_waiting() {
     local image told status
     image=$(image_named)
     [ -n "$image" ] || run_program "$@"
-    told=$(mktemp) || give_up 'there is no room for what the program tells'
+    told=$(mktemp) || give_up 'there is no space for messages of the program'
     # shellcheck disable=SC2064
     trap "rm -f '$told'" EXIT
     while true; do

@@ -212,7 +212,7 @@ static void play_until(unsigned long most, int is_lent) {
     while (calls < most && failures == 0)
         play(&sim);
     printf("%s: %lu requests for memory by the opening; by %lu events and looks %lu, and %lu given back\n",
-           is_lent ? "lent bytes" : "copied bytes", at_first, calls - begun, taken - at_first, freed - given_back);
+           is_lent ? "borrowed bytes" : "copied bytes", at_first, calls - begun, taken - at_first, freed - given_back);
     failures += at_first < 3 || taken != at_first || freed != given_back;
     nvmesim_close(&sim);
     failures += freed != taken;

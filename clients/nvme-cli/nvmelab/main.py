@@ -26,17 +26,17 @@ has the lines of a script before its `start`. Labs of one CONFIG that run at the
 the last of their COMMANDs.
 
 --host H            see only the controllers of host H, as its own machine does; without it those of all hosts
---drivers           have commands made by the proved drivers of the hosts, except where the line of CONFIG ends in `raw`;
+--drivers           make commands by the proved drivers of the hosts, except if the line of CONFIG ends in `raw`;
                     without it all hosts are raw, and commands are as COMMAND makes them
---image IMAGE       keep the blocks in this file, which must be long enough; without it they are gone after the lab
+--image IMAGE       keep the blocks in this file, which must be long enough; without it they are lost with the lab
 --script FILE       write everything that happens as a script, which nvmesim can run again
---program PROGRAM   run this nvmelive, with the nvmesim beside it; without it ./nvmelive of this repository, which is
+--program PROGRAM   run this nvmelive, with the nvmesim next to it; without it ./nvmelive of this repository, which is
                     built on first use
 
---power-cycle       power is lost in the whole subsystem of the lab of CONFIG, which has to run, and comes back; the
-                    hosts bring their controllers up again
+--power-cycle       power-cycle the subsystem of the running lab of CONFIG; the hosts then bring their controllers up
+                    again
 
-The status is COMMAND's; 125 where the lab fails, 126 or 127 where COMMAND can't be run or is not found.
+The status is COMMAND's; 125 if the lab fails, 126 if COMMAND can't be run, 127 if it is not found.
 """
 
 

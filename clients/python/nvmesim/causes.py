@@ -248,7 +248,7 @@ def _create_fields(asked: _Asked) -> Iterator[Row]:
     kind = "submission" if is_submission else "completion"
     qid, entries, prp1 = asked["QID"], asked["QSIZE"] + 1, asked["PRP1"]
     if not asked["PC"]:
-        yield _FIELD, "PC is 0, and queues lie in one piece"
+        yield _FIELD, "PC is 0, but queues must be contiguous"
     if not 1 <= qid <= _MOST_QUEUE:
         yield Status.INVALID_QUEUE_IDENTIFIER, f"QID is {qid}, and I/O queues are 1 to {_MOST_QUEUE}"
     if qid in _there(asked, is_submission):
@@ -346,7 +346,7 @@ def _list_rows(asked: _Asked) -> Iterator[Row]:
         yield Status.CONTROLLER_LIST_INVALID, "the list of controllers is empty"
     for before, number in zip([0, *listed], listed):
         if number <= before and before:
-            yield Status.CONTROLLER_LIST_INVALID, f"controller {number} comes behind controller {before} in the list"
+            yield Status.CONTROLLER_LIST_INVALID, f"controller {number} comes after controller {before} in the list"
         if not _is_there(asked, number):
             yield Status.CONTROLLER_LIST_INVALID, f"controller {number} is not configured"
     shared = {it.number: it.is_shared for it in looks.namespaces(asked.look("?namespaces"))}

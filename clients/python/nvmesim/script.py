@@ -153,7 +153,7 @@ def _kind_of(number: int, verb: str, is_started: bool) -> LineKind:
     """What a line with this verb is; refuses what can't be there."""
     is_event = verb in EVENT_VERBS
     if is_event != is_started:
-        raise ScriptError(number, f"{verb} can't stand {'behind' if is_started else 'before'} start")
+        raise ScriptError(number, f"{verb} is not allowed {'after' if is_started else 'before'} start")
     if is_event:
         return LineKind.EVENT
     return LineKind.START if verb == "start" else LineKind.CONFIGURATION

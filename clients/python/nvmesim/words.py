@@ -214,7 +214,7 @@ def verdict_words(command: Command) -> str:
     if command.is_denied:
         return f"denied with {status_words(command.status)} by {rule_words(command)}"
     if command.status.is_success:
-        return "carried out"
+        return "done"
     return f"failed with {status_words(command.status)}"
 
 
@@ -293,7 +293,7 @@ def _driver_words(event: Event, answer: Answer) -> str:
         if not answer.is_up:
             return "is not up: nothing happens"
         told = tickets_words(event.commands) if event.commands else "nothing new"
-        return f"tells controller {number} of {told}"
+        return f"notifies controller {number} of {told}"
     if isinstance(answer, Reset):
         met = f", and {tickets_words(event.commands)} will be delivered as aborted" if event.commands else ""
         return f"resets controller {number}; both are down{met}"

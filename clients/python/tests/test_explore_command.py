@@ -40,9 +40,9 @@ class CommandTest(FolderCase):
                 (["explore", str(RACE), "--bogus"], "unrecognized arguments: --bogus"),
                 (["explore", str(RACE), "--jobs", "x"], "invalid int value: 'x'"),
                 (["explore", str(RACE), "--jobs", "0"], "--jobs and --shards are 1 at least"),
-                (["explore", str(RACE), "--shard", "9/8"], "'9/8' is no part: K/N was wanted, such as 1/8"),
+                (["explore", str(RACE), "--shard", "9/8"], "'9/8' is no part; use K/N, such as 1/8"),
                 (["explore"], "explore wants a SCRIPT, or --merge and files"),
-                (["explore", "--merge", str(text), "--image", str(text)], "--image belongs to the parts, not to their --merge"),
+                (["explore", "--merge", str(text), "--image", str(text)], "--image belongs to the parts"),
                 (["timeline", str(RACE), "--format", "png"], "a PNG file needs a name: -o FILE"),
                 (["timeline", str(RACE), "-o", "a.pdf"], "a.pdf ends with .pdf, which is no format that is written "
                  "here: .html or .svg or .png, or no ending"),

@@ -68,7 +68,7 @@ class ShellTest(FolderCase):
         self.assertEqual(told[-6:-1], ["read C N SLBA BLOCKS", "?blocks N SLBA COUNT", "?identify C CNS [NSID]",
                                        "quit               end the session, as Ctrl-D does",
                                        "! there is no line 'no': help names all"])
-        self.assertEqual(told[-1], "! quit stands alone")
+        self.assertEqual(told[-1], "! quit takes no words")
 
     def test_looks_that_decode(self) -> None:
         image = self.image()
@@ -102,7 +102,7 @@ class ShellTest(FolderCase):
             "?identify 1": "! ?identify C CNS [NSID] is how it is written", "?report 5": "! there is no such namespace",
             "?report": "! ?report N is how it is written", "?controllers 1": "! ?controllers is how it is written",
             "?status": "! ?status TYPE:CODE, such as ?status 0:83 is how it is written",
-            "?read32 1": "! ?read32 C OFF is how it is written", "list now": "! list stands alone",
+            "?read32 1": "! ?read32 C OFF is how it is written", "list now": "! list takes no words",
             "drop 1": "! the session is started, and its lines can't be changed any more",
             "save": "! save FILE is how it is written", "save image": "! image exists, and save replaces no file",
         }
@@ -126,7 +126,7 @@ class ShellTest(FolderCase):
             "  1  controller 1 host 1", "  2  namespace 1 blocks 70000 shared", "  3  attached 1 1",
             "  4  attached 1 1"])
         self.assertTrue(told[11].startswith("! line 2 word 1: namespace takes 5 words"), told[11])
-        self.assertEqual(told[12], "! start stands alone")
+        self.assertEqual(told[12], "! start takes no words")
         self.assertTrue(told[13].startswith("! line 2 word 1: "), told[13])
         self.assertEqual(told[14:], [
             "ok", "refused line 4: BadSize; line 2: namespace 1 has 70000 blocks, and 65536 is the most", kept,

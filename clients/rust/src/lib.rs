@@ -399,7 +399,7 @@ impl fmt::Display for Refusal {
     fn fmt(&self, f: &mut fmt::Formatter<'_>) -> fmt::Result {
         f.write_str(match self {
             Refusal::NoController => "there is no such controller",
-            Refusal::Outside => "not all of it lies inside",
+            Refusal::Outside => "some of it is outside",
             Refusal::NotWhole => "the bytes are no whole number of blocks",
             Refusal::MediumFault => "the medium failed",
             Refusal::NoQueue => "the controller has no such queue",

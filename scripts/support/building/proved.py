@@ -76,7 +76,7 @@ def prove(top: Path, tell: Tell) -> None:
     with held, open(store.folder / "prove.log", "a", encoding="utf-8") as log:
         sources = digest(top)
         tell("proving and building the programs, 15 to 30 minutes in a fresh clone; what is proved stays, so that a "
-             "proof that is stopped goes on where it was")
+             "proof that is stopped continues where it was")
         store.write(store.proving, f"{os.getpid()}\nbegun at {time.strftime('%H:%M')}\n")
         try:
             status = relay(top, tell, log)

@@ -31,7 +31,7 @@ WRONG: Dict[str, Callable[[bytes], bytes]] = {
     "VT and FF separate words": lambda text: text.replace(b"\x0b", b" ").replace(b"\x0c", b" "),
     "EM SPACE separates words": lambda text: text.replace(b"\xe2\x80\x83", b" "),
     "a carriage return ends a line": lambda text: text.replace(b"\r", b"\n"),
-    "what is behind start is not read": lambda text: text.partition(b"\nstart\n")[0],
+    "what follows start is not read": lambda text: text.partition(b"\nstart\n")[0],
     "a comment may begin late": lambda text: text.replace(b"# late", b""),
     "comments are UTF-8": lambda text: text.decode("utf-8", "ignore").encode(),
     "digits may be grouped": lambda text: text.replace(b"1_0", b"10"),

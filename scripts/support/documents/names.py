@@ -226,10 +226,10 @@ def check_picture(top: Path) -> Iterator[Finding]:
         if text.get("class") == "crate":
             name = text.text or ""
             if name in places or name not in crates(top):
-                yield Finding(PICTURE, 1, f"{name} stands there twice, or is no crate")
+                yield Finding(PICTURE, 1, f"{name} is there twice, or is no crate")
             place = (int(text.get("y", 0)), int(text.get("x", 0)))
             if place in places.values():
-                yield Finding(PICTURE, 1, f"{name} lies over another crate")
+                yield Finding(PICTURE, 1, f"{name} covers another crate")
             places[name] = place
     for name, below in uses(top):
         if name not in places:
@@ -237,4 +237,4 @@ def check_picture(top: Path) -> Iterator[Finding]:
             continue
         for other in below:
             if other in places and places[other] <= places[name]:
-                yield Finding(PICTURE, 1, f"{name} stands on {other}, which is above it or to its left")
+                yield Finding(PICTURE, 1, f"{name} depends on {other}, which is above it or to its left")

@@ -240,4 +240,4 @@ def check(top: Path) -> Iterator[Finding]:
             yield Finding(HERE, row.line, f"{path} is not there")
     for name, others in uses(top):
         for other in () if TESTS.match(name) else filter(TESTS.match, others):
-            yield Finding("crates.txt", 1, f"{name} stands on {other}, which is a test and may take memory")
+            yield Finding("crates.txt", 1, f"{name} depends on {other}, which is a test and may take memory")

@@ -90,7 +90,7 @@ class Bench:
         places = [self.origin.with_name("nvmelive"), self.origin.parents[2] / "nvmelive/out/nvmelive"]
         found = next((it for it in places if it.is_file()), None)
         if not found:
-            raise Wrong(f"there is no nvmelive beside {self.origin}, nor at {places[1]}")
+            raise Wrong(f"there is no nvmelive next to {self.origin}, nor at {places[1]}")
         return found
 
     def run(self, script: bytes, image: Optional[bytes] = None, plan: Optional[Plan] = None,
@@ -176,7 +176,7 @@ def difference(found: Optional[bytes], wanted: Optional[bytes]) -> str:
         return f"{clip(found)}, and not {clip(wanted)}"
     at = next((i for i, (a, b) in enumerate(zip(found, wanted)) if a != b), min(len(found), len(wanted)))
     start = max(0, at - 60)
-    return (f"{len(found)} bytes where {len(wanted)} are wanted, and from byte {at} on not the same: .."
+    return (f"{len(found)} bytes instead of {len(wanted)}, and from byte {at} on not the same: .."
             f"{clip(found[start:at + 60])}, and not ..{clip(wanted[start:at + 60])}")
 
 

@@ -104,10 +104,10 @@ def self_test(folder: Path, program: Path, top: Path, names: List[str]) -> int:
                 missed += not is_found(bench, top, f"{group} {name}", GROUPS[group][name])
     for group, name in ((group, name) for group in names for name in GROUPS[group]):
         if (group, name) not in seen:
-            print(f"faults: {group} {name}: no lie tries it", file=sys.stderr)
+            print(f"faults: {group} {name}: no planted fault tries it", file=sys.stderr)
             missed += 1
     print(f"faults: self-test: {missed} not as they must be" if missed else
-          f"faults: self-test: each lie was found, and each of {len(seen)} checks found one")
+          f"faults: self-test: each planted fault was found, and each of {len(seen)} checks found one")
     return 1 if missed else 0
 
 

@@ -90,7 +90,7 @@ def try_raw(bench: Bench, top: Path) -> str:
         must_be(what, shown, 0, None, b"", before[:4096] + memory + before[5632:])
         if executed(shown.output) != ["0:00 0", "0:00 0", read, "0:00 0"]:
             raise Wrong(f"{what}: the executions posted {executed(shown.output)}")
-    return "host memory behind a Read that failed: 4 runs, as it must be"
+    return "host memory after a Read that failed: 4 runs, as it must be"
 
 
 def try_commands(bench: Bench, top: Path) -> str:

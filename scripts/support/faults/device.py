@@ -54,11 +54,11 @@ def try_place(bench: Bench, commands: List[Command], before: bytes, place: Tuple
     kind, at, how, is_onward = place
     blocks = len(before) // 512
     told: Told = told_of(commands, Disk(before, kind, at, how, is_onward))
-    what = f"{NAMES[kind]} {at}{' and all behind it' if is_onward else ''} of the image: {how}"
+    what = f"{NAMES[kind]} {at}{' and all after it' if is_onward else ''} of the image: {how}"
     shown = bench.run(script_of(commands, blocks), before, plan(kind, at, how, is_onward))
     must_be(what, shown, 0, told.transcript(), b"", told.image())
     if shown.image[512 * blocks:] != before[512 * blocks:]:
-        raise Wrong(f"{what}: what stands behind the last block was changed")
+        raise Wrong(f"{what}: bytes after the last block were changed")
     made = {it: shown.counts[it] for it in NAMES}
     wanted = {it: told.disk.counts[it] for it in NAMES}
     if (kind, how) not in UNNOTICED and made != wanted:

@@ -38,11 +38,11 @@ def refuse_each(bench: Bench, case: Case, is_onward: bool) -> str:
     """Refuses each request of a run in turn, or from one on, until none is refused."""
     ended = 0
     for number in range(1, MOST):
-        what = f"{case.name}, memory refused at request {number}{' and behind' if is_onward else ''}"
+        what = f"{case.name}, memory refused at request {number}{' and after' if is_onward else ''}"
         shown = bench.run(case.script, case.before, plan("alloc", number, "ENOMEM", is_onward))
         refused = is_refused(case, what, shown)
         if refused and ended != number - 1:
-            raise Wrong(f"{what}: refused behind one that was not")
+            raise Wrong(f"{what}: refused after one that was not")
         ended += refused
         if shown.hits == 0:
             return tally(case, number - 1, ended)

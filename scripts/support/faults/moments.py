@@ -63,7 +63,7 @@ def judge(what: str, case: Case, shown: Shown) -> int:
         raise Wrong(f"{what}: what was printed is no beginning of the transcript")
     image, tail = shown.image, len(case.before) // BLOCK * BLOCK
     if len(image) != len(case.before) or image[tail:] != case.before[tail:]:
-        raise Wrong(f"{what}: the image has another length, or other bytes behind its last block")
+        raise Wrong(f"{what}: the image has another length, or other bytes after its last block")
     found = list(prefixes(case.before, image, case.told.disk.writes))
     if not found:
         raise Wrong(f"{what}: the image is not what some first writes leave, with one block half written")

@@ -115,12 +115,12 @@ def try_rounds(bench: Bench, top: Path) -> str:
             rounds = -(-min(MOST, least - lines) // each)
             few, many = counted(bench, FEW, first, image), counted(bench, rounds, first, image)
             if few[SINCE_READ] != nothing + (BLOCKS if image else 0):
-                raise Wrong(f"{what}: {few[SINCE_READ]} requests behind the text of {FEW} rounds, and {nothing} of none")
+                raise Wrong(f"{what}: {few[SINCE_READ]} requests after the text of {FEW} rounds, and {nothing} of none")
             must_be_as_few(what, few, many, rounds)
             lines += rounds * each
             first = (first + BLOCKS) % ALL_BLOCKS
         told.append(f"{what} {few[SINCE_READ]} for {lines} lines, {nothing} for none")
-    return f"requests for memory behind the text: {', '.join(told)}: as they must be"
+    return f"requests for memory after the text: {', '.join(told)}: as they must be"
 
 
 CHECKS: Dict[str, Check] = {"rounds": try_rounds}

@@ -57,7 +57,7 @@ def try_writes(bench: Bench, case: Case, how: str, is_onward: bool) -> int:
     calls = len(case.flushes)
 
     def work(at: int) -> None:
-        what = f"write {at} of the transcript{' and all behind it' if is_onward else ''}: {how}"
+        what = f"write {at} of the transcript{' and all after it' if is_onward else ''}: {how}"
         shown = bench.run(case.script, case.before, plan("write", at, how, is_onward))
         if is_unnoticed(case, at, how):
             must_be(what, shown, 0, case.transcript, b"", case.told.image())
@@ -68,7 +68,7 @@ def try_writes(bench: Bench, case: Case, how: str, is_onward: bool) -> int:
         if is_onward and at <= calls and shown.output != case.written_before(at):
             raise Wrong(f"{what}: not what was written before it was printed")
         if bool(shown.hits) != (at <= calls):
-            raise Wrong(f"{what}: not made, or made behind the end")
+            raise Wrong(f"{what}: not made, or made after the end")
 
     each(work, range(1, calls + 1 + (how not in ("fewer", "EINTR"))))
     return calls
@@ -119,7 +119,7 @@ def try_head(bench: Bench, case: Case) -> None:
     # so the write that fails may come after any event from the first write on.
     images = {case.told.image_behind(event) for event in range(case.flushes[0].event, len(case.told.lines) + 1)}
     if (room / "image").read_bytes() not in images:
-        raise Wrong("head -n 1: the image is not what the events up to one behind a write of the transcript leave")
+        raise Wrong("head -n 1: the image is not what the events up to one after a write of the transcript leave")
 
 
 def try_transcript(bench: Bench, top: Path) -> str:

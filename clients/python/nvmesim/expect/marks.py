@@ -99,13 +99,13 @@ def read_test(name: str, text: str) -> ScriptTest:
         is_started = is_started or line.kind is LineKind.START
         word, rest = _mark_of(line)
         if word == EXPECT_BLOCKS and not is_started:
-            raise ScriptError(line.number, f"{line.text!r} stands before start")
+            raise ScriptError(line.number, f"{line.text!r} is before start")
         if word == EXPECT_BLOCKS:
             found.append(_blocks_expected(line, rest, events))
         elif word == EXPECT:
             found.append(_answer_expected(line, rest, events, last))
     if not found:
-        raise ScriptError(0, "the script has no expectation: a comment '# expect ANSWER' behind an event, or "
+        raise ScriptError(0, "the script has no expectation: a comment '# expect ANSWER' after an event, or "
                              "'# expect-blocks N SLBA COUNT HEX'")
     return ScriptTest(name, text, lines, tuple(found))
 
@@ -140,7 +140,7 @@ def _mark_of(line: ScriptLine) -> Tuple[str, Tuple[str, ...]]:
 
 def _answer_expected(line: ScriptLine, words: Sequence[str], events: int, last: Optional[ScriptLine]) -> AnswerExpected:
     if last is None:
-        raise ScriptError(line.number, f"{line.text!r} stands behind no event")
+        raise ScriptError(line.number, f"{line.text!r} follows no event")
     if not words:
         raise ScriptError(line.number, "'# expect' names no answer: '# expect ANSWER'")
     if words[0] == "blocks":

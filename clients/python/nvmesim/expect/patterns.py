@@ -76,7 +76,7 @@ def _check_parts(line: ScriptLine, words: Sequence[str]) -> None:
     known = _known(line)
     for before, word in zip(("", *words), words):
         if before == ANY and _NUMBER.match(word):
-            raise NeverAnswered(f"the number {word} behind a '*' can be any number of the answer: "
+            raise NeverAnswered(f"the number {word} after a '*' can be any number of the answer: "
                                 "say the word before it too")
         if word != ANY and not _is_word(line, word, known):
             raise NeverAnswered(f"no answer of {line.text!r} has the word {word!r}{_hint(line, word)}")

@@ -61,7 +61,7 @@ def mark_of(line: ScriptLine, is_started: bool, is_marked: bool = True) -> Optio
                               f"that begins with another word")
         return None
     if not is_started:
-        raise ScriptError(line.number, f"the mark {line.text!r} stands before start")
+        raise ScriptError(line.number, f"the mark {line.text!r} is before start")
     if found[1] in (BEFORE, THEN):
         raise ScriptError(line.number, f"no host can be called {found[1]}")
     return THEN if found[2] else found[1]

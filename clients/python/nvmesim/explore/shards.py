@@ -32,7 +32,7 @@ class Shard:
         """A part as `K/N`. Raises `ShardError` for anything else."""
         found = _FORM.match(text)
         if found is None or int(found[1]) > int(found[2]):
-            raise ShardError(f"{text!r} is no part: K/N was wanted, such as 1/8, with K from 1 to N")
+            raise ShardError(f"{text!r} is no part; use K/N, such as 1/8, with K from 1 to N")
         return Shard(int(found[1]), int(found[2]))
 
     def prefixes(self, plan: Plan) -> List[Order]:

@@ -102,7 +102,7 @@ class Shell:
             yield from (f"    {it}" for it in HELP.values())
 
     def _list(self, rest: List[str]) -> Iterator[str]:
-        _check(not rest, "list stands alone")
+        _check(not rest, "list takes no words")
         return (f"{n:>3}  {line}" for n, line in enumerate(self._talk.setup, 1))
 
     def _change(self, rest: List[str]) -> Iterator[str]:
@@ -110,7 +110,7 @@ class Shell:
         place = self._place(rest[0])
         before = list(self._talk.setup)
         self._talk.change(before[:place])
-        answer = self._talk.say(" ".join(rest[1:])) if rest[1:] != ["start"] else "! start stands alone"
+        answer = self._talk.say(" ".join(rest[1:])) if rest[1:] != ["start"] else "! start takes no words"
         if answer == "ok" and len(self._talk.setup) == place + 1:
             self._talk.change([*self._talk.setup, *before[place + 1:]])
         else:
@@ -131,7 +131,7 @@ class Shell:
         return int(word) - 1
 
     def _why(self, rest: List[str]) -> Iterator[str]:
-        _check(not rest, "why stands alone")
+        _check(not rest, "why takes no words")
         _check(bool(self._talk.events), "no event has happened yet")
         event, configuration = self._talk.events[-1], self._talk.configuration
         cause = event_cause(event, configuration, self._talk.look)
@@ -145,7 +145,7 @@ class Shell:
         yield f"{len(lines)} lines in {rest[0]}"
 
     def _quit(self, rest: List[str]) -> Iterator[str]:
-        _check(not rest, "quit stands alone")
+        _check(not rest, "quit takes no words")
         self.is_done = True
         return iter(())
 

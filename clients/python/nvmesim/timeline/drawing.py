@@ -237,7 +237,7 @@ def event_texts(event: Event, is_short: bool = False) -> Tuple[str, str]:
         rule = f", rule {command.rule.value}" if command.is_denied else ""
         return line, f"{command_label(command)}: {told}{rule}"
     if isinstance(answer, Rung) and event.commands:
-        return line, f"tells of {tickets_words(event.commands)}"
+        return line, f"notifies of {tickets_words(event.commands)}"
     if isinstance(answer, Fetched) and command is not None:
         return line, f"takes {command_label(command)}"
     if event.line.is_request and command is not None:

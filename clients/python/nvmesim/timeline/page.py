@@ -19,7 +19,7 @@ MOST_INLINE = 1500
 _FIRST_PARTS = 4
 _MOST_DENIED = 200
 _STATES = {
-    "done": "carried out", "denied": "denied by a rule", "failed": "failed", "aborted": "aborted",
+    "done": "done", "denied": "denied by a rule", "failed": "failed", "aborted": "aborted",
     "waiting": "without an answer",
 }
 
@@ -121,7 +121,7 @@ def _list_of(picture: Picture) -> str:
 
 _LEGEND = """<ul class="legend" aria-label="Legend">
 <li><svg width="14" height="20"><g class="command done"><rect class="span" x="2" y="1" width="9" height="18" rx="4"/>
-</g></svg> carried out</li>
+</g></svg> done</li>
 <li><svg width="18" height="20"><g class="command denied"><rect class="span" x="4" y="1" width="9" height="16"/>
 <path class="stop" d="M1 17h15"/></g></svg> denied: square, striped, with a bar</li>
 <li><svg width="18" height="20"><path class="cross" d="M2 3l14 14M2 17l14 -14"/></svg> stopped by a rule</li>
