@@ -25,7 +25,7 @@ static void fail(const char *what) {
     exit(1);
 }
 
-/* Submits a command to queue 0 or 1 of controller 1, and has it executed: the status, or -1. */
+/* Submits a command to queue 0 or 1 of controller 1 and executes it; returns the status, or -1. */
 static int submit(uint16_t qid, uint8_t opcode, uint32_t nsid, uint64_t prp1, uint32_t dw10, uint32_t dw11) {
     uint8_t entry[64] = {opcode};
     memcpy(entry + 4, &nsid, 4);

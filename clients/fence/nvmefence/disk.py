@@ -63,7 +63,7 @@ class Disk:
         self._host = self._host_identifier()
 
     def _ask(self, command: Command) -> bytes:
-        """The data that a command gives. Raises `Failure` with the name of its status."""
+        """The data that a command returns. Raises `Failure` with the name of a failed status."""
         self._progress.asks(self.path, command.name)
         status, data = self._device.submit(command)
         if status != 0:

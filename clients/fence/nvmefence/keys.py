@@ -1,4 +1,4 @@
-"""The key of a node, made of names."""
+"""Keys of nodes, made from names."""
 from __future__ import annotations
 
 import hashlib

@@ -68,7 +68,7 @@ class SubsystemDevice:
 
 
 class Turns:
-    """Lets one of two threads continue at a time: who is next is chosen before each command."""
+    """Runs one of two threads at a time, and chooses the next one before each command."""
 
     def __init__(self, choices: random.Random) -> None:
         self._choices, self._changed, self._left = choices, threading.Condition(), [0, 1]

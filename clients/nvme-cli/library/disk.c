@@ -166,7 +166,7 @@ static int move_part(const struct lab_disk *disk, uint64_t at, uint8_t *bytes, s
     return command(disk, WRITE, at / BLOCK_BYTES, 1, block);
 }
 
-// As many bytes as can be moved; -1 where none can, and there are some.
+// The number of bytes that can be moved; -1 if there are some, but none can be moved.
 static ssize_t move(const struct lab_disk *disk, uint64_t at, uint8_t *bytes, size_t length, bool writes) {
     size_t done = 0;
     while (done < length) {

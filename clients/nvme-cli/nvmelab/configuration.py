@@ -20,7 +20,7 @@ Judge = Callable[[str], Optional[str]]
 
 @dataclass
 class Configuration:
-    """The lines that are handed to the subsystem, as many as CONFIG has, and what the lab has to know of them."""
+    """The lines for the subsystem, one for each of CONFIG, and what the lab needs to know of them."""
     handed: List[str] = field(default_factory=list)
     # The host of each controller, those controllers whose host has a driver, and the size of each namespace in blocks.
     hosts: Dict[int, int] = field(default_factory=dict)

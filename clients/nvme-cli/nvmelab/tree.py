@@ -95,7 +95,7 @@ def write_files(folder: Path, lines: Dict[str, object]) -> None:
 
 
 class View:
-    """The devices of one host, which are numbered from 0."""
+    """The devices of one host, numbered from 0."""
 
     def __init__(self, folder: Path, hosts: List[Host]) -> None:
         self.folder = folder

@@ -80,7 +80,7 @@ impl Proof {
     }
 }
 
-/// Whether a command is executed before the proof.
+/// Whether a command is executed before authentication.
 pub fn goes_before_proof(entry: &[u8; ENTRY]) -> bool {
     entry[0] == FABRICS && matches!(entry[4], AUTHENTICATION_SEND | AUTHENTICATION_RECEIVE | DISCONNECT)
 }

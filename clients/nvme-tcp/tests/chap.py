@@ -132,7 +132,7 @@ class Refused(Exception):
 
 
 class ChapQueue(Queue):
-    """A queue whose host proves who it is."""
+    """A queue whose host authenticates itself."""
 
     transaction = 0
 

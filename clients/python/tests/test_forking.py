@@ -52,7 +52,7 @@ def session_of(pid: int) -> Optional[int]:
 
 
 def begun_by(pid: int) -> Set[int]:
-    """The sessions that a process has begun for its programs."""
+    """The process sessions that a process has started for its programs."""
     found: Set[int] = set()
     for task in Path(f"/proc/{pid}/task").glob("*/children"):
         with contextlib.suppress(OSError):

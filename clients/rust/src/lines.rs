@@ -100,7 +100,7 @@ pub enum Answered {
     Wrote32,
     /// What came of a fetch.
     Fetched(Fetched),
-    /// What came of an execution.
+    /// The result of an execution.
     Executed(Executed),
     /// Power was lost, and came back.
     PowerCycled,

@@ -218,7 +218,7 @@ def _arrow(begin: float, end: float, y: float, kind: str) -> str:
 
 
 def is_denied(event: Event) -> bool:
-    """Whether an event reports about a command that a rule denied: its words are red and bold."""
+    """Whether an event is about a denied command: its words are red and bold."""
     return isinstance(event.answer, (Executed, Polled)) and any(it.is_denied for it in event.commands)
 
 
