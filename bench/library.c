@@ -80,7 +80,7 @@ static void up(int count) {
     }
 }
 
-/* Batches of a Read: of so many blocks, from this one on. `wanted` is its status code. */
+/* Batches of Reads of `blocks` blocks, from this one on. `wanted` is its status code. */
 static void batches(const char *what, uint32_t slba, uint32_t blocks, uint8_t wanted, int rounds) {
     uint64_t best[PHASES], all = 0;
     uint8_t bytes[64], completion[16];

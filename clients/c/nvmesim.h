@@ -1,21 +1,21 @@
 /* nvmesim: an NVMe subsystem that several hosts share, as a library.
  *
  * A program opens a subsystem (controllers, namespaces, blocks), stores commands in the memory of its hosts, writes
- * doorbells, and has the controllers fetch and execute. Each event is a call; docs/LIBRARY.md begins with an example,
+ * doorbells, and makes the controllers fetch and execute. Each event is a call; docs/LIBRARY.md begins with an example,
  * and says what is proved of a call, and what is not.
  *
- * What the caller has to keep, since nothing checks it:
+ * Callers must keep these rules, which nothing checks:
  *  - A struct nvmesim begins as NVMESIM_NONE. Only these calls write it from then on, and it is not copied while it is
  *    open.
- *  - One call at a time on one struct nvmesim. It may go from one thread to another, where a lock, or a thread's start
- *    or end, orders the calls. Two structs have nothing in common.
+ *  - One call at a time on one struct nvmesim. It may move between threads if a lock, or a thread's start or end,
+ *    orders the calls. Two structs share nothing.
  *  - No call from a signal handler, nor in the forked child of a process with threads.
- *  - No pointer is NULL, also not where the count beside it is 0. Each is aligned, and is for as many values as the
- *    count, or the call, says. What a call writes through a pointer overlaps nothing else that it is given. A bool is
- *    false or true.
- *  - Bytes that are lent (nvmesim_open_lent) are left alone until nvmesim_close, or until the opening is refused.
- *  - malloc, realloc and free are those of the C library, or as good.
- * All else that is wrong is an answer: a struct that is not open, an address outside the memory, any command.
+ *  - No pointer is NULL, even with a count of 0. Each is aligned, and valid for as many values as the count, or the
+ *    call, says. What a call writes through a pointer overlaps none of its other arguments. A bool is false or true.
+ *  - Borrowed bytes (nvmesim_open_lent) are left alone until nvmesim_close, or until the opening is refused.
+ *  - malloc, realloc and free work as specified.
+ *
+ * All other misuse has an answer: a struct that is not open, an address outside the memory, any command.
  */
 #ifndef NVMESIM_H
 #define NVMESIM_H
@@ -39,9 +39,9 @@ typedef struct nvmesim {
 
 #define NVMESIM_NONE { NULL, false }
 
-/* What a call answers: up to 9 what it gave, from 16 on why it did nothing. */
+/* Answers: results up to 9, and from 16 on reasons why nothing was done. */
 enum {
-    NVMESIM_OK = 0,             /* it was done, and there is no more to say */
+    NVMESIM_OK = 0,             /* done, without a result */
     NVMESIM_STORED = 1,         /* the bytes are stored */
     NVMESIM_WROTE = 2,          /* the register is written */
     NVMESIM_VALUE = 3,          /* the value of the register */
@@ -49,12 +49,12 @@ enum {
     NVMESIM_IDLE = 5,           /* there was no command to fetch */
     NVMESIM_POSTED = 6,         /* the command was executed, and its completion posted */
     NVMESIM_NO_SUCH = 7,        /* there is no such command */
-    NVMESIM_CQ_FULL = 8,        /* the completion queue has no room; the command waits */
+    NVMESIM_CQ_FULL = 8,        /* the completion queue is full; the command waits */
     NVMESIM_CYCLED = 9,         /* power was lost, and came back */
 
     NVMESIM_CLOSED = 16,        /* no subsystem is open */
     NVMESIM_NO_CONTROLLER = 17, /* there is no such controller */
-    NVMESIM_OUTSIDE = 18,       /* not all the bytes lie in the memory, or not all the blocks in such a namespace */
+    NVMESIM_OUTSIDE = 18,       /* some bytes are outside the memory, or some blocks outside the namespace */
     NVMESIM_NOT_WHOLE = 19,     /* the bytes are no whole number of blocks */
     NVMESIM_MEDIUM_FAULT = 20,  /* the medium failed */
     NVMESIM_BAD_VERSION = 21,   /* the caller's header is of another version */
@@ -66,12 +66,12 @@ enum {
     NVMESIM_NO_MEMORY = 27,     /* memory was refused */
     NVMESIM_NO_QUEUE = 28,      /* the controller has no such queue */
     NVMESIM_NOT_READY = 29,     /* the controller does not run: its CSTS (1Ch) is not 1 */
-    NVMESIM_BUSY = 30,          /* something waits at the queue already, or the controller has 64 commands */
+    NVMESIM_BUSY = 30,          /* the queue is not idle, or the controller has 64 commands */
     NVMESIM_NO_NAMESPACE = 31,  /* there is no such namespace */
     NVMESIM_NO_REGISTRANT = 32, /* there is no such registrant */
-    NVMESIM_NO_ROOM = 33,       /* the text has more bytes than the buffer, or the array too few places */
+    NVMESIM_NO_ROOM = 33,       /* the buffer is too short for the text, or the array for the values */
     NVMESIM_NO_LINE = 34,       /* there is no such line, or it does not begin with `?` */
-    NVMESIM_BAD_LINE = 35,      /* a line of the text is outside the grammar, or may not stand where it does */
+    NVMESIM_BAD_LINE = 35,      /* a line is no line of a script, or is not allowed at its place */
     NVMESIM_HAS_EVENT = 36,     /* a line of the text is an event, and a configuration has none */
     NVMESIM_EMPTY = 37,         /* the configuration has no controller */
     NVMESIM_TOO_LONG = 38       /* the text has more than 4,194,304 bytes */
@@ -87,21 +87,21 @@ enum {
     NVMESIM_EVENT_POWER_CYCLE = 6 /* nvmesim_power_cycle */
 };
 
-/* What an event gave. What does not come with an answer is 0. */
+/* The result of an event. Fields that do not belong to the answer are 0. */
 typedef struct nvmesim_answer {
     uint32_t value; /* the register's value, or double word 0 of the completion queue entry */
     uint32_t what;  /* one of the numbers above */
     uint8_t sct;    /* NVMESIM_POSTED: the Status Code Type */
     uint8_t sc;     /* and the Status Code */
-    uint8_t rule;   /* the number of the rule that denied the command, or 0 where it was allowed */
+    uint8_t rule;   /* the number of the rule that denied the command, or 0 if it was allowed */
 } nvmesim_answer;
 
-/* A controller. Its identifier is k where it is the k-th of a configuration, from 1; the host identifier is not 0. */
+/* A controller. The k-th of a configuration, from 1, has the identifier k; the host identifier is not 0. */
 typedef struct nvmesim_controller {
     uint64_t host_low;  /* the host identifier, its lower 64 bits */
     uint64_t host_high; /* and its higher ones */
     uint16_t cntlid;
-    bool raw;           /* whether its line says `raw`; opening does not ask: each host is raw here */
+    bool raw;           /* whether its line says `raw`; opening ignores it: each host is raw here */
 } nvmesim_controller;
 
 /* A namespace. */
@@ -117,20 +117,20 @@ typedef struct nvmesim_attached {
     uint16_t cntlid;
 } nvmesim_attached;
 
-/* Bytes that are lent. */
+/* Borrowed bytes. */
 typedef struct nvmesim_bytes {
     uint8_t *at;
     size_t count;
 } nvmesim_bytes;
 
-/* A queue, as its controller has it. What does not come with an answer is 0, here and below. */
+/* A queue, as its controller has it. Fields that do not belong to the answer are 0, here and below. */
 typedef struct nvmesim_queue {
     uint64_t base; /* its address in the memory of the host */
     uint32_t what; /* NVMESIM_OK, or why there is none */
     uint16_t size; /* how many entries it has */
     uint16_t head; /* the slot of the next command to fetch, or of the first completion that is not consumed */
-    uint16_t tail; /* the slot behind the last command, or that of the next completion */
-    uint16_t cqid; /* the completion queue: itself, or where the completions of a submission queue go */
+    uint16_t tail; /* the slot after the last command, or that of the next completion */
+    uint16_t cqid; /* the completion queue: itself, or that of a submission queue's completions */
     bool phase;    /* of a completion queue, the phase tag of the next completion */
 } nvmesim_queue;
 
@@ -139,7 +139,7 @@ typedef struct nvmesim_command {
     size_t count;      /* how many there are, whether this is one or not */
     uint32_t what;     /* NVMESIM_OK, or why there is none */
     uint16_t qid;      /* its submission queue */
-    bool marked;       /* whether a Preempt and Abort has caught it: it will be aborted */
+    bool marked;       /* whether a Preempt and Abort has marked it: it will be aborted */
     uint8_t entry[64]; /* its submission queue entry */
 } nvmesim_command;
 
@@ -162,13 +162,13 @@ typedef struct nvmesim_needed {
 
 /* The reservation of a namespace. */
 typedef struct nvmesim_hold {
-    uint64_t host_low;   /* the one host that holds it, its lower 64 bits: 0 where none does, */
-    uint64_t host_high;  /* and under types 5 and 6, where every registrant holds it */
+    uint64_t host_low;   /* the one host that holds it, its lower 64 bits: 0 if none does, */
+    uint64_t host_high;  /* and under types 5 and 6, since every registrant holds it */
     size_t registrants;  /* how many hosts are registered */
     uint32_t what;       /* NVMESIM_OK, or why there is none */
     uint32_t generation; /* the generation counter, PRgeneration */
     uint32_t protection; /* the write protection of the namespace: 0 none, 1 protected, 2 that until a power cycle */
-    uint8_t rtype;       /* the reservation type, 1 to 6, or 0 where none holds it */
+    uint8_t rtype;       /* the reservation type, 1 to 6, or 0 if none holds it */
     bool ptpl;           /* whether all this persists through power loss */
 } nvmesim_hold;
 
@@ -180,7 +180,7 @@ typedef struct nvmesim_registered {
     uint32_t what; /* NVMESIM_OK, or why there is none */
 } nvmesim_registered;
 
-/* An event of a script. What its kind does not have is not looked at. */
+/* An event of a script. Fields that its kind does not have are ignored. */
 typedef struct nvmesim_event {
     uint64_t at;     /* the address of a store, the offset of a register, or the place of the command to execute */
     uint32_t kind;   /* one of NVMESIM_EVENT_STORE .. */
@@ -189,52 +189,52 @@ typedef struct nvmesim_event {
     uint16_t qid;    /* the queue that is fetched from */
 } nvmesim_event;
 
-/* What came of putting a text into a buffer. Where it is not NVMESIM_OK, the buffer is as it was. */
+/* The result of writing a text to a buffer. If it is not NVMESIM_OK, the buffer is unchanged. */
 typedef struct nvmesim_written {
-    size_t length; /* how many bytes the text has, which the buffer begins with; 0 where it is not there */
+    size_t length; /* the length of the text at the front of the buffer; 0 if there is none */
     uint32_t what; /* NVMESIM_OK, or why it is not */
 } nvmesim_written;
 
-/* What came of reading a configuration. */
+/* The result of parsing a configuration. */
 typedef struct nvmesim_read {
-    size_t controllers; /* how many it has, which their array begins with; 0 where it is refused, here and below */
+    size_t controllers; /* how many are at the front of their array; 0 if it is refused, here and below */
     size_t namespaces;
     size_t attached;
-    size_t line;   /* the number of the line that is at fault, from 1; 0 where none is */
-    size_t column; /* where in that line, in bytes from 1; 0 where none is */
-    size_t length; /* how many bytes the reason has, which its buffer begins with; 0 where it is not there */
+    size_t line;   /* the number of the line at fault, from 1; 0 if none is */
+    size_t column; /* the column in that line, in bytes from 1; 0 if there is none */
+    size_t length; /* the length of the reason at the front of its buffer; 0 if there is none */
     uint32_t what; /* NVMESIM_OK, or why it is refused */
 } nvmesim_read;
 
 /* The version of the library. */
 uint32_t nvmesim_version(void);
 
-/* Opens a subsystem over a copy of these bytes: as many blocks as 512 goes into them. The namespaces lie on them one
- * after the other, in the order of their array. NVMESIM_OK; or BAD_VERSION, ALREADY_OPEN, the first fault of the
- * configuration, or NO_MEMORY, and then nothing has changed. */
+/* Opens a subsystem over a copy of the whole blocks of these bytes. The namespaces occupy them one after the other, in
+ * the order of their array. NVMESIM_OK; or BAD_VERSION, ALREADY_OPEN, the first fault of the configuration, or
+ * NO_MEMORY, and then nothing has changed. */
 uint32_t nvmesim_open(nvmesim *sim, uint32_t version, const nvmesim_controller *controllers, size_t controller_count,
                       const nvmesim_namespace *namespaces, size_t namespace_count, const nvmesim_attached *attached,
                       size_t attached_count, const uint8_t *bytes, size_t byte_count);
 
-/* The same over the bytes themselves, without a copy: they are lent until nvmesim_close, and what a command writes is in
- * them when its nvmesim_execute returns. Where this answers other than NVMESIM_OK, they are as they were, and yours
- * again. A Flush calls nothing, since memory has nothing to flush: where the bytes are those of a file (mmap), sync it
- * when a Flush was executed (opcode 00h on an I/O queue), before the completion is handed on. */
+/* The same over the bytes themselves, without a copy: they are borrowed until nvmesim_close, and what a command
+ * writes is in them when its nvmesim_execute returns. Unless this answers NVMESIM_OK, they are unchanged, and yours
+ * again. A Flush calls nothing, since memory has nothing to flush: if the bytes are a file's (mmap), sync it when a
+ * Flush was executed (opcode 00h on an I/O queue), before you return the completion. */
 uint32_t nvmesim_open_lent(nvmesim *sim, uint32_t version, const nvmesim_controller *controllers,
                            size_t controller_count, const nvmesim_namespace *namespaces, size_t namespace_count,
                            const nvmesim_attached *attached, size_t attached_count, nvmesim_bytes bytes);
 
-/* Closes it, if it is open, and gives its memory back. Bytes that were lent are yours again, as the commands left them. */
+/* Closes it, if it is open, and frees its memory. Borrowed bytes are yours again, as the commands left them. */
 void nvmesim_close(nvmesim *sim);
 
 /* The host of a controller stores bytes in its memory, which has 4 MiB: STORED, or OUTSIDE, NO_CONTROLLER, CLOSED. */
 nvmesim_answer nvmesim_store(nvmesim *sim, uint16_t cntlid, uint64_t address, const uint8_t *bytes, size_t count);
 
 /* It writes a register of its controller, such as CC (14h) or a doorbell (1000h on): WROTE, or NO_CONTROLLER, CLOSED.
- * What no register has at this offset changes nothing. */
+ * A write at an offset without a register changes nothing. */
 nvmesim_answer nvmesim_write32(nvmesim *sim, uint16_t cntlid, uint64_t offset, uint32_t value);
 
-/* It reads a register: VALUE, with the value, which is 0 where there is no register; or NO_CONTROLLER, CLOSED. */
+/* It reads a register: VALUE, with the value, which is 0 if there is no register; or NO_CONTROLLER, CLOSED. */
 nvmesim_answer nvmesim_read32(nvmesim *sim, uint16_t cntlid, uint64_t offset);
 
 /* A controller fetches the next command of a submission queue: TOOK, or IDLE; or NO_CONTROLLER, CLOSED. */
@@ -244,12 +244,12 @@ nvmesim_answer nvmesim_fetch(nvmesim *sim, uint16_t cntlid, uint16_t qid);
  * CQ_FULL; or NO_CONTROLLER, CLOSED. */
 nvmesim_answer nvmesim_execute(nvmesim *sim, uint16_t cntlid, size_t i);
 
-/* One command from its entry (64 bytes) to its completion queue entry (16 bytes), for a host that wants no order of its
- * own: store at the tail of the submission queue, as the doorbell last had it, tail doorbell, fetch, execute, load of
- * the completion, head doorbell. These are the events, and no other comes between. POSTED, with the status, and the
- * completion is that of this very command; or NOT_READY, NO_QUEUE, NO_CONTROLLER, CLOSED, or BUSY where a command waits
- * at the queue, a completion at its completion queue, or the controller has 64 commands; then nothing has happened, and
- * the completion is not written. */
+/* One command from its entry (64 bytes) to its completion queue entry (16 bytes), if the order of events does not
+ * matter: store at the tail of the submission queue, as the doorbell last had it, tail doorbell, fetch, execute,
+ * load of the completion, head doorbell. These are the events, with no other in between. POSTED, with the status,
+ * and the completion is that of this very command; or NOT_READY, NO_QUEUE, NO_CONTROLLER, CLOSED, or BUSY if a
+ * command waits at the queue, a completion at its completion queue, or the controller has 64 commands; then nothing
+ * has happened, and the completion is not written. */
 nvmesim_answer nvmesim_submit(nvmesim *sim, uint16_t cntlid, uint16_t qid, const uint8_t *entry, uint8_t *completion);
 
 /* Power is lost in all of the subsystem, and comes back: CYCLED, or CLOSED. */
@@ -258,11 +258,11 @@ nvmesim_answer nvmesim_power_cycle(nvmesim *sim);
 /* Loads bytes of the memory of a controller's host: OK; or OUTSIDE, NO_CONTROLLER, CLOSED, and nothing is written. */
 uint32_t nvmesim_load(nvmesim *sim, uint16_t cntlid, uint64_t address, uint8_t *bytes, size_t count);
 
-/* Reads blocks of a namespace as the medium has them. No host reads here, so no reservation is asked. OK; or OUTSIDE,
+/* Reads blocks of a namespace as the medium has them. No host reads here, so no reservation applies. OK; or OUTSIDE,
  * NOT_WHOLE, CLOSED, and nothing is written; or MEDIUM_FAULT. */
 uint32_t nvmesim_read_blocks(nvmesim *sim, uint32_t nsid, uint64_t slba, uint8_t *bytes, size_t count);
 
-/* What follows looks, and changes nothing. */
+/* The calls below are queries, and change nothing. */
 
 /* A submission and a completion queue of a controller, 0 to 4: OK, NO_QUEUE, NO_CONTROLLER, CLOSED. */
 nvmesim_queue nvmesim_submission_queue(nvmesim *sim, uint16_t cntlid, uint16_t qid);
@@ -294,51 +294,50 @@ nvmesim_hold nvmesim_reservation(nvmesim *sim, uint32_t nsid);
 nvmesim_registered nvmesim_registrant(nvmesim *sim, uint32_t nsid, size_t i);
 
 /* The standard's name of a status, as "Reservation Conflict" for 0 and 83h, or "Unlisted" for one that no command
- * answers: as many of its bytes as the buffer takes, and zeros behind them. The result is the length of the name: no
- * name has more than 47 bytes. */
+ * answers: as many of its bytes as fit into the buffer, then zeros. The result is the length of the name, at most
+ * 47. */
 size_t nvmesim_status_name(uint8_t sct, uint8_t sc, uint8_t *bytes, size_t count);
 
-/* What follows is text: configurations, scripts, transcripts and sessions, as the programs read and write them. No text
- * ends with a 00h, and each line that is put into a buffer ends with a line feed. */
+/* The calls below are about texts: configurations, scripts, transcripts and sessions, as the programs read and write
+ * them. Texts are not NUL-terminated, and each line that is written to a buffer ends with a line feed. */
 
-/* Reads a configuration, the lines of a script before its `start`, and judges it for a medium of so many blocks. `start`
- * may be missing, and nothing but blank lines and comments may follow it. Arrays of 16, 8 and 128 places have room for
+/* Parses a configuration, the lines of a script before its `start`, and checks it for a medium of medium_blocks blocks.
+ * `start` may be missing, and only blank lines and comments may follow it. Arrays of 16, 8 and 128 values suffice for
  * each configuration that is accepted, and 512 bytes for most reasons.
  *
  * NVMESIM_OK, and the arrays begin with what nvmesim_open takes. Or, in this order: TOO_LONG; BAD_LINE, of the first
- * line that is no line of a script or may not stand where it does; TOO_MANY, BAD_ID, BAD_SIZE, DOES_NOT_FIT, of the
- * first line that breaks the rule; HAS_EVENT, of the first event; EMPTY; or NO_ROOM where an array has too few places.
- * NO_MEMORY may come in place of each. The arrays are then as they were, and the reason is put into its buffer where
- * that has room: what the programs print behind the name of the file and a colon, such as
- * "3:9: word 2: C, a number below 2^16, and not 'a'". */
+ * line that is no line of a script or is not allowed at its place; TOO_MANY, BAD_ID, BAD_SIZE, DOES_NOT_FIT, of the
+ * first line that breaks the rule; HAS_EVENT, of the first event; EMPTY; or NO_ROOM if an array is too short. NO_MEMORY
+ * may come instead of each. The arrays are then unchanged, and the reason is written to its buffer if it fits: what the
+ * programs print after the name of the file and a colon, such as "3:9: word 2: C, a number below 2^16, and not 'a'". */
 nvmesim_read nvmesim_read_configuration(const uint8_t *text, size_t text_count, uint64_t medium_blocks,
                                         nvmesim_controller *controllers, size_t controller_count,
                                         nvmesim_namespace *namespaces, size_t namespace_count,
                                         nvmesim_attached *attached, size_t attached_count, uint8_t *reason,
                                         size_t reason_count);
 
-/* The lines that describe a configuration, each with its line feed, without `start`: OK, or NO_ROOM, NO_MEMORY. Read,
- * they give the same. No configuration that is accepted has more than 8,192 bytes. */
+/* The lines that describe a configuration, each with its line feed, without `start`: OK, or NO_ROOM, NO_MEMORY.
+ * Parsed again, they give the same. No configuration that is accepted has more than 8,192 bytes. */
 nvmesim_written nvmesim_configuration_lines(const nvmesim_controller *controllers, size_t controller_count,
                                             const nvmesim_namespace *namespaces, size_t namespace_count,
                                             const nvmesim_attached *attached, size_t attached_count, uint8_t *lines,
                                             size_t line_count);
 
-/* The line of a script that says an event, with its line feed; the bytes are those of a store: OK, or NO_ROOM, or NO_LINE
- * where no line says it: READ32, a store of no bytes, a place above 65,535, another kind. A line has at most 64 bytes and
- * two for each byte that is stored. */
+/* The script line of an event, with its line feed; the bytes are those of a store: OK, or NO_ROOM, or NO_LINE if no
+ * line expresses it: READ32, a store of no bytes, a place above 65,535, another kind. A line has at most 64 bytes
+ * and two for each byte that is stored. */
 nvmesim_written nvmesim_event_line(const nvmesim_event *event, const uint8_t *bytes, size_t count, uint8_t *line,
                                    size_t line_count);
 
-/* The line of a transcript that tells what an event gave, with its line feed: OK, or NO_ROOM, or NO_LINE where no line
- * says the event, or the event never gives this answer. A line has at most 64 bytes. */
+/* The transcript line of an event's result, with its line feed: OK, or NO_ROOM, or NO_LINE if no line expresses the
+ * event, or the event never has this answer. A line has at most 64 bytes. */
 nvmesim_written nvmesim_answer_line(const nvmesim_event *event, const nvmesim_answer *answer, uint8_t *line,
                                     size_t line_count);
 
-/* Answers a line that looks, without its line feed, such as "?queues 1", with the very line of a session of `nvmelive`
- * over the same subsystem, and its line feed; no host has a driver here. A refusal is an answer as well:
- * "! line 3 word 2: there is no such controller", where `number` is 3. OK; or NO_LINE where the line does not begin with
- * `?`, NO_ROOM, NO_MEMORY, CLOSED. A buffer of 262,240 bytes has room for every answer. */
+/* Answers a query line without its line feed, such as "?queues 1", as a session of `nvmelive` over the same subsystem
+ * does, with a line feed; no host has a driver here. A refusal is an answer too: "! line 3 word 2: there is no such
+ * controller" if `number` is 3. OK; or NO_LINE if the line does not begin with `?`, NO_ROOM, NO_MEMORY, CLOSED. Every
+ * answer fits into 262,240 bytes. */
 nvmesim_written nvmesim_look(nvmesim *sim, uint64_t number, const uint8_t *line, size_t count, uint8_t *answer,
                              size_t answer_count);
 

@@ -1,1 +1,1 @@
-"""What the scripts share: proofs that are kept, and wrong bodies that are tried over them."""
+"""What the scripts share: proofs that are kept, and mutants that are tried over them."""

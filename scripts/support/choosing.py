@@ -1,4 +1,4 @@
-"""Which wrong bodies there are, and which of them have to be tried."""
+"""The mutants, and which of them have to be tried."""
 import hashlib
 from dataclasses import dataclass, field
 
@@ -7,7 +7,7 @@ from support import edits, record
 
 @dataclass
 class Book:
-    """The wrong bodies of the crates, with what the records say of them, and what is bad about either."""
+    """The mutants of the crates, with what the records say of them, and what is bad about either."""
     crates: dict
     edits: dict = field(default_factory=dict)
     lines: dict = field(default_factory=dict)
@@ -23,10 +23,10 @@ class Book:
 
 
 def read_book(rt, root, crates, logic):
-    """Reads every wrong body and every record."""
+    """Reads every mutant and every record."""
     book, digests = Book(crates), record.Digests(logic)
     for folder in edits.orphans(root, crates.values()):
-        book.faults.append(f"{folder.relative_to(root)}: nobody tries these, since no crate stands there")
+        book.faults.append(f"{folder.relative_to(root)}: nobody tries these, since no crate is there")
     for name, crate in crates.items():
         book.edits[name], book.lines[name] = [], {}
         try:
@@ -47,12 +47,12 @@ def read_book(rt, root, crates, logic):
 
 
 def lacking(book):
-    """The wrong bodies for which no record speaks."""
+    """The mutants for which no record speaks."""
     return {name: [it for it in found if not book.is_recorded(it)] for name, found in book.edits.items()}
 
 
 def of_gate(book, commit):
-    """What the merge gate tries beside `rt ci`, which tries must-fail itself: what the records lack; and of the rest a
+    """What the merge gate tries besides `rt ci`, which tries must-fail itself: what the records lack; and of the rest a
     tenth, whole crates that the commit chooses, so that a record which is not true is found out after a few."""
     beside = {name: [it for it in found if it.file.parent.name != "must-fail"] for name, found in book.edits.items()}
     chosen = {name: [it for it in found if not book.is_recorded(it)] for name, found in beside.items()}

@@ -9,12 +9,12 @@ from support import choosing, edits, proving, record, toolchain, trial
 from support.proving import say
 
 MOST = 60
-USAGE = """Tries wrong bodies, over kept work where there is some: the prover must refuse each.
+USAGE = """Tries mutants, over earlier results if there are any: the prover must refuse each.
 
-A wrong body is a file NAME.edit in crates/CRATE/must-fail or crates/CRATE/wrong-bodies. Without names, it tries those
+A mutant is a file NAME.edit in crates/CRATE/must-fail or crates/CRATE/wrong-bodies. Without names, it tries those
 that crates/CRATE/wrong-bodies.record does not show as refused with their present text; with --all, or with names of
-crates, all of them. It writes to the records what was refused. The last line is `N passed, M failed`; the status is 1 where one
-failed, and 2 where nothing could be tried."""
+crates, all of them. It writes to the records what was refused. The last line is `N passed, M failed`; the
+status is 1 if one failed, and 2 if nothing could be tried."""
 
 
 def words_of(given):
@@ -22,7 +22,7 @@ def words_of(given):
     parser = argparse.ArgumentParser(prog="scripts/wrong-bodies", description=USAGE,
                                      formatter_class=argparse.RawDescriptionHelpFormatter)
     parser.add_argument("names", nargs="*", metavar="NAME", help="a crate")
-    parser.add_argument("--all", action="store_true", help="all wrong bodies of all crates")
+    parser.add_argument("--all", action="store_true", help="all mutants of all crates")
     parser.add_argument("--lacking", action="store_true", help="of the named crates, only what their records lack")
     parser.add_argument("--jobs", type=int, default=0, metavar="N", help="run N checks side by side; without it one a core")
     parser.add_argument("--gate", metavar="COMMIT", help="for the merge gate: those of wrong-bodies/ that the records "
@@ -73,7 +73,7 @@ class Run:
                 self.keep_record(name)
 
     def try_part(self, name, checks):
-        """Tries wrong bodies of a crate, one check after the other over the same folder."""
+        """Tries mutants of a crate, one check after the other over the same folder."""
         bench = trial.Bench(self.rt, self.book.crates[name])
         for batch in checks:
             try:
@@ -86,7 +86,7 @@ class Run:
         self.close(bench)
 
     def results_of(self, bench, batch):
-        """What comes of wrong bodies that share a check, or of one that is no function's."""
+        """What comes of mutants that share a check, or of one that is no function's."""
         if batch[0].function:
             return bench.try_batch(batch)
         line = self.book.lines[batch[0].crate].get(batch[0].name)
@@ -94,7 +94,7 @@ class Run:
 
 
 def chosen_of(words, book):
-    """The wrong bodies that this run tries, by crate."""
+    """The mutants that this run tries, by crate."""
     if words.gate:
         return choosing.of_gate(book, words.gate)
     named = {name for name in book.edits if not words.names or name in words.names}
@@ -103,8 +103,8 @@ def chosen_of(words, book):
 
 
 def build_below(rt, crates, jobs):
-    """Has the libraries built that the crates stand on, where `rt ci` has not just built them. Of the crates themselves
-    each check proves what it needs, where nothing is kept of them."""
+    """Has the libraries built that the crates depend on, where `rt ci` has not just built them. Of the crates
+    themselves each check proves what it needs, where nothing is kept of them."""
     below = [it for it in proving.cone_of(crates) if any(it in other.below() for other in crates)]
     if all(map(proving.is_left_by_ci, below)):
         return True
@@ -113,7 +113,7 @@ def build_below(rt, crates, jobs):
 
 
 def parts_of(found, count):
-    """A crate's wrong bodies in so many parts, or fewer: each the checks that one worker makes, one after the other."""
+    """A crate's mutants in at most `count` parts: each the checks that one worker makes, one after the other."""
     batches, alone = edits.batches_of(found, min(MOST, -(-len(found) // count)))
     checks = [*batches, *([it] for it in alone)]
     return [checks[at::count] for at in range(min(count, len(checks)))]
@@ -136,12 +136,12 @@ def try_all(run, chosen, jobs):
 
 
 def end(run, book, count):
-    """The last lines: what each crate's wrong bodies took, what is wrong, and how many passed."""
+    """The last lines: what each crate's mutants took, what is wrong, and how many passed."""
     for name, seconds in run.spent.items():
         tried = sum(it.edit.crate == name for it in run.results)
-        say(f"{name}: {tried} wrong bodies, {seconds:.0f} processor seconds, {seconds / max(tried, 1):.1f} each")
+        say(f"{name}: {tried} mutants, {seconds:.0f} processor seconds, {seconds / max(tried, 1):.1f} each")
     for name in sorted(run.unsound):
-        say(f"{name}: as it stands it is not proved over the kept work: remove crates/{name}/out, and try again")
+        say(f"{name}: it is not proved over the earlier results: remove crates/{name}/out, and try again")
     for fault in book.faults:
         say(f"FAILED {fault}")
     passed = sum(it.is_refused and it.edit.crate not in run.unsound for it in run.results)
@@ -166,7 +166,7 @@ def main(root, given):
     book = choosing.read_book(rt, root, crates, toolchain.logic())
     chosen = {name: found for name, found in chosen_of(words, book).items() if found}
     count = sum(map(len, chosen.values()))
-    say(f"{count} of {book.tally()} wrong bodies are tried, of {len(chosen)} crates: {' '.join(chosen)}")
+    say(f"{count} of {book.tally()} mutants are tried, of {len(chosen)} crates: {' '.join(chosen)}")
     run = Run(rt, book, not words.gate)
     if count and build_below(rt, [crates[it] for it in chosen], words.jobs):
         try_all(run, chosen, words.jobs)

@@ -1,4 +1,4 @@
-"""Wrong bodies as their files have them, and which function each changes."""
+"""Mutants as their files have them, and which function each changes."""
 import re
 from dataclasses import dataclass
 from pathlib import Path
@@ -10,7 +10,7 @@ FOLDERS = ("must-fail", "wrong-bodies")
 
 
 class BadEdit(Exception):
-    """A wrong body that can't be tried."""
+    """A mutant that can't be tried."""
 
 
 @dataclass(frozen=True)
@@ -22,8 +22,8 @@ class Change:
 
 @dataclass(frozen=True)
 class Edit:
-    """A wrong body: its crate, its file, and what it changes; the function, where it changes the body of one alone,
-    with the text of that body and of its changes, and whether a copy of the function can stand beside it."""
+    """A mutant: its crate, its file, and what it changes; the function, where it changes the body of one alone,
+    with the text of that body and of its changes, and whether a copy of the function can be added."""
     crate: str
     file: Path
     text: str
@@ -56,19 +56,19 @@ def changes_of(text):
 
 
 def says_the_same(change):
-    """Whether a change is of spaces alone, as where a text that stands twice is made one that stands once."""
+    """Whether a change is of spaces alone, as where a text that is twice is made one that is once."""
     return '"' not in change.old and re.findall(r"\w+|\S", change.old) == re.findall(r"\w+|\S", change.new)
 
 
 def is_within(function, line, change):
-    """Whether a change of this line is one of the function's body, which can begin behind the brace of its head."""
+    """Whether a change of this line is one of the function's body, which can begin after the brace of its head."""
     begins = change.old.endswith("{") and change.new.startswith(change.old)
     return function.body < line < function.last or begins and line == function.body < function.last
 
 
 def changed_function(folder, changes):
-    """The file and the one function whose body the changes are in, or none. What changes spaces alone may stand
-    anywhere: a check has the wrong body without it."""
+    """The file and the one function whose body the changes are in, or none. What changes spaces alone may be
+    anywhere: a check has the mutant without it."""
     found, texts = set(), {}
     for it in changes:
         if not it.path.startswith("src/"):
@@ -87,7 +87,7 @@ def changed_function(folder, changes):
 
 
 def read_edit(rt, crate, file):
-    """Reads a wrong body, and finds where it belongs."""
+    """Reads a mutant, and finds where it belongs."""
     folder = Path(crate.folder)
     why = rt.read_edit(str(file), crate.folder)[1]
     if why:
@@ -103,30 +103,30 @@ def read_edit(rt, crate, file):
 
 
 def files_of(crate, folders=FOLDERS):
-    """The files of a crate's wrong bodies; a file that is none, or a name that two of them have, is a fault."""
+    """The files of a crate's mutants; a file that is none, or a name that two of them have, is a fault."""
     found = {}
     for folder in folders:
         for file in sorted(Path(crate.folder, folder).rglob("*")):
             if file.suffix == ".md":
                 continue
             if not re.fullmatch(r"[A-Za-z0-9_-][A-Za-z0-9_.-]*\.edit", file.name) or file.parent.name != folder:
-                raise BadEdit(f"{crate.name}: {folder}/{file.name} is no wrong body, which is a file NAME.edit")
+                raise BadEdit(f"{crate.name}: {folder}/{file.name} is no mutant, which is a file NAME.edit")
             if file.name in found:
-                raise BadEdit(f"{crate.name}/{file.name} stands in two folders")
+                raise BadEdit(f"{crate.name}/{file.name} is in two folders")
             found[file.name] = file
     return list(found.values())
 
 
 def orphans(root, crates):
-    """The folders of wrong bodies that stand in no crate, so that nobody tries them."""
+    """The folders of mutants that are in no crate, so that nobody tries them."""
     found = [it for folder in FOLDERS for it in root.glob(f"**/{folder}") if it.is_dir()]
     homes = {Path(it.folder) for it in crates}
     return [it for it in found if it.parent not in homes and "out" not in it.relative_to(root).parts]
 
 
 def are_apart(one, other):
-    """Whether two wrong bodies can share a check: as copies; or in the place of their functions, where these are two
-    and neither of them names the other. A copy stands beside none that is in its function's place, since what calls
+    """Whether two mutants can share a check: as copies; or instead of their functions, where these are two
+    and neither of them names the other. No copy is added if its function is replaced, since what calls
     that function, by whatever way, is not proved there."""
     def names(edit, function):
         return edit.function.name == function.name or re.search(rf"\b{function.word}\b", edit.body)
@@ -137,7 +137,7 @@ def are_apart(one, other):
 
 
 def batches_of(edits, most):
-    """The wrong bodies of one crate in as few checks as may be, those of one function beside one another, since each
+    """The mutants of one crate in as few checks as may be, those of one function together, since each
     check proves the functions too that its copies are of; and those that are no function's, each of which needs a check
     of its own."""
     batches = []

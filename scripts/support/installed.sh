@@ -1,4 +1,4 @@
-# How nvmesim and nvmelive find their programs where they are installed: beside these lines, in a file of their name.
+# How nvmesim and nvmelive find their programs where they are installed: next to this file, in a file of their name.
 # Who takes these lines in has set `name` and `support`, and has `give_up` and `bad_words`.
 
 readonly help_on_builds=()

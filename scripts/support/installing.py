@@ -70,7 +70,7 @@ def copy(path: Path, place: Path) -> None:
 
 
 def copy_tree(folder: Path, place: Path, *without: str) -> None:
-    """Copies the files of a folder, but for those of some names and what is made when they run."""
+    """Copies the files of a folder, except for those of some names and what is made when they run."""
     passed = {"__pycache__", "out", *without}
     for path in sorted(folder.rglob("*")):
         if path.is_file() and not passed & set(path.relative_to(folder).parts):
@@ -78,7 +78,7 @@ def copy_tree(folder: Path, place: Path, *without: str) -> None:
 
 
 def wrapper_of(top: Path, name: str) -> str:
-    """The script that stands before a program, where it is installed."""
+    """The script that is before a program, where it is installed."""
     text = (top / name).read_text(encoding="utf-8")
     for here, there in MOVED:
         if text.count(here) != 1:
@@ -88,7 +88,7 @@ def wrapper_of(top: Path, name: str) -> str:
 
 
 def put_programs(top: Path, stage: Path) -> None:
-    """The programs, behind scripts that judge their words, and the lab."""
+    """The programs, after scripts that judge their words, and the lab."""
     for name in PROGRAMS:
         copy(Path(asked(top, name, "--where")), stage / LIBRARY / name)
         put(wrapper_of(top, name), stage / "bin" / name, 0o755)
@@ -137,7 +137,7 @@ def fields_of(top: Path) -> Dict[str, str]:
     digest = asked(top, "scripts/build", "digest")
     gate, proved = record_of(Store(top).gate(digest)), record_of(Store(top).proved(digest) / "record")
     commit = subprocess.run(["git", "-C", str(top), "rev-parse", "HEAD"], capture_output=True, text=True).stdout.strip()
-    passed = f"passed at {gate['passed']}, commit {gate['commit']}, changes beside it: {gate['changes']}" if gate else "no"
+    passed = f"passed at {gate['passed']}, commit {gate['commit']}, uncommitted changes: {gate['changes']}" if gate else "no"
     return {"nvmesim": version_of(top), "platform": "x86_64-linux", "commit": commit or "none", "sources": digest,
             "proved": proved.get("proved", "no"), "gate": passed, "toolchain": proved.get("toolchain", "unknown")}
 
@@ -178,7 +178,7 @@ def commands_of(prefix: Path) -> List[str]:
 
 
 def install(top: Path, prefix: Path) -> None:
-    """Installs under a prefix, in the place of what was installed there before."""
+    """Installs under a prefix, instead of what was installed there before."""
     with tempfile.TemporaryDirectory() as room:
         fill(top, Path(room))
         if (prefix / MANIFEST).is_file():

@@ -1,7 +1,7 @@
-"""Puts wrong bodies into the text of one check: each in the place of its function, or beside it as a copy.
+"""Puts mutants into the text of one check: each instead of its function, or next to it as a copy.
 
-A copy has the contract, the attributes and the proofs of its function, and a name of its own. So wrong bodies of one
-function, and of functions that call one another, share a check, in which the functions as they stand are proved too.
+A copy has the contract, the attributes and the proofs of its function, and a name of its own. So mutants of one
+function, and of functions that call one another, share a check, in which the functions as they are are proved too.
 """
 import re
 from dataclasses import dataclass
@@ -12,7 +12,7 @@ from support.source import HEAD, Function
 
 @dataclass(frozen=True)
 class Placed:
-    """A wrong body as a check has it: under which name, in which lines, and the function whose proof must stand, where
+    """A mutant as a check has it: under which name, in which lines, and the function whose proof must be, where
     it is a copy of one."""
     edit: object
     function: Function
@@ -34,14 +34,14 @@ def proofs_of(folder, name):
 
 
 def stands_beside(folder, text, function):
-    """Whether a copy of the function can stand beside it: a trait has no other names, a cycle of calls no other
+    """Whether a copy of the function can be added: a trait has no other names, a cycle of calls no other
     members, and proofs are copied where they are those of one function for certain."""
     head = "\n".join(text.split("\n")[function.first:function.body])
     return not function.is_of_trait and "#[cycle" not in head and len(proofs_of(folder, function.name)) < 2
 
 
 def changed_lines(text, changes):
-    """The lines of a file with a wrong body in it, which are as many as before."""
+    """The lines of a file with a mutant in it, which are as many as before."""
     for it in changes:
         text = text.replace(it.old, it.new)
     return text.split("\n")
@@ -54,7 +54,7 @@ def renamed(lines, word):
 
 
 def proofs_beside(folder, function, word):
-    """The files of a function's proofs, for its copy: by their paths, with its name in place of the function's."""
+    """The files of a function's proofs, for its copy: by their paths, with its name instead of the function's."""
     for home in proofs_of(folder, function.name):
         inside = home.relative_to(Path(folder, "proofs")).as_posix().replace("/", ".")
         mine = re.compile(rf"(\.proofs\.{re.escape(inside.removesuffix(function.word))}){function.word}\b")
@@ -69,8 +69,8 @@ def name_beside(function, number):
 
 
 def texts_of(folder, edits, beside):
-    """The crate's files with these wrong bodies in them, by their paths, and where each of them stands; `beside` says
-    of one whether it stands there as a copy."""
+    """The crate's files with these mutants in them, by their paths, and where each of them is; `beside` says
+    of one whether it is there as a copy."""
     texts, placed = {}, []
     for path in dict.fromkeys(it.path for it in edits):
         here = [it for it in edits if it.path == path]
@@ -91,7 +91,7 @@ def texts_of(folder, edits, beside):
 
 
 def joined(lines, copies, edits):
-    """A file's lines with copies behind their functions, and where each wrong body stands in them."""
+    """A file's lines with copies after their functions, and where each mutant is in them."""
     out, at_of, found = [], {}, {}
     for at, line in enumerate(lines):
         at_of[at] = len(out)

@@ -1,6 +1,7 @@
 # How ./nvmesim and ./nvmelive find their programs, and build them: scripts/build keeps each build in out/ by the digest
 # of its sources. A proved program runs if there is one, else one that is built without its proofs: a line on standard
-# error says so when it is built, and --version always. Callers must set `name` and `top`, and have `tell` and `give_up`.
+# error says so when it is built, and --version always. Callers must set `name` and `top`, and have `tell` and
+# `give_up`.
 
 readonly builds=$top/out
 # The folder of the Python package.

@@ -13,14 +13,14 @@ from support.proof_seconds import seconds_of
 
 # What a job of the prover takes of memory, in bytes.
 JOB_MEMORY = 1_200_000_000
-# What the first program waits for comes before the rest: it begins first, as if its proof took so many times as long,
-# and the rest has a lower priority by so much.
+# What the first program waits for comes before the rest: it begins first, as if its proof took this factor longer, and
+# the rest has a lower priority by this number.
 FIRST = 4
 LOWER = 5
 
 
 def cone_of(wanted):
-    """The crates and all that they stand on, lowest first."""
+    """The crates and all that they depend on, lowest first."""
     found = []
     for crate in wanted:
         found += [it for it in [*crate.below(), crate] if it not in found]
@@ -44,8 +44,8 @@ def is_left_by_ci(crate):
 
 
 def side_by_side(rt, work, first, jobs):
-    """Runs `work(crate)` for each crate of a list, lowest first, side by side where they don't wait for one another, and
-    those of the names in `first` before the others; it gives whether all was well, and is not run for what stands on a
+    """Runs `work(crate)` for each crate of a list, lowest first, side by side where they don't wait for one another,
+    and those of the names in `first` before the others; it gives whether all was well, and is not run for what is on a
     crate where it was not."""
     crates, call = work
     if jobs:
@@ -96,14 +96,13 @@ def build(rt, crate, flags):
         return crate.build_static(flags) == 0
     if not crate.is_program:
         return crate.build_rlib(flags, anew=False) == 0
-    # The toolchain runs what it has built in the crate's folder; `true` stands in for that, since runs_well has the
-    # program's files around it.
+    # The toolchain runs what it has built in the crate's folder; `true` replaces it, since runs_well prepares the program's files.
     return crate.run(flags, [], executable=shutil.which("true"), input=b"", timeout=rt.rtlib.LIMIT) == 0
 
 
 def runs_well(rt, crate):
-    """Runs a built program as `rt ci` does, in a copy of the crate's folder data/, on its input and its words; whether it
-    prints what the crate says, and ends with its status."""
+    """Runs a built program as `rt ci` does, in a copy of the crate's folder data/, on its input and its words; whether
+    it prints what the crate says, and ends with its status."""
     words = (crate.stream("args") or b"").decode().splitlines()
     status = int(crate.stream("status") or crate.said.get("status", 0))
     with tempfile.TemporaryDirectory() as room:
@@ -138,8 +137,9 @@ class Processors:
 
     @contextmanager
     def some(self, least):
-        """As many jobs as there are processors that no other crate has and that memory is free for, and so many at least. A
-        crate keeps those that it begins with. By two jobs a proof takes two fifths more of processors than by one."""
+        """As many jobs as there are processors that no other crate has and that memory is free for, and at least
+        `least`. A crate keeps those that it begins with. By two jobs a proof takes two fifths more of processors than
+        by one."""
         with self.counting:
             idle = min(self.rt.processors() - self.taken, self.rt.free() // JOB_MEMORY)
             jobs = max(least, idle)
@@ -161,7 +161,7 @@ def lowly(call):
 
 
 def prove(rt, wanted, jobs, tell, log):
-    """Proves the crates and all that they stand on, side by side, and keeps the work of each in its out/. What is a
+    """Proves the crates and all that they depend on, side by side, and keeps the work of each in its out/. What is a
     program or a static library is built there, and a program is run; what the first one waits for comes before the
     rest."""
     crates = cone_of(wanted)

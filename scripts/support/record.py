@@ -1,7 +1,7 @@
 """What was refused at which text: crates/NAME/wrong-bodies.record.
 
-A line has a wrong body's name, a digest and the goal that refused it. The digest is of all that the refusal rests on:
-the wrong body, the crate's own sources, definitions and proofs, the contracts and definitions of the crates below, and
+A line has a mutant's name, a digest and the goal that refused it. The digest is of all that the refusal rests on:
+the mutant, the crate's own sources, definitions and proofs, the contracts and definitions of the crates below, and
 the toolchain's logic. A line with another digest than the present one says nothing.
 """
 import hashlib
@@ -77,7 +77,7 @@ def whole(crate):
 
 
 class Digests:
-    """The digests of wrong bodies, of which each crate's own part is computed once."""
+    """The digests of mutants, of which each crate's own part is computed once."""
 
     def __init__(self, logic):
         self.logic, self.seen, self.parts = logic, {}, {}

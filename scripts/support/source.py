@@ -28,12 +28,12 @@ class Function:
 
 @dataclass
 class Owner:
-    """The block that functions stand in: of a type or a trait, or none."""
+    """The block that functions are in: of a type or a trait, or none."""
     name: str = ""
     shows_all: bool = False
 
     def passes(self, line):
-        """Goes by one line, and says whether it is the head of a block."""
+        """Reads one line, and says whether it is the head of a block."""
         if found := IMPL.match(line):
             head = without_parameters(found[1])
             self.name, self.shows_all = type_of(head), " for " in head
@@ -44,7 +44,7 @@ class Owner:
 
 
 def without_parameters(head):
-    """The head of an impl block without the parameters behind its first word."""
+    """The head of an impl block without the parameters after its first word."""
     head = head.strip()
     if not head.startswith("<"):
         return head
@@ -64,14 +64,14 @@ def last_names(path):
 
 
 def type_of(head):
-    """What the prover calls an impl block: its type, with its trait behind it."""
+    """What the prover calls an impl block: its type, with its trait after it."""
     of_trait, _, of_type = head.removesuffix("{").strip().rpartition(" for ")
     name = re.match(r"(?:\w+::)*(\w+)", of_type.strip())
     return (name[1] if name else "") + last_names(of_trait)
 
 
 def module_of(path):
-    """The module of a file of src, with `::` behind it; nothing for the root."""
+    """The module of a file of src, with `::` after it; nothing for the root."""
     name = path.removeprefix("src/").removesuffix(".rt").removesuffix("/mod").replace("/", "::")
     return "" if name in ("lib", "main") else name + "::"
 

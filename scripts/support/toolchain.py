@@ -29,7 +29,7 @@ def logic():
 
 
 def load(root):
-    """Reads `rt`, which stands beside the page that `rt doc` names, and goes to the top of the repository, as `rt`
+    """Reads `rt`, which is next to the page that `rt doc` names, and goes to the top of the repository, as `rt`
     wants."""
     path = Path(ask("doc")).parent / "bin" / "rt"
     if not path.is_file():

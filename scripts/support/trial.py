@@ -1,4 +1,4 @@
-"""Tries wrong bodies of one crate over a copy of its kept work, or over none."""
+"""Tries mutants of one crate over a copy of its earlier results, or over none."""
 import os
 import re
 import shutil
@@ -19,14 +19,14 @@ CLAUSE = re.compile(r"^ +ensures\*? (?:([\w-]+) )?(\{.*?\});?$(?=\n +(?:requires
 OPEN = re.compile(r"did not prove ((?:`[^`]+`(?:, | and )?)+)")
 # How the check of some functions ends where it is finished.
 SOME = re.compile(r"^only=\d+ proved=\d+\n*\Z", re.M)
-# What `rt` says of a wrong body that is refused for what it says: with the first goal, and not for a name alone.
+# What `rt` says of a mutant that is refused for what it says: with the first goal, rather than for a name alone.
 BY_A_GOAL = re.compile(r"refused, as it must be: \S")
 NOT_PROVED = ("not proved", "no proof: expected")
 
 
 @dataclass(frozen=True)
 class Result:
-    """What came of a wrong body: whether it was refused, how it was tried, and by which goal or why not."""
+    """What came of a mutant: whether it was refused, how it was tried, and by which goal or why not."""
     edit: object
     is_refused: bool
     how: str
@@ -103,7 +103,7 @@ def clauses_of(text, function):
 
 
 def linked(folder, to):
-    """Copies kept work: what was proved by links, where these can be made, since a check replaces such a file and
+    """Copies earlier results: what was proved by links, where these can be made, since a check replaces such a file and
     changes none."""
     def copy(one, other):
         try:
@@ -124,10 +124,10 @@ def plain_copy(batch):
 
 
 class Bench:
-    """A crate, and the folder that the checks of its wrong bodies keep their work in. It begins with a copy of the
-    crate's kept work, or with nothing: then the first check proves what it asks for, with the lemmas that this cites,
-    and the next checks take that. Where `rt ci` has just proved the crate as it stands, a check does not prove again
-    the functions that its copies are of, but a copy of one that is unchanged."""
+    """A crate, and the folder that the checks of its mutants keep their work in. It begins with a copy of the crate's
+    earlier results, or with nothing: then the first check proves what it asks for, with the lemmas that this cites, and
+    the next checks take that. If `rt ci` has just proved the crate as it is, a check does not prove again the
+    functions that its copies are of, but a copy of one that is unchanged."""
 
     def __init__(self, rt, crate):
         self.rt, self.crate = rt, crate
@@ -146,7 +146,7 @@ class Bench:
         shutil.rmtree(self.room, ignore_errors=True)
 
     def check(self, texts, only, kept):
-        """One check of the crate with these texts in place of its own, of these functions alone or in full."""
+        """One check of the crate with these texts instead of its own, of these functions alone or in full."""
         with tempfile.TemporaryDirectory(dir=self.room) as room:
             for part in self.rt.rtlib.PARTS:
                 if (self.folder / part).is_dir():
@@ -163,13 +163,13 @@ class Bench:
 
     def is_spoiled(self, said, texts):
         """Whether the text could not be read, or no check came of it."""
-        # What a proof names and an edit took away is refused, as it is where the proof stands in its own place.
+        # What a proof names and an edit took away is refused, as it is where the proof is in its own place.
         changed = [it for it in texts if not it.startswith("proofs/")]
         is_unread = any(self.rt.unread(line, changed) for line in said.lines)
         return is_unread or said.status != 1 or not any(it.startswith("only=") for it in said.lines)
 
     def placed(self, batch):
-        """The text of a check of these wrong bodies, and where each of them stands in it, with what that check has to
+        """The text of a check of these mutants, and where each of them is in it, with what that check has to
         prove for its sake: the function that it is a copy of, or one copy that is unchanged, for all of them."""
         is_shared = len(batch) > 1
         plain = plain_copy(batch) if is_shared and self.is_proved else []
@@ -179,7 +179,7 @@ class Bench:
         return texts, {it: right or [it.copied] if it.copied else [] for it in wrong}
 
     def try_batch(self, batch):
-        """Tries wrong bodies in one check, and each that is not refused there for its own sake alone; where the check
+        """Tries mutants in one check, and each that is not refused there for its own sake alone; where the check
         comes to nothing, as by one that can't be read, each half of them."""
         texts, placed = self.placed(batch)
         only = [*(function for right in placed.values() for function in right), *(it.function for it in placed)]
@@ -201,14 +201,14 @@ class Bench:
                 yield self.try_in_full(it.edit)
 
     def asked(self, edit, *kept, only=()):
-        """What `rt` makes of a wrong body, checked in full or by some functions: whether the prover refuses it, and in
+        """What `rt` makes of a mutant, checked in full or by some functions: whether the prover refuses it, and in
         which words. Some kits of the toolchain tell it by the name of an outcome, others by a truth value."""
         HERE.bench, HERE.only = self, only
         outcome, words = self.rt.must_fail(self.crate, str(edit.file), ["--jobs", "1"], *kept)
         return outcome == getattr(self.rt, "REFUSED", True), words.split(f"{edit.name}: ", 1)[-1]
 
     def try_by_witnesses(self, edit, goal=""):
-        """Tries a wrong body that is no function's by a check of the functions in which it is likely to show, and in
+        """Tries a mutant that is no function's by a check of the functions in which it is likely to show, and in
         full where none of them is refused; `goal` is what refused it once."""
         only = witnesses_of(self.folder, edit.name, goal)
         is_refused, words = self.asked(edit, self.kept, only=only) if only else (False, "")
@@ -219,8 +219,8 @@ class Bench:
         return Result(edit, True, f"in {refused[0]}", self.first_goals(edit, words))
 
     def try_in_full(self, edit):
-        """Tries a wrong body as `rt` does: over the kept work, and from nothing where it is not refused so; but what is
-        proved over work that this run began itself is proved."""
+        """Tries a mutant as `rt` does: over the earlier results, and from nothing where it is not refused so; but what
+        is proved over work that this run began itself is proved."""
         is_refused, words = self.asked(edit, self.kept)
         is_proved = self.begins_anew and "NOT REFUSED" in words
         if not is_refused and "BAD EDIT" not in words and not is_proved:
@@ -239,7 +239,7 @@ class Bench:
         return clauses_of((self.folder / edit.path).read_text(), edit.function)
 
     def is_sound(self):
-        """Whether the functions whose wrong bodies were refused are proved as they stand over the same kept work."""
+        """Whether the functions whose mutants were refused are proved as they are over the same earlier results."""
         return not self.tried or self.check({}, sorted(self.tried), self.kept).status == 0
 
 
@@ -248,7 +248,7 @@ HERE = threading.local()
 
 
 def lend(rt):
-    """Has `rt` make its checks of wrong bodies on the worker's bench, where their time is counted. It knows how a check
+    """Has `rt` make its checks of mutants on the worker's bench, where their time is counted. It knows how a check
     of the whole crate ends that is not proved: so ends one of some functions here that are not all proved."""
     def checked(_crate, texts, _flags, kept):
         said = HERE.bench.check(texts, HERE.only, kept)
@@ -259,7 +259,7 @@ def lend(rt):
 
 
 def run(words, folder):
-    """Runs a command, and tells its processor seconds too."""
+    """Runs a command, and reports its processor seconds too."""
     with tempfile.TemporaryFile("w+", errors="replace") as out:
         how = {"cwd": folder, "stdin": subprocess.DEVNULL, "stdout": out, "stderr": subprocess.STDOUT}
         started = subprocess.Popen(words, **how)

@@ -1,4 +1,4 @@
-"""In which functions a wrong body is likely to show that is none of one function's, such as a wrong definition.
+"""In which functions a mutant is likely to show that is none of one function's, such as a wrong definition.
 
 That is a guess, by the goal that refused it when it was tried last and by what the crate's texts name. These functions
 are checked first, for a fraction of what a check of the whole crate takes.
@@ -12,7 +12,7 @@ from support.source import functions_of
 
 MOST = 6
 
-# Where a goal stands that a proof by hand leaves open: in a function's own file, or in one of lemmas.
+# The file of a goal that a proof by hand leaves open: the function's own, or one of lemmas.
 OWN = re.compile(r"(?:\./)?proofs/(\S+)/\w+\.antt:")
 LEMMAS = re.compile(r"(?:\./)?proofs/(\w+)\.antt:")
 CLAUSE = re.compile(r"returns\S*-clause-(\w+)")
@@ -45,8 +45,8 @@ def units_of(folder):
 
 
 def by_goal(units, goal):
-    """The functions that can have a goal: which have a clause of its name, whose proof it stands in, or which cite the
-    lemmas that it stands in."""
+    """The functions that can have a goal: which have a clause of its name, whose proof it is in, or which cite the
+    lemmas that it is in."""
     clauses = [re.compile(rf"\bensures\*? {it} ") for it in CLAUSE.findall(goal)]
     own, lemmas = OWN.match(goal), LEMMAS.match(goal)
     return [it for it in units if any(clause.search(it.head) for clause in clauses)
@@ -61,7 +61,7 @@ def naming(units, folder, word):
 
 
 def witnesses_of(folder, name, goal=""):
-    """The functions to ask for the wrong body of this name, with the goal that refused it once."""
+    """The functions to ask for the mutant of this name, with the goal that refused it once."""
     parts = name.removesuffix(".edit").split(".")[:-1] or [name]
     units = list(units_of(Path(folder)))
     own = [it for it in units if f"::{it.name}".endswith("::" + "::".join(parts))]

@@ -9,7 +9,7 @@ tell() {
     echo "$name: $1" >&2
 }
 
-# Ends where this script, and not the program, can't do what it should.
+# Ends if this script itself can't do what it should.
 give_up() {
     tell "$1"
     exit 70
@@ -36,8 +36,9 @@ file_fault() {
     exit 2
 }
 
-# Whether a regular file begins with a line of a script. The program nvmelive judges that, of what is named as its image:
-# here of a copy, as far as a script may be long, so that the file itself is neither opened to be written nor locked.
+# Whether a regular file begins with a line of a script. The program nvmelive judges that, of what is named as its
+# image: here of a copy, as far as a script may be long, so that the file itself is neither opened to be written nor
+# locked.
 begins_a_script() {
     local judge copy told status=0
     [ "$1" != - ] && [ -f "$1" ] && [ -r "$1" ] || return 1
@@ -65,11 +66,11 @@ refuse_script_as_image() {
 }
 
 # A single word is a script over zeros in memory if it ends in `.nvme`, whether it is there or not, if it is one by its
-# text, and if it is to be checked. Else the first word is an image. Then `words` are the program's.
+# text, and if it will be checked. Else the first word is an image. Then `words` are the program's.
 judge_words() {
     local first=${words[0]-}
     if [ -n "$is_meant" ]; then
-        # This program judges its image too, and is told that it is meant.
+        # This program judges its image too, and receives that it is meant.
         [ "$name" != nvmelive ] || words=(--image "${words[@]}")
     elif [ ${#words[@]} -eq 2 ]; then
         refuse_script_as_image "$first"
@@ -98,7 +99,7 @@ await_lock() {
 }
 
 # Whether the program was refused the lock of its image, before it read anything: its status, and a file with what it
-# told.
+# reported.
 lost_lock() {
     [ "$1" -eq 2 ] && grep -q 'is in use: .* holds its lock; --wait waits for it$' "$2"
 }
@@ -122,13 +123,13 @@ run_apart() {
     return "$status"
 }
 
-# Runs the program once no other has the lock of its image. The program takes the lock itself; if another one is quicker,
-# it is refused before it reads anything, and waits again.
+# Runs the program once no other has the lock of its image. The program takes the lock itself; if another one is
+# quicker, it is refused before it reads anything, and waits again.
 run_waiting() {
     local image told status
     image=$(image_named)
     [ -n "$image" ] || run_program "$@"
-    told=$(mktemp) || give_up 'there is no room for what the program tells'
+    told=$(mktemp) || give_up 'there is no space for messages of the program'
     # shellcheck disable=SC2064
     trap "rm -f '$told'" EXIT
     while true; do
@@ -142,7 +143,7 @@ run_waiting() {
 }
 
 # Takes the command line apart: `option` is the one of the options named first that was given, if any, `words` are the
-# image and the script, or the image alone, or neither, and `is_meant` says whether --image stands before the image.
+# image and the script, or the image alone, or neither, and `is_meant` says whether --image is before the image.
 # Words that the program would refuse are refused as it does, so that nobody waits for a build to hear that.
 take_apart() {
     local allowed=$1 number=0

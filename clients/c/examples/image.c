@@ -1,5 +1,5 @@
-/* A subsystem over a file of blocks, by mmap. A Write stands in the file at once; a Flush is followed by a sync, before
- * its completion is handed on. The file is locked as by nvmesim, nvmelive and nvmetcp; one of another size is refused.
+/* A subsystem over a file of blocks, by mmap. A Write changes the file at once; a Flush is followed by a sync, before
+ * its completion is used. The file is locked as nvmesim, nvmelive and nvmetcp lock it; one of another size is refused.
  *
  *     cc image.c $(pkg-config --cflags --libs nvmesim) && ./a.out disk.img
  */
@@ -27,14 +27,14 @@ static void fail(const char *what) {
     exit(1);
 }
 
-/* Opens the file of the blocks, before it is read, and locks it until this program ends. A new file has zeros. */
+/* Opens the file of the blocks and locks it, before it is read, until this program ends. A new file has zeros. */
 static int opened(const char *path) {
     int file = open(path, O_RDWR | O_CREAT, 0600);
     struct stat found;
     if (file < 0 || flock(file, LOCK_EX | LOCK_NB) != 0 || fstat(file, &found) != 0)
         fail(path);
     if (found.st_size != 0 && found.st_size != SIZE) {
-        fprintf(stderr, "%s: it has not %d bytes\n", path, SIZE);
+        fprintf(stderr, "%s: it does not have %d bytes\n", path, SIZE);
         exit(1);
     }
     if (found.st_size == 0 && ftruncate(file, SIZE) != 0)
@@ -42,7 +42,7 @@ static int opened(const char *path) {
     return file;
 }
 
-/* Submits a command to queue 0 or 1 of controller 1, and has it executed: the status, or -1. */
+/* Submits a command to queue 0 or 1 of controller 1 and executes it; returns the status, or -1. */
 static int submit(uint16_t qid, uint8_t opcode, uint32_t nsid, uint64_t prp1, uint32_t dw10, uint32_t dw11) {
     uint8_t entry[64] = {opcode};
     memcpy(entry + 4, &nsid, 4);

@@ -7,7 +7,7 @@
 #include <stdlib.h>
 #include <string.h>
 
-/* Where things stand in the memory of each host: queues of the admin and of one I/O pair, and a page of data. */
+/* The layout of each host's memory: queues of the admin and of one I/O pair, and a page of data. */
 enum { ADMIN_SQ = 0x0000, ADMIN_CQ = 0x1000, IO_SQ = 0x2000, IO_CQ = 0x3000, DATA = 0x10000 };
 enum { ENTRIES = 16 };
 

@@ -1,4 +1,4 @@
-/* Tests of the library through its header alone. Each check that fails is told with its line; the status is then 1. */
+/* Tests of the library through its header alone. Each failed check is printed with its line; the status is then 1. */
 #include "hosts.h"
 
 /* Every call on a struct that is not open answers so, and leaves it as it was. */
@@ -26,7 +26,7 @@ static void closed(void) {
     CHECK(sim.subsystem == NULL && !sim.is_open);
 }
 
-/* What is wrong with a configuration is told by its first fault, and nothing is opened. */
+/* A wrong configuration is refused by its first fault, and nothing is opened. */
 static void configurations(void) {
     nvmesim sim = NVMESIM_NONE;
     const nvmesim_controller unnumbered[] = {{0xa1, 0, 2, true}}, hostless[] = {{0, 0, 1, true}};
@@ -78,8 +78,8 @@ static void refusals(void) {
     nvmesim_close(&sim);
 }
 
-/* Lent bytes are the medium: what a command writes stands in them at once. An opening that is refused, or that finds one
- * open, leaves all of them as they were, and so does a close. */
+/* Borrowed bytes are the medium: a command changes them at once. An opening that is refused, or that finds one open,
+ * leaves all of them unchanged, and so does a close. */
 static void lent(void) {
     nvmesim sim = NVMESIM_NONE;
     static uint8_t bytes[64 * 512], wanted[64 * 512];
@@ -321,7 +321,7 @@ static void names(void) {
     CHECK(0x10000 - unlisted == 25);
 }
 
-/* Whether a text was written that is this one, and the buffer has 7s behind it. */
+/* Whether exactly this text was written, followed by the buffer's 7s. */
 static bool is_text(nvmesim_written it, const uint8_t *buffer, const char *text) {
     size_t count = strlen(text);
     return it.what == NVMESIM_OK && it.length == count && !memcmp(buffer, text, count) && buffer[count] == 7;
@@ -333,8 +333,8 @@ static const char described[] = "controller 1 host 0xa1 raw\ncontroller 2 host 0
 static const char too_few[] = "3:1: namespace 1 ends behind the 63 blocks of the medium, where the namespaces lie one "
                               "after the other";
 
-/* A configuration is read, and written as it was read; one that is refused is told by its place and its reason, as far
- * as there is room, and the arrays are as they were. */
+/* A configuration is parsed, and formatted as it was parsed; a refusal gives place and reason, if the buffer has space
+ * for it, and leaves the arrays unchanged. */
 static void texts(void) {
     nvmesim_controller controllers[16];
     nvmesim_namespace namespaces[8];

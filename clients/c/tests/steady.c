@@ -1,5 +1,5 @@
-/* No call but an opening takes memory, and none but a close gives any back: rounds of every kind of event and look, over
- * bytes that are copied and over bytes that are lent, until there were as many calls as asked for.
+/* No call but an opening takes memory, and none but a close gives any back: rounds of every kind of event and query,
+ * over copied and over borrowed bytes, for a number of calls.
  *
  * The linker has each request for memory of the library, and of this program, come by here (--wrap). With -DPLANTED
  * each memcpy that the library makes takes memory, which must be found. */
@@ -107,7 +107,7 @@ static const step steps[] = {
 static unsigned long calls;
 static int failures;
 
-/* Counts a call, and tells one that did not go as it must. */
+/* Counts a call, and reports a wrong answer. */
 static void must(int holds, const char *what, int line) {
     calls++;
     if (!holds && failures++ < 10)
@@ -197,8 +197,8 @@ static void play(nvmesim *sim) {
     MUST(nvmesim_submit(&none, 1, 0, entry, entry).what == NVMESIM_CLOSED);
 }
 
-/* Rounds over bytes that are copied or lent, until there were so many calls. Only the opening takes memory, and as much
- * is given back by the close. */
+/* Rounds over copied or borrowed bytes, for a number of calls. Only the opening takes memory, and the close frees as
+ * much. */
 static void play_until(unsigned long most, int is_lent) {
     static const nvmesim_controller two[] = {{0xa1, 0, 1, false}, {0xb2, 0xc3, 2, false}};
     static const nvmesim_namespace shared[] = {{BLOCKS, 1, true}};
@@ -213,7 +213,7 @@ static void play_until(unsigned long most, int is_lent) {
     while (calls < most && failures == 0)
         play(&sim);
     printf("%s: %lu requests for memory by the opening; by %lu events and looks %lu, and %lu given back\n",
-           is_lent ? "lent bytes" : "copied bytes", at_first, calls - begun, taken - at_first, freed - given_back);
+           is_lent ? "borrowed bytes" : "copied bytes", at_first, calls - begun, taken - at_first, freed - given_back);
     failures += at_first < 3 || taken != at_first || freed != given_back;
     nvmesim_close(&sim);
     failures += freed != taken;

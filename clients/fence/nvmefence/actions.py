@@ -77,7 +77,7 @@ def in_turn(disks: Sequence[Disk], step: Callable[[Disk], None], done: str, prog
 
 
 def change(asked: Asked, disks: Sequence[Disk], progress: Progress) -> int:
-    """Carries out 'on' or 'off'. Nothing is changed if any of the disks is not fit for it."""
+    """Executes 'on' or 'off'. If one disk is unfit, none is changed."""
     is_on, key = asked.action == "on", asked.key or 0
     check = check_on if is_on else check_off
     step = switch_on if is_on else switch_off

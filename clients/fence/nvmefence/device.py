@@ -31,7 +31,7 @@ class Command:
 
 
 class Device(Protocol):
-    """What carries out commands on a namespace."""
+    """Executes commands on a namespace."""
 
     path: str
     nsid: int

@@ -27,7 +27,7 @@ STATUSES = {
 
 
 class Progress:
-    """What is under way, told to the process that waits for it, and on standard error if that is wanted.
+    """The progress, for the process that waits for it, and on standard error with --verbose.
 
     Attributes:
         state: what has been changed so far, in words that follow a failure.
@@ -63,7 +63,7 @@ class Disk:
         self._host = self._host_identifier()
 
     def _ask(self, command: Command) -> bytes:
-        """The data that a command gives. Raises `Failure` with the name of its status."""
+        """The data that a command returns. Raises `Failure` with the name of a failed status."""
         self._progress.asks(self.path, command.name)
         status, data = self._device.submit(command)
         if status != 0:
@@ -111,7 +111,7 @@ class Disk:
             raise Failure(f"{self.path} has no reservations of type {rtype}, {RESERVATIONS[rtype]}")
 
     def register(self, key: int, old: Optional[int]) -> None:
-        """Registers this host's key, in the place of an old one if there is any. It persists if the device can."""
+        """Registers this host's key, replacing an old one. It persists if the device can."""
         persist = PERSIST if self._rescap & 1 else 0
         action = 0 if old in (None, key) else REPLACE_KEY
         self._ask(Command("Reservation Register", REGISTER, action | persist, sent=struct.pack("<QQ", old or 0, key)))

@@ -1,4 +1,4 @@
-"""The key of a node, made of names."""
+"""Keys of nodes, made from names."""
 from __future__ import annotations
 
 import hashlib
@@ -10,7 +10,7 @@ COROSYNC = "/etc/corosync/corosync.conf"
 
 
 def key_of_name(node: str, cluster: str) -> str:
-    """The key of a node: made as fence_scsi's with key_value=hash is, with 8 digits of each MD5 in place of 4."""
+    """The key of a node, made like fence_scsi's with key_value=hash, from 8 instead of 4 digits of each MD5."""
     return "".join(hashlib.md5(it.encode(), usedforsecurity=False).hexdigest()[:8] for it in (cluster, node))
 
 

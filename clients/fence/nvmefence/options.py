@@ -94,7 +94,7 @@ def given_words(words: Sequence[str], stream: TextIO) -> Dict[str, str]:
 
 @dataclass(frozen=True)
 class Asked:
-    """What is to be done, with all values checked."""
+    """The requested action, with all values checked."""
 
     action: str
     devices: Tuple[str, ...]

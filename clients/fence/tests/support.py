@@ -68,7 +68,7 @@ class SubsystemDevice:
 
 
 class Turns:
-    """Lets one of two threads go on at a time: who is next is chosen before each command."""
+    """Runs one of two threads at a time, and chooses the next one before each command."""
 
     def __init__(self, choices: random.Random) -> None:
         self._choices, self._changed, self._left = choices, threading.Condition(), [0, 1]
@@ -125,7 +125,7 @@ class Cluster:
                                lambda *it: self.before.get(node, lambda *_: None)(*it))
 
     def run(self, node: int, action: str, key: int, **more: str) -> Tuple[int, str]:
-        """Runs an action of a node's agent: its status, and what it has told."""
+        """Runs an action of a node's agent: its status and output."""
         told = io.StringIO()
         with contextlib.redirect_stdout(told):
             status, why = self.carry_out(node, action, key, **more)

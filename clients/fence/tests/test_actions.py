@@ -1,4 +1,4 @@
-"""The actions over the proved subsystem: what hosts are told, and what the subsystem has afterwards."""
+"""The actions over the proved subsystem: what they print, and the subsystem's state afterwards."""
 from __future__ import annotations
 
 import contextlib
@@ -31,7 +31,7 @@ class ClusterCase(unittest.TestCase):
             self.assertEqual(self.cluster.run(node, "on", key), (0, "Success: Powered ON\n"))
 
     def expect(self, node: int, action: str, key: int, status: int, *told: str, **more: str) -> None:
-        """An action ends with this status, and has told all of this."""
+        """An action ends with this status, and prints all of this."""
         found = self.cluster.run(node, action, key, **more)
         self.assertEqual(found[0], status, found[1])
         for it in told:
@@ -206,7 +206,7 @@ class RaceTest(unittest.TestCase):
     """Two nodes fence each other at once, and name the disks in another order."""
 
     def race(self, seed: int) -> Tuple[List[Tuple[int, str]], List[List[int]]]:
-        """What both agents are told, and the keys that are left, in one order of their commands."""
+        """What both agents print, and the keys that are left, in one order of their commands."""
         with Subsystem() as subsystem, contextlib.redirect_stdout(io.StringIO()):
             cluster, turns = Cluster(subsystem), Turns(random.Random(seed))
             found = [(-1, ""), (-1, "")]

@@ -12,7 +12,7 @@ from .support import AGENT, CLIENTS, HERE, LIVE
 
 LAB = CLIENTS / "nvme-cli" / "lab"
 CONFIG = HERE / "two-disks.nvme"
-# What is typed in a shell of host a1h, with the status that follows and what is told; $b2 runs the rest as host b2h.
+# Commands in a shell of host a1h, each with its status and output; $b2 runs the rest of the line as host b2h.
 FENCING = (
     ("$agent -o monitor $disks", 0, ""),
     ("$agent -o status $disks -k b", 2, "Status: OFF"),

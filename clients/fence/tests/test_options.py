@@ -1,4 +1,5 @@
-"""Options from both sides, keys of names, metadata, and the time limit: nothing here needs a device."""
+"""Options from the command line and from standard input, keys made from names, metadata, and the time limit, without a
+device."""
 from __future__ import annotations
 
 import contextlib
@@ -27,7 +28,7 @@ from nvmefence.reports import Registrant, Report
 
 DEVICES = "/dev/nvme0n1,/dev/nvme1n1"
 GIVEN: Dict[str, str] = {"action": "off", "devices": DEVICES, "key": "0x1B"}
-# What is wrong, and the words of the refusal.
+# Wrong options, each with the message of its refusal.
 WRONG: Tuple[Tuple[Dict[str, str], str], ...] = (
     ({"action": "reboot"}, "there is no action 'reboot'"),
     ({"devices": ""}, "no devices are given"),
@@ -178,13 +179,13 @@ class TimeLimitTest(unittest.TestCase):
         self.assertIn("ZeroDivisionError", done.stderr)
 
     def test_the_child_ends_with_the_agent(self) -> None:
-        """An agent that Pacemaker has killed fences nobody afterwards."""
+        """An agent that Pacemaker has killed fences nobody later."""
         words = ("import os, sys, time; from nvmefence.command import within\n"
                  "within(60, lambda _: print(os.getpid(), flush=True) or time.sleep(60) or 0, False)")
         agent = subprocess.Popen([sys.executable, "-Bc", words], cwd=AGENT.parent, stdout=subprocess.PIPE, text=True)
         child = int(agent.stdout.readline())  # type: ignore[union-attr]
         agent.kill()
-        # The end of the stream comes when no process has it any more.
+        # The stream ends once no process has it open.
         self.assertEqual(agent.communicate(timeout=20)[0], "")
         self.assertFalse(Path(f"/proc/{child}/exe").exists())
 

@@ -1,4 +1,4 @@
-// The calls of the C library that this one stands before. Each looks whether the path, or the descriptor, is the lab's,
+// Replacements of the C library's calls. Each checks whether the path, or the descriptor, is the lab's,
 // and else hands the call on as it came.
 #define _GNU_SOURCE
 #include "lab.h"
@@ -54,8 +54,8 @@ FOUND_ONCE(scandir64);
 
 // Opening.
 
-// Opens the file that stands for a device: a block device by disk.c, others by a descriptor with which control calls can
-// be made and nothing else. A device whose server is gone is a node without a device.
+// Opens the file that represents a device: a block device by disk.c, others by a descriptor with which control calls
+// can be made and nothing else. A device whose server is gone is a node without a device.
 static int open_device(const char *place, int flags) {
     struct lab_request look = {.asking = LAB_LOOK};
     if (NEXT(access)(place, F_OK)) {
@@ -94,7 +94,7 @@ static bool opens(const char *path, int flags, int *fd) {
     }
 }
 
-// The mode stands behind the flags where they may make a file.
+// The mode follows the flags if they may create a file.
 static mode_t mode_behind(int flags, va_list words) {
     return flags & (O_CREAT | (O_TMPFILE & ~O_DIRECTORY)) ? va_arg(words, mode_t) : 0;
 }
@@ -233,7 +233,7 @@ int euidaccess(const char *path, int mode) {
     return NEXT(euidaccess)(placed(path, place), mode);
 }
 
-// Devices have no attributes beside those of `stat`.
+// Devices have no attributes except those of `stat`.
 ssize_t getxattr(const char *path, const char *name, void *value, size_t room) {
     char place[PATH_MAX];
     return NEXT(getxattr)(placed(path, place), name, value, room);

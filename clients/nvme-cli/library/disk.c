@@ -1,5 +1,5 @@
 // A namespace as a block device: positions, and reads and writes of bytes as Read, Write and Flush. There is no cache:
-// each call is carried out, or refused, before it returns.
+// each call is executed, or refused, before it returns.
 #define _GNU_SOURCE
 #include "lab.h"
 
@@ -13,7 +13,7 @@
 
 enum { FLUSH = 0x00, WRITE = 0x01, READ = 0x02, WRITE_ZEROES = 0x08 };
 
-// An open device keeps its state in the offset of the file that stands for it, which all its descriptors share, in this
+// An open device keeps its state in the offset of the file that represents it, which all its descriptors share, in this
 // process and in others: the position in bits 31 to 0, the access mode in 33 and 32, and in bits 42 to 36 a mark.
 #define POSITION 0xffffffffu
 #define ACCESS_AT 32
@@ -36,7 +36,7 @@ static int keep(int fd, const struct lab_disk *disk) {
     return NEXT(lseek)(fd, (off_t)state, SEEK_SET) < 0 ? -1 : 0;
 }
 
-// Opens the file that stands for a namespace so that it can itself be neither read nor written: a call that is not one
+// Opens the file that represents a namespace so that it can itself be neither read nor written: a call that is not one
 // of those that are made here fails, and never reaches that file.
 int lab_open_disk(const char *place, int flags) {
     struct lab_disk disk = {
@@ -109,7 +109,7 @@ static int error_of(unsigned status) {
     }
 }
 
-// A command to its end: on so many blocks, with data at an address where there are any.
+// Executes a command on `blocks` blocks, with data at an address if there are any.
 static int command(const struct lab_disk *disk, uint8_t opcode, uint64_t first, uint32_t blocks, void *data) {
     struct iovec part = {.iov_base = data, .iov_len = blocks * (size_t)BLOCK_BYTES};
     struct lab_request request = {.asking = LAB_COMMAND, .device = disk->device};
@@ -166,7 +166,7 @@ static int move_part(const struct lab_disk *disk, uint64_t at, uint8_t *bytes, s
     return command(disk, WRITE, at / BLOCK_BYTES, 1, block);
 }
 
-// As many bytes as can be moved; -1 where none can, and there are some.
+// The number of bytes that can be moved; -1 if there are some, but none can be moved.
 static ssize_t move(const struct lab_disk *disk, uint64_t at, uint8_t *bytes, size_t length, bool writes) {
     size_t done = 0;
     while (done < length) {

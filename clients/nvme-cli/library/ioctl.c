@@ -27,7 +27,7 @@ struct passthru {
     uint32_t metadata_len, data_len;
     uint32_t cdw[6];
     uint32_t timeout_ms;
-    // In the form with a result of 64 bits behind it this is not used.
+    // The form with a result of 64 bits does not use this.
     uint32_t result;
 };
 
@@ -73,7 +73,7 @@ static void write_entry(uint8_t entry[64], const struct passthru *command) {
     }
 }
 
-// Where the data lie: at one address, or in parts whose count stands in the place of the length.
+// The data: at one address, or in parts, with their count instead of the length.
 static int find_data(const struct passthru *command, bool in_parts, struct iovec *one, struct lab_data *data) {
     *one = (struct iovec){.iov_base = (void *)(uintptr_t)command->addr, .iov_len = command->data_len};
     *data = (struct lab_data){.parts = one, .count = 1, .length = command->data_len, .is_mapped = command->addr != 0};

@@ -1,5 +1,5 @@
 // What the files of the preloaded library share. It answers for NVMe devices that are no devices: commands go to the
-// lab's server, and what lies under sys is files of the lab. Everything else goes on to the C library untouched.
+// lab's server, and what is under sys is files of the lab. Everything else goes to the C library unchanged.
 #ifndef LAB_H
 #define LAB_H
 
@@ -9,7 +9,7 @@
 #include <stdint.h>
 #include <sys/uio.h>
 
-// Where a host's view lies: a folder with the socket of the server, and with dev and sys as that host has them.
+// A host's view: the path of a folder with the socket of the server, and with dev and sys as that host has them.
 #define LAB_VIEW "NVME_LAB"
 
 enum lab_kind { LAB_NO_PATH, LAB_DEVICE_PATH, LAB_OTHER_PATH };
@@ -56,7 +56,7 @@ uint64_t lab_blocks(const struct lab_device *device);
 // wire.c
 enum lab_asking { LAB_COMMAND = 1, LAB_RESET = 2, LAB_LOOK = 3 };
 
-// Where the data of a command lie. There may be none (`count` 0); `is_mapped` is false where there is a length, and no
+// The location of a command's data. There may be none (`count` 0); `is_mapped` is false where there is a length, and no
 // address.
 struct lab_data {
     struct iovec *parts;

@@ -1,5 +1,5 @@
 // Folders that hold devices of the machine and the lab's: what is listed there is the machine's, without devices that
-// go by the names of the lab's, and behind it the lab's own.
+// whose names are the lab's are skipped, and the lab's own follow.
 #define _GNU_SOURCE
 #include "lab.h"
 

@@ -1,4 +1,4 @@
-// Which paths are the lab's, where what they name lies, and which descriptors are those of its devices.
+// Which paths are the lab's, where what they name is, and which descriptors are those of its devices.
 #define _GNU_SOURCE
 #include "lab.h"
 
@@ -10,10 +10,10 @@
 #include <string.h>
 #include <unistd.h>
 
-// A folder of devices holds other devices too, so that a name has to go on with a digit, as ours do.
+// A folder of devices holds other devices too, so that a digit has to follow the name, as ours do.
 static const char *const device_heads[] = {"/dev/nvme", "/dev/ng", NULL};
 static const char *const block_heads[] = {"/sys/block/nvme", "/sys/class/block/nvme", NULL};
-// What lies here is ours as a whole.
+// Everything below this is the lab's.
 static const char *const folders[] = {"/sys/class/nvme", "/sys/class/nvme-subsystem", "/sys/class/nvme-generic", NULL};
 
 static bool goes_on_with_digit(const char *path, const char *const *heads) {
@@ -46,7 +46,7 @@ bool lab_view_path(const char *name, char *place, size_t room) {
     return length > 0 && (size_t)length < room;
 }
 
-// What a path names, and where it lies in the view, if it is one of the lab's.
+// What a path names, and where it is in the view, if it is one of the lab's.
 enum lab_kind lab_place(const char *path, char place[PATH_MAX]) {
     if (!path || path[0] != '/') {
         return LAB_NO_PATH;
@@ -95,7 +95,7 @@ bool lab_named(const char *name, struct lab_device *device) {
         }
     }
     device->is_block = device->nsid != 0 && !is_generic;
-    // The system says this behind the name of a file that is gone.
+    // The system appends this to the name of a deleted file.
     return *name == 0 || strcmp(name, " (deleted)") == 0;
 }
 

@@ -1,5 +1,5 @@
 // The calls that say what a file is: of a device of the lab they say that it is one, with the numbers that Linux gives
-// to such devices. Everything else is as the file that stands for it has it.
+// to such devices. Everything else is as the file that represents it has it.
 #define _GNU_SOURCE
 #include "lab.h"
 
@@ -35,7 +35,7 @@ static bool is_device_place(const char *place, struct lab_device *device) {
     return lab_named(strrchr(place, '/') + 1, device);
 }
 
-// A descriptor is looked at only where it is of an empty file: one call of the system more for these alone.
+// A descriptor is looked at only if it is of an empty file: one system call more for these alone.
 static bool may_be_device(mode_t mode, long long size) {
     return S_ISREG(mode) && size == 0;
 }

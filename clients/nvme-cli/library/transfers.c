@@ -1,4 +1,4 @@
-// The calls that read, write, seek and bring to the disk. A file that stands for a block device can be neither read nor
+// The calls that read, write, seek and bring to the disk. A file that represents a block device can be neither read nor
 // written, so that what is not ours is handed on as it came, and only what fails so is looked at.
 #define _GNU_SOURCE
 #include "lab.h"
@@ -157,7 +157,7 @@ ssize_t __pread64_chk(int fd, void *bytes, size_t length, off64_t at, size_t roo
     return pread(fd, bytes, length, at);
 }
 
-// These succeed on the file that stands for a device, so that they look first.
+// These would succeed on the file that represents a device, so they check first.
 
 off_t lseek(int fd, off_t offset, int whence) {
     struct lab_disk disk;

@@ -58,7 +58,7 @@ static void drop(struct msghdr *message, size_t moved) {
     }
 }
 
-// Sends or receives a head and the parts behind it, whole.
+// Sends or receives a head and the following parts completely.
 static int move_all(int fd, uint8_t *head, size_t length, const struct lab_data *data, bool is_sent) {
     struct iovec parts[MOST_PARTS + 1];
     parts[0] = (struct iovec){.iov_base = head, .iov_len = length};
@@ -85,7 +85,7 @@ static int send_request(int fd, const struct lab_request *request) {
     const struct lab_data *data = &request->data;
     uint8_t head[4 + REQUEST_BYTES] = {0};
     uint64_t address = data->count > 0 ? (uintptr_t)data->parts[0].iov_base : 0;
-    // Parts are gathered at the start of a page, and so is what does not lie on four bytes.
+    // Parts are gathered at the start of a page, and so are data that are not aligned to four bytes.
     uint32_t offset = data->count == 1 && address % 4 == 0 ? address % 4096 : 0;
     lab_put(head, REQUEST_BYTES + (data->is_mapped ? data->length : 0), 4);
     head[4] = (uint8_t)request->asking;

@@ -20,7 +20,7 @@ Judge = Callable[[str], Optional[str]]
 
 @dataclass
 class Configuration:
-    """The lines that are handed to the subsystem, as many as CONFIG has, and what the lab has to know of them."""
+    """The lines for the subsystem, one for each of CONFIG, and what the lab needs to know of them."""
     handed: List[str] = field(default_factory=list)
     # The host of each controller, those controllers whose host has a driver, and the size of each namespace in blocks.
     hosts: Dict[int, int] = field(default_factory=dict)
@@ -36,8 +36,8 @@ class Configuration:
         return [cntlid for cntlid, its_host in sorted(self.hosts.items()) if its_host == host]
 
     def take(self, words: List[str], has_drivers: bool) -> None:
-        """Takes a line in, by its words as nvmelive answers them. A host has a driver if drivers are wanted and its line
-        does not end in `raw`; else the lab itself is its software, and it is handed on as a raw host."""
+        """Takes a line in, by its words as nvmelive answers them. A host has a driver if `--drivers` is given and its
+        line does not end in `raw`; else the lab itself is its software, and it is handed on as a raw host."""
         if words[0] == "controller":
             cntlid = int(words[1])
             self.hosts[cntlid] = int(words[3], 16)
@@ -60,7 +60,8 @@ class Configuration:
 
 
 def judge_by(program: str, room: Path, medium_bytes: int, name: str) -> Judge:
-    """Judges scripts by nvmesim, over zeros of so many bytes, with files in a folder; the reason names the script so."""
+    """Checks scripts by nvmesim, over `medium_bytes` zero bytes, with files in a folder; the reason names the script
+    so."""
     medium, script = room / "medium", room / "script"
 
     def judge(text: str) -> Optional[str]:
@@ -91,13 +92,13 @@ def answered(name: str, lines: List[str], ask: Ask) -> List[List[str]]:
 
 
 def column_of(line: str) -> int:
-    """Where a line's first word begins, from 1."""
+    """The column of a line's first word, from 1."""
     return len(line) - len(line.lstrip(" \t\r")) + 1
 
 
 def read_configuration(text: str, name: str, has_drivers: bool, ask: Ask, judge: Judge) -> Configuration:
-    """Reads CONFIG, or says what is wrong with it, as `FILE:LINE:COLUMN: REASON`. `start` may be missing, and nothing but
-    comments may follow it."""
+    """Reads CONFIG, or says what is wrong with it, as `FILE:LINE:COLUMN: REASON`. `start` may be missing, and nothing
+    but comments may follow it."""
     lines = text.split("\n")
     said = answered(name, lines, ask)
     reason = judge(text if ["start"] in said else f"{text}\nstart\n")

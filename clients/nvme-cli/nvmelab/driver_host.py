@@ -57,5 +57,5 @@ def status_of(word: str) -> int:
 
 
 def answer_data(words: List[str]) -> bytes:
-    """The data that a poll tells of: how many bytes, and the bytes; none where it tells of none."""
+    """The data of a poll's answer: how many bytes, and the bytes; none if it has none."""
     return data_bytes(words[1], int(words[0])) if words else b""

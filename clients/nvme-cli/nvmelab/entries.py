@@ -71,9 +71,9 @@ class Completion:
 
 
 def pointer(offset: int, length: int) -> Tuple[int, int, List[int]]:
-    """PRP1, PRP2 and the list for data that lie at an offset of their first page.
+    """PRP1, PRP2 and the list for data that are at an offset of their first page.
 
-    Behind the last page of the data nothing is mapped: a command that moves more than its data have is answered by Data
+    After the last page of the data nothing is mapped: a command that moves more than its data have is answered by Data
     Transfer Error.
     """
     place = DATA_PLACE + offset

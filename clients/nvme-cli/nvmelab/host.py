@@ -1,4 +1,4 @@
-"""A host's side of one controller: it brings the controller up and has commands carried out, one at a time."""
+"""A host's side of one controller: it brings the controller up and executes commands, one at a time."""
 from abc import ABC, abstractmethod
 from dataclasses import dataclass
 from typing import Dict, List, Optional, Tuple
@@ -23,7 +23,7 @@ class Data:
 
     @property
     def padded(self) -> bytes:
-        """The data with zeros behind them up to the end of their last page: what a command finds there."""
+        """The data, padded with zeros to the end of their last page, as a command finds them."""
         slack = -(self.offset + len(self.content)) % PAGE if self.content else 0
         return self.content + bytes(slack)
 
@@ -62,7 +62,7 @@ class Host(ABC):
         return dict(zip(REGISTERS, map(looks.register_value, answers)))
 
     def ask(self, lines: List[str], wanted: List[str]) -> List[str]:
-        """Hands lines in whose first answers have to be these; gives the answers behind them."""
+        """Sends lines whose first answers must be these; returns the other answers."""
         answers = self.subsystem.ask(lines)
         for line, answer, expected in zip(lines, answers, wanted):
             if answer != expected:

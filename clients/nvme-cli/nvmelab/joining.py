@@ -1,4 +1,4 @@
-"""Starting a lab, or joining the one that runs: labs of one CONFIG are one lab."""
+"""Starts a lab, or joins the running one of the same CONFIG."""
 import fcntl
 import hashlib
 import json
@@ -22,7 +22,7 @@ from nvmelab.keeping import Keeping
 from nvmelab.subsystem import Subsystem
 
 PACKAGE = Path(__file__).resolve().parent.parent
-# What the server tells while it starts is shown where it takes longer than this: the program is being built.
+# After this many seconds the output of a starting server is shown: the program is being built.
 QUIET_SECONDS = 2.0
 SHOW_SECONDS = 0.2
 # The name of a socket has 107 bytes at most, of which a lab's own part takes the rest.
@@ -30,7 +30,7 @@ MOST_BASE = 56
 
 
 def base_folder() -> Path:
-    """The folder of this user's labs, which nobody else can enter."""
+    """The folder of this user's labs, which no other user can enter."""
     base = Path(tempfile.gettempdir()) / f"nvme-lab-{os.getuid()}"
     try:
         base.mkdir(mode=0o700, exist_ok=True)
@@ -45,7 +45,7 @@ def base_folder() -> Path:
 
 
 def simulator_of(program: str) -> str:
-    """The nvmesim that judges CONFIG: the one that NVMESIM names, or else the one beside this nvmelive."""
+    """The nvmesim that judges CONFIG: the one that NVMESIM names, or else the one next to this nvmelive."""
     found = os.environ.get("NVMESIM", "") or str(Path(program).with_name("nvmesim"))
     if not os.access(found, os.X_OK):
         raise LabFault(f"there is no program {found}, which judges CONFIG; the variable NVMESIM names one")
@@ -54,7 +54,7 @@ def simulator_of(program: str) -> str:
 
 @dataclass
 class Lab:
-    """The lab of one CONFIG: its text, its options, and where it lies."""
+    """The lab of one CONFIG: its text, its options, and where it is."""
     name: str
     text: str
     program: List[str]
@@ -89,13 +89,13 @@ class Lab:
 
     @property
     def options(self) -> Dict[str, object]:
-        """What a second lab of the same CONFIG must not say otherwise."""
+        """The options in which a second lab of the same CONFIG must agree."""
         script = self.keeping and self.keeping.path
         return {"text": self.text, "image": self.image, "script": script, "drivers": self.has_drivers}
 
     def join(self, host: str) -> Path:
-        """Joins the lab as a host, with this process as one that uses it; it is started where it does not run. Gives
-        the host's view."""
+        """Joins the lab as a host, and starts it if it does not run. Returns the folder of the host's view. The lab
+        lasts as long as this process."""
         held = os.open(self.lock, os.O_RDWR | os.O_CREAT | os.O_CLOEXEC, 0o600)
         try:
             fcntl.flock(held, fcntl.LOCK_EX)
@@ -110,7 +110,7 @@ class Lab:
             os.close(held)
 
     def power_cycle(self) -> None:
-        """Has the lab that runs lose power and get it back."""
+        """Power-cycles the running lab."""
         said = self.say(server.POWER_CYCLE)
         if said is None:
             raise LabFault(f"no lab of {self.name} runs, so there is no power to cycle")
@@ -118,7 +118,7 @@ class Lab:
             raise LabFault(f"{self.name}: {said or 'the lab has ended'}")
 
     def ask_to_join(self, host: str) -> Optional[Path]:
-        """Joins the lab that runs; None where none does."""
+        """Joins the running lab; None if none runs."""
         said = self.say(host)
         kind, _, rest = (said or "").partition(" ")
         if kind == "joined":
@@ -128,7 +128,7 @@ class Lab:
         return None
 
     def say(self, word: str) -> Optional[str]:
-        """Says a word to the lab that runs, and gives its answer; None where none runs."""
+        """Sends a word to the running lab, and returns its answer; None if none runs."""
         with socket.socket(socket.AF_UNIX, socket.SOCK_STREAM) as stream:
             try:
                 stream.connect(str(self.folder / "socket"))
@@ -142,7 +142,7 @@ class Lab:
                 return None
 
     def compare(self) -> None:
-        """A lab that runs already has a CONFIG and options of its own; they must be those that are asked for."""
+        """Refuses a running lab with another CONFIG or other options than this one."""
         running = json.loads((self.folder / "options").read_text())
         if running["text"] != self.text:
             raise LabFault(f"{self.name} has changed since its lab was started, which still runs")
@@ -187,7 +187,7 @@ class Lab:
         started.returncode = 0
 
     def reason(self, said: str) -> str:
-        """Why the server has not started: what the program told last if it has ended, as over an image in use."""
+        """Why the server has not started: the last output of the program if it has ended, as over an image in use."""
         told = [it for it in self.log.read_text(errors="replace").splitlines() if it.startswith("nvmelive: ")]
         if told and said.startswith("the program has ended"):
             # The lab itself can't wait for an image.
@@ -195,25 +195,25 @@ class Lab:
         return said or f"the lab has not started; what it said is in {self.log}"
 
     def read(self) -> Configuration:
-        """Reads CONFIG by the programs, over zeros as long as the image."""
+        """Parses CONFIG by the programs, over as many zeros as the image has bytes."""
         length = os.path.getsize(self.image) if self.image else LARGEST_MEDIUM
         judge = judge_by(simulator_of(self.program[0]), self.folder, length, self.name)
         reader = Subsystem(self.program, "-")
         try:
-            # There is no limit of time: the program may be built first.
+            # No time limit: the program may have to be built first.
             return read_configuration(self.text, self.name, self.has_drivers, lambda it: reader.ask(it, None), judge)
         finally:
             reader.end()
 
     def make_image(self, length: int) -> str:
-        """A file of zeros for the blocks, which takes no room until they are written, and goes with the lab."""
+        """A sparse file of zeros for the blocks, which is removed with the lab."""
         image = self.folder / "image"
         with open(image, "wb") as file:
             file.truncate(length)
         return str(image)
 
     def wait_for(self, started: "subprocess.Popen[bytes]") -> str:
-        """The server's first line. Meanwhile what it tells is shown, where it takes long."""
+        """The server's first line. If it takes long, its output is shown meanwhile."""
         limit = QUIET_SECONDS
         with started.stdout as answers, open(self.log, "rb") as log:
             while not select.select([answers], [], [], limit)[0]:
@@ -224,7 +224,7 @@ class Lab:
 
 
 def server_environment() -> Dict[str, str]:
-    """The server's own devices are not those of a lab in which it may be started."""
+    """The server's environment: it may be started in another lab, and must not see its devices."""
     found = {name: value for name, value in os.environ.items() if name not in ("NVME_LAB", "LD_PRELOAD")}
     found["PYTHONPATH"] = str(PACKAGE)
     found["PYTHONDONTWRITEBYTECODE"] = "1"

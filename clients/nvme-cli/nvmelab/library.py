@@ -17,7 +17,7 @@ def sources() -> "list[Path]":
 
 
 def name_of_library() -> str:
-    """The library's name has its sources' digest, so that one that is there is the one that is wanted."""
+    """The library's name has its sources' digest, so that an existing one is up to date."""
     digest = hashlib.sha256("\0".join(FLAGS).encode())
     for source in sources():
         digest.update(source.name.encode() + b"\0" + source.read_bytes() + b"\0")

@@ -27,18 +27,18 @@ has the lines of a script before its `start`. Labs of one CONFIG that run at the
 the last of their COMMANDs.
 
 --host H            see only the controllers of host H, as its own machine does; without it those of all hosts
---drivers           have commands made by the proved drivers of the hosts, except where the line of CONFIG ends in `raw`;
+--drivers           make commands by the proved drivers of the hosts, except if the line of CONFIG ends in `raw`;
                     without it all hosts are raw, and commands are as COMMAND makes them
---image IMAGE       keep the blocks in this file, which must be long enough; without it they are gone after the lab
---script FILE       write everything that happens as a script, which nvmesim can run again; a FILE that exists is
-                    refused, and with --force replaced, but for IMAGE and CONFIG
---program PROGRAM   run this nvmelive, with the nvmesim beside it; without it ./nvmelive of this repository, which is
+--image IMAGE       keep the blocks in this file, which must be long enough; without it they are lost with the lab
+--script FILE       write everything that happens as a script, which nvmesim can run again; an existing FILE is refused,
+                    or replaced with --force, unless it is IMAGE or CONFIG
+--program PROGRAM   run this nvmelive, with the nvmesim next to it; without it ./nvmelive of this repository, which is
                     built on first use
 
---power-cycle       power is lost in the whole subsystem of the lab of CONFIG, which has to run, and comes back; the
-                    hosts bring their controllers up again
+--power-cycle       power-cycle the subsystem of the running lab of CONFIG; the hosts then bring their controllers up
+                    again
 
-The status is COMMAND's; 125 where the lab fails, 126 or 127 where COMMAND can't be run or is not found.
+The status is COMMAND's; 125 if the lab fails, 126 if COMMAND can't be run, 127 if it is not found.
 """
 
 
@@ -105,7 +105,7 @@ def program_words(program: str) -> List[str]:
 
 
 def library_folder() -> Path:
-    """Where the library is kept: beside its sources, where that can be written and be named to the loader."""
+    """The folder of the library: next to its sources, if that is writable and its path can be given to the loader."""
     place = PACKAGE / "out"
     try:
         place.mkdir(exist_ok=True)

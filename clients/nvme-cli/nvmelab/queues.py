@@ -1,7 +1,7 @@
-"""The queues of a controller as its host keeps them, and where things lie in the window that both share.
+"""The queues of a controller as its host keeps them, and where things are in the window that both share.
 
-The window has 4,194,304 bytes. Page 0 is left alone. Submission queue q lies at page 2q + 1, completion queue q at page
-2q + 2, for q from 0 to 4; the list of PRP entries and the data of the one command under way lie behind them.
+The window has 4,194,304 bytes. Page 0 is left alone. Submission queue q is at page 2q + 1, completion queue q at page
+2q + 2, for q from 0 to 4; the list of PRP entries and the data of the one command under way are after them.
 """
 from dataclasses import dataclass
 from typing import Dict, Optional
@@ -17,7 +17,7 @@ SPARE_PLACE = 0xf000
 LIST_PLACE = 0x10000
 DATA_PLACE = 0x100000
 MOST_DATA = 32 * PAGE
-# An address behind the window: what is sent there, or asked from there, is answered by Data Transfer Error.
+# An address outside the window: a transfer to or from it is answered Data Transfer Error.
 NOWHERE = WINDOW_BYTES
 
 
@@ -39,7 +39,7 @@ class SubmissionQueue:
 
     @property
     def slot(self) -> int:
-        """Where the next entry goes."""
+        """The address of the next entry."""
         return submission_place(self.qid) + ENTRY_BYTES * self.tail
 
     @property
@@ -80,7 +80,7 @@ class Queues:
         self.completion: Dict[int, CompletionQueue] = {0: CompletionQueue(0)}
 
     def lane(self, is_admin: bool) -> Optional[SubmissionQueue]:
-        """Where a command goes: the admin queue, or the first I/O queue that there is."""
+        """The queue of a command: the admin queue, or the first I/O queue that exists."""
         if is_admin:
             return self.submission[0]
         there = [qid for qid in self.submission if qid > 0]

@@ -17,7 +17,7 @@ STORED, WRITTEN = "stored", "wrote32"
 
 
 class RawHost(Host):
-    """A host without a driver: any command that can be spelled is handed on as it stands."""
+    """A host without a driver: any command is passed on unchanged."""
 
     def __init__(self, subsystem: Subsystem, cntlid: int) -> None:
         super().__init__(subsystem, cntlid)
@@ -99,8 +99,8 @@ class RawHost(Host):
         return lines
 
     def new_place(self, command: Command) -> int:
-        """Where a queue goes that a command makes: its own page where it is not there yet, else a page that no other
-        has, since the command is refused."""
+        """The address of a queue that a command creates: its own page if it does not exist yet, else a page that no
+        other has, since the command is refused."""
         qid = command.double_word(10) & 0xffff
         is_submission = command.opcode == entries.CREATE_SUBMISSION
         there = self.queues.submission if is_submission else self.queues.completion
@@ -109,7 +109,7 @@ class RawHost(Host):
         return queues.submission_place(qid) if is_submission else queues.completion_place(qid)
 
     def carry_out(self, queue: SubmissionQueue, stores: List[str], seen: List[str]) -> Tuple[Completion, List[str]]:
-        """Stores, rings, fetches, executes, and takes the completion; and what the looking lines behind that show.
+        """Stores, rings, fetches, executes, and takes the completion; and the answers of the queries after that.
 
         The doorbell of a completion that was taken is rung with the next command, which spares a turn of its own."""
         c, cid = self.cntlid, self.next_cid
@@ -134,7 +134,7 @@ class RawHost(Host):
 
     def follow(self, command: Command, data: Data) -> None:
         """Keeps the queues that an admin command has made or deleted. One whose place was given as data is not used:
-        the data of the next command will lie there."""
+        the data of the next command will be there."""
         qid = command.double_word(10) & 0xffff
         size = (command.double_word(10) >> 16) + 1
         if command.opcode == entries.DELETE_SUBMISSION:

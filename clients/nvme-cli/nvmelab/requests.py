@@ -1,7 +1,7 @@
 """Commands as requests of a driver: the line of a script that says a command, or the status of one that none says.
 
 A driver makes its commands itself, so that a request has the fields that the subsystem looks at, and no others: what
-else stands in an entry says nothing to a raw host's controller either, and is left out. The data of a command reach to
+else is in an entry says nothing to a raw host's controller either, and is left out. The data of a command reach to
 the end of their last page, as those of a raw host do.
 """
 import struct
@@ -49,7 +49,7 @@ def check(is_said: bool) -> None:
 
 
 def moved(data: Data, length: int) -> bytes:
-    """The bytes that a command finds where its data lie, of which it moves so many."""
+    """The bytes that a command finds at its data pointer, of which it moves `length`."""
     check(length <= MOST_DATA)
     if length > len(data.padded):
         raise Unsaid(DATA_TRANSFER_ERROR)
@@ -106,7 +106,7 @@ def sets_protection(command: Command) -> bool:
     return command.double_word(10) & 0xff == entries.WRITE_PROTECTION and command.double_word(10) >> 31 == 0
 
 
-# The words of each request behind its controller.
+# The words of each request after its controller.
 
 
 def read(command: Command, data: Data) -> List[object]:
@@ -167,7 +167,7 @@ def protection(command: Command, data: Data) -> List[object]:
 
 
 def attachment(command: Command, data: Data) -> List[object]:
-    """SEL is in bits 3:0; the data are a Controller List, a page with a count and so many identifiers."""
+    """SEL is in bits 3:0; the data are a Controller List, a page with a count and as many identifiers."""
     sel = command.double_word(10) & 0xf
     check(sel in (ATTACH, DETACH))
     listed = moved(data, PAGE)

@@ -1,4 +1,4 @@
-"""The server of a lab: it runs the subsystem, and carries out the commands that the preloaded libraries send.
+"""The server of a lab: it runs the subsystem, and executes the commands that the preloaded libraries send.
 
 One command is under way at a time. Nothing that a client does or leaves undone stops the others: a message is read as
 it comes, and what is not whole when its connection ends is dropped.
@@ -37,7 +37,7 @@ ASK_AGAIN_SECONDS = 0.1
 JOINING_SECONDS = 5.0
 LONGEST_JOINING = 256
 ALL_HOSTS = "all"
-# What is said in the place of a host by who wants a power cycle, and what the answer is then.
+# Sent instead of a host to ask for a power cycle, and the answer to it.
 POWER_CYCLE, POWER_IS_BACK = "power-cycle", "power is back"
 
 
@@ -71,8 +71,8 @@ class Connection:
 
 @dataclass
 class Place:
-    """Where a lab lies: its folder, and the lock that those hold who join it. The folder is a later lab's where its
-    token is another."""
+    """The place of a lab: its folder, and the lock that all its processes hold. If its token differs, the folder is a
+    later lab's."""
     folder: Path
     lock: Path
     token: str
@@ -145,7 +145,7 @@ class Server:
     # Those who use the lab.
 
     def take_user(self, joining: socket.socket) -> None:
-        """Lets a process join: it says which host it is, and is told where its devices lie. The lab lasts as long as
+        """Lets a process join: it sends its host, and receives the path of its devices. The lab lasts as long as
         the last of these processes, whatever program each has become."""
         self.was_used = True
         try:
@@ -289,7 +289,7 @@ class Server:
 
 
 def changes_devices(command: entries.Command) -> bool:
-    """Whether what hosts find under /dev and /sys may be otherwise behind an admin command."""
+    """Whether an admin command may change what hosts find under /dev and /sys."""
     is_protection = command.double_word(10) & 0xff == entries.WRITE_PROTECTION
     return command.opcode == entries.ATTACHMENT or command.opcode == entries.SET_FEATURES and is_protection
 

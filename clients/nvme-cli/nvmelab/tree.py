@@ -53,7 +53,7 @@ class Identity:
 
     @property
     def subsystem(self) -> str:
-        """The subsystem's name. Where Identify has none Linux makes one of the other fields, and so does this."""
+        """The subsystem's name. If Identify has none, Linux makes one of the other fields, and so does this."""
         made = (f"nqn.2014.08.org.nvmexpress:{self.vendor:04x}{self.subsystem_vendor:04x}"
                 f"{self.serial.decode('ascii', 'replace')}{self.model.decode('ascii', 'replace')}")
         return self.nqn or made.rstrip(" ")
@@ -84,7 +84,7 @@ def attached(host: Host) -> List[int]:
 
 
 def write_files(folder: Path, lines: Dict[str, object]) -> None:
-    """Writes attributes, each with a line feed behind it; one that is there already is put in its place whole."""
+    """Writes attributes, each with a line feed; an existing one is replaced atomically."""
     folder.mkdir(parents=True, exist_ok=True)
     for name, value in lines.items():
         place = folder / name
@@ -95,7 +95,7 @@ def write_files(folder: Path, lines: Dict[str, object]) -> None:
 
 
 class View:
-    """The devices of one host, which are numbered from 0."""
+    """The devices of one host, numbered from 0."""
 
     def __init__(self, folder: Path, hosts: List[Host]) -> None:
         self.folder = folder
@@ -149,7 +149,7 @@ class View:
             self.shown[number] = set(now)
 
     def show_registers(self, number: int, host: Host) -> None:
-        """The registers, as the file that stands for them under /sys has them."""
+        """The registers, as their file under /sys has them."""
         place = self.classes("nvme") / f"nvme{number}" / "device" / "resource0"
         place.parent.mkdir(exist_ok=True)
         content = bytearray(REGISTER_BYTES)

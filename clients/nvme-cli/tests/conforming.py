@@ -1,4 +1,4 @@
-"""Trials of `python3 -m nvmesim conform`: the lab's devices beside the model, and wrong devices beside it."""
+"""Trials of `python3 -m nvmesim conform`: the lab's devices compared with the model, and wrong devices."""
 import sys
 from typing import List
 
@@ -28,7 +28,7 @@ def same(bench: Bench) -> None:
             done = conform(bench, [*words, "--destroy-data", "--scenes", "6"], options)
             check_is(f"{words} with {options}, which says {done.output!r} and {done.errors!r},", done.status, 0)
             if "no difference in 6 scenes of 40 commands" not in done.output:
-                raise Fault(f"{done.output!r} tells no end")
+                raise Fault(f"{done.output!r} has no end")
 
 
 def careful(bench: Bench) -> None:
@@ -59,12 +59,12 @@ def careful(bench: Bench) -> None:
 
 
 def wrong(bench: Bench) -> None:
-    """Each wrong device is told from the model."""
+    """Each wrong device is distinguished from the model."""
     done = bench.run([sys.executable, str(HERE / "wrong_devices.py")])
     check_is(f"the end of the wrong devices, with {done.errors!r},", done.status, 0)
     found = [it for it in done.output.splitlines() if it.startswith("# ") and " differs, " in it]
     if len(found) < 20:
-        raise Fault(f"{len(found)} wrong devices, and 20 are wanted at least")
+        raise Fault(f"{len(found)} wrong devices, and at least 20 are expected")
 
 
 TRIALS = (same, careful, wrong)

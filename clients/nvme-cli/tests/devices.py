@@ -60,7 +60,8 @@ def commands(bench: Bench) -> None:
 
 
 def requests(bench: Bench) -> None:
-    """The same by requests of drivers: of both hosts, and of one beside a raw host. Who joins need not ask for them."""
+    """The same by requests of drivers: of both hosts, and of one next to a raw host. Those who join need not ask for
+    them."""
     mixed = bench.place / "mixed.nvme"
     mixed.write_text(CONFIG.read_text().replace("host 0xb2", "host 0xb2 raw"))
     for config in (CONFIG, mixed):
@@ -102,7 +103,7 @@ def killed_clients(bench: Bench) -> None:
 
 
 def pulled(bench: Bench, kill) -> None:
-    """Kills what lies behind a device that is open, and looks what then becomes of it."""
+    """Kills the server of an open device, and checks what then becomes of it."""
     process = bench.begin(["sh", "-c", f"{bench.client} gone /dev/nvme0n1; echo $?; {bench.client} gone /dev/nvme0n1"])
     check_is("the client's word", process.stdout.readline(), "open\n")
     server = server_of(view_of(process.pid))
@@ -110,7 +111,7 @@ def pulled(bench: Bench, kill) -> None:
     wait_until("the server to end", lambda: not os.path.exists(f"/proc/{server}"))
     output, errors = process.communicate("\n", timeout=30)
     check_is("the status of a command", output, "3\n")
-    # The node of a device goes with the lab's folder, which a server that is killed leaves behind.
+    # The node of a device goes with the lab's folder, which a killed server leaves.
     is_refused = "No such device or address" in errors or "No such file or directory" in errors
     if "flush: No such device\n" not in errors or not is_refused:
         raise Fault(f"a device whose server is gone says {errors!r}")

@@ -19,7 +19,7 @@ ORDINARY = (
 )
 
 
-# Each CONFIG that is refused, and what is said behind its name and a colon.
+# Each CONFIG that is refused, and what is said after its name and a colon.
 REFUSED = (
     ("", "1:1: there is no controller; add a line 'controller 1 host 1'"),
     ("controller 1 host 1\nnamespace 1 blocks 0 shared\n", "2:1: namespace 1 has no blocks"),
@@ -228,7 +228,7 @@ def expect_fault(bench: Bench, words: "list[str]", text: str, status: int = 125,
 
 
 def power_cycles(bench: Bench) -> None:
-    """A power cycle needs a lab that runs; each is a line of its script, and the devices go on behind it."""
+    """A power cycle needs a lab that runs; each is a line of its script, and the devices continue after it."""
     def cycled(*words: str) -> "tuple[int, str]":
         done = bench.run_words([str(bench.lab), "--power-cycle", *words])
         return done.status, done.errors + done.output
@@ -315,7 +315,7 @@ def without_compiler(bench: Bench) -> None:
 
 
 def without_python(bench: Bench) -> None:
-    """A machine without Python is told so."""
+    """Without Python there is a message."""
     tools = bench.place / "tools"
     tools.mkdir()
     for tool in ("bash", "dirname", "realpath"):

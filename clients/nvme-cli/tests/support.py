@@ -134,7 +134,7 @@ def view_of(process: int) -> Path:
 
 
 def server_of(view: Path) -> int:
-    """The process that listens behind a view's socket."""
+    """The process that listens at a view's socket."""
     with socket.socket(socket.AF_UNIX, socket.SOCK_STREAM) as stream:
         stream.connect(str(view / "socket"))
         return struct.unpack("3i", stream.getsockopt(socket.SOL_SOCKET, socket.SO_PEERCRED, 12))[0]

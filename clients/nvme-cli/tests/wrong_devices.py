@@ -53,7 +53,7 @@ def is_admin(command: Command, opcode: int) -> bool:
 
 
 def status(opcode: int, found: str, told: str, admin: bool = False) -> Fault:
-    """Tells another status in the place of one."""
+    """Returns another status instead of one."""
     def fault(wrong: Wrong, command: Command) -> Optional[Answer]:
         if command.is_admin is not admin or command.opcode != opcode:
             return None
@@ -64,12 +64,12 @@ def status(opcode: int, found: str, told: str, admin: bool = False) -> Fault:
 
 
 def altered(opcode: int, change: Callable[[Command], Command]) -> Fault:
-    """Carries another command out in the place of one."""
+    """Executes another command instead of one."""
     return lambda wrong, command: wrong.device.submit(change(command)) if is_io(command, opcode) else None
 
 
 def of_report(change: Callable[[bytearray], None]) -> Fault:
-    """Tells another report."""
+    """Returns another report."""
     def fault(wrong: Wrong, command: Command) -> Optional[Answer]:
         if not is_io(command, REPORT):
             return None
@@ -179,9 +179,9 @@ FAULTS: Dict[str, Fault] = {
     "Write Zeroes zeroes one block more": altered(ZEROES, lambda it: replace(it, cdw12=it.cdw12 + 1)),
     "each Compare succeeds": status(COMPARE, "2:85", "0:00"),
     "a Compare that fails is a fault of the medium": status(COMPARE, "2:85", "2:81"),
-    "one block behind the end can be read": end_is_further,
-    "a range behind the end is an invalid field": status(WRITE, "0:80", "0:02"),
-    "a fenced Write is told as carried out": status(WRITE, "0:83", "0:00"),
+    "one block after the end can be read": end_is_further,
+    "a range after the end is an invalid field": status(WRITE, "0:80", "0:02"),
+    "a fenced Write is reported as done": status(WRITE, "0:83", "0:00"),
     "a fenced Write reaches the disk": fenced_write,
     "a fenced Read is let through": status(READ, "0:83", "0:00"),
     "a Flush is never fenced": status(FLUSH, "0:83", "0:00"),
@@ -195,8 +195,8 @@ FAULTS: Dict[str, Fault] = {
     "Release takes any type": any_type,
     "Clear leaves the registrants": clear_leaves,
     "a report lacks its last registrant": of_report(cut),
-    "a report tells no holder": of_report(no_holder),
-    "the generation stands still": of_report(still_generation),
+    "a report has no holder": of_report(no_holder),
+    "the generation does not change": of_report(still_generation),
     "a report does not tell what persists": of_report(not_persistent),
     "write protection is not set": dropped_protection,
     "write protection is not told": protection_is_off,
@@ -222,7 +222,7 @@ def find(name: str, devices: List[Device], hosts: List[Abilities]) -> bool:
             if not try_script(read_test(name, script)).is_good:
                 print(f"{name}: the model does not answer its script as it was said", file=sys.stderr)
                 return False
-        print(f"# {name}: {found.step.verb} differs, {found.device[0]} and {found.model[0]}, behind {len(found.steps)} "
+        print(f"# {name}: {found.step.verb} differs, {found.device[0]} and {found.model[0]}, after {len(found.steps)} "
               f"commands of scene {seed}, {judge.runs} runs, {time.monotonic() - begun:.1f} seconds", flush=True)
         return True
     print(f"{name}: not found in {MOST_SCENES} scenes", file=sys.stderr)

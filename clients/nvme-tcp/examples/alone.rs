@@ -1,5 +1,5 @@
-//! The subsystem without a network: the events of a command of the target, as many as it takes. What the target takes
-//! beside a server that asks nobody is that, and what it does around it. `alone BYTES read|write SECONDS`.
+//! The subsystem without a network: all events of a command of the target. The target takes this time, and that of its
+//! own work around it, longer than a server that judges no command. `alone BYTES read|write SECONDS`.
 #![deny(unsafe_code)]
 
 #[allow(dead_code)]
@@ -18,7 +18,7 @@ const BLOCKS: u64 = 32768;
 const ENTRIES: u64 = 64;
 const DOORBELLS: u64 = 0x1000;
 
-/// A queue whose commands are carried out one after the other.
+/// A queue whose commands are executed one after the other.
 struct Queue<'a> {
     subsystem: Subsystem<'a>,
     qid: u16,

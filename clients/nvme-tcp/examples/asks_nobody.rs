@@ -1,6 +1,6 @@
-//! A server that answers the same bytes as the target, and asks nobody: it keeps blocks in memory, and judges no command.
-//! What the target takes beside it is what the subsystem takes. It believes what `load` sends. `asks_nobody ADDRESS
-//! [nothing]`; with that word it keeps no blocks, reads are of zeros, and writes go nowhere.
+//! A server that answers the same bytes as the target, keeps blocks in memory, and judges no command. The difference to
+//! the target is the cost of the subsystem. It trusts what `load` sends. `asks_nobody ADDRESS [nothing]`; with that word
+//! it keeps no blocks, reads are of zeros, and writes are dropped.
 #![deny(unsafe_code)]
 
 #[allow(dead_code)]
@@ -45,7 +45,7 @@ impl Blocks {
         }
     }
 
-    /// What stands at a place.
+    /// The bytes of a place.
     fn read(&self, place: usize, room: &mut [u8]) {
         match self.0.get(place..place + room.len()) {
             Some(blocks) => room.copy_from_slice(blocks),

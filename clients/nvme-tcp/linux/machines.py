@@ -6,9 +6,9 @@ import subprocess
 import time
 from pathlib import Path
 
-# Where a guest finds the machine that it runs on.
+# The address at which a guest reaches the machine that it runs on.
 ADDRESS = "10.0.2.2"
-# How long a guest may take to boot, and a line to be carried out.
+# Time limits for a guest to boot, and for a line.
 BOOT, LINE = 180, 120
 
 
@@ -62,7 +62,7 @@ class Guest:
         self.process.stdin.write(line.encode() + b"\n")
 
     def run(self, line: str, seconds: float = LINE) -> str:
-        """Carries a line out; what it has printed, which is shown behind the prompt."""
+        """Executes a line; its output, which is shown after the prompt."""
         self.type(line)
         return self.ended(seconds)
 

@@ -51,7 +51,7 @@ def discover(it: Stage, a: Guest) -> None:
     text = a.run(f"nvme discover {words} | head -n 12")
     it.wants("discovery finds the subsystem", "nqn.2024-01.example:suvmileh" in text)
     text = a.run(f"nvme discover {words.replace('$me', STRANGER)}; echo status $?")
-    it.wants("and tells it nobody who is not listed", "subnqn" not in text)
+    it.wants("and does not answer a host that is not listed", "subnqn" not in text)
     text = a.run(f"nvme connect-all {words} --dhchap-secret={SECRETS['a1']}; sleep 2; ls /dev/nvme*n1")
     it.wants("connect-all connects to it", "qid 0: authenticated" in text and "n1" in text.splitlines()[-1])
     a.run("nvme disconnect -n $nqn")

@@ -1,8 +1,8 @@
 """Bytes of Linux: what guests and a target say, as a text that is played again without guests.
 
-A line says who speaks: `N > COUNT` that the host of connection N sends so many bytes, `N < COUNT` that the target does,
-`N .` that the host closes the connection. The bytes stand in the lines behind it, in hexadecimal, blanks between words;
-`0*COUNT` is so many zeros.
+A line says who speaks: `N > COUNT` that the host of connection N sends COUNT bytes, `N < COUNT` that the target does,
+`N .` that the host closes the connection. The bytes are in the lines after it, in hexadecimal, blanks between words;
+`0*COUNT` is COUNT zeros.
 """
 import contextlib
 import re
@@ -61,7 +61,7 @@ def events_of(text: str) -> List[Event]:
 
 
 class Recorder:
-    """Stands between hosts and a target, and writes down what they say."""
+    """Relays between hosts and a target, and records the bytes."""
 
     def __init__(self, port: int) -> None:
         self.target, self.events, self.lock, self.count = port, [], threading.Lock(), 0

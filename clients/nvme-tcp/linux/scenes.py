@@ -24,7 +24,7 @@ def write(text: str, device: str = "nvme0n1") -> str:
 
 
 def config(blocks: int, *hosts: str) -> str:
-    """A disk of so many blocks, which these hosts share."""
+    """A disk of `blocks` blocks, which these hosts share."""
     lines = [f"controller {n} host 0x{host}" for n, host in enumerate(hosts, 1)]
     return "\n".join([*lines, f"namespace 1 blocks {blocks} shared",
                       *[f"attached {n} 1" for n in range(1, len(hosts) + 1)]]) + "\n"
@@ -91,7 +91,7 @@ class Stage:
             self.faults.append(what)
 
     def hold(self, guest: Guest, line: str) -> None:
-        """Has a line of the first host under way: its command is fetched, and not executed."""
+        """Starts a line of the first host, whose command is fetched but not executed."""
         self.ask("hold 1")
         guest.type(line)
         self.wait_until_held()
@@ -201,7 +201,7 @@ def by_calls(it: Stage, a: Guest, b: Guest) -> None:
     it.wants("a1 is fenced", FENCED in a.run(write("written by a1, fenced")))
     a.run("echo buffered >/room/y")
     text = a.run("dd if=/room/y of=/dev/nvme0n1 bs=512 seek=9 count=1 conv=fsync,notrunc 2>&1 | grep -v records")
-    it.wants("behind the page cache, fsync says so", "fsync failed" in text)
+    it.wants("through the page cache, fsync fails", "fsync failed" in text)
 
 
 def over_a_power_cycle(it: Stage, a: Guest, b: Guest) -> None:
@@ -210,9 +210,9 @@ def over_a_power_cycle(it: Stage, a: Guest, b: Guest) -> None:
     a.rest(1)
     b.rest(1)
     it.wants("both come back", all("live" in guest.run(LIVELY).split("state")[-1] for guest in (a, b)))
-    it.wants("a1 is still fenced", FENCED in a.run(write("written by a1, fenced, behind the power cycle")))
-    b.run(write("written by b2, behind the power cycle"))
-    it.wants("b2 writes", "behind the power cycle" in a.run(READ))
+    it.wants("a1 is still fenced", FENCED in a.run(write("written by a1, fenced, after the power cycle")))
+    b.run(write("written by b2, after the power cycle"))
+    it.wants("b2 writes", "after the power cycle" in a.run(READ))
     say("a1 comes back: it registers, preempts and aborts")
     a.run("pr register /dev/nvme0n1 0 0xa2")
     a.run("pr preempt-abort /dev/nvme0n1 0xa2 0xb 3")
@@ -341,7 +341,7 @@ def restart(built: Path, folder: Path) -> None:
                      "cmp /disk/before /init && cmp /disk/behind /bin/busybox && echo the same; umount /disk")
         it.wants("all files are there", "the same" in text and "clean" not in text.lower().split("e2fsck")[0])
         b.run(LIVELY)
-        it.wants("b2 is still fenced", FENCED in b.run(write("written by b2, behind the restart")))
+        it.wants("b2 is still fenced", FENCED in b.run(write("written by b2, after the restart")))
 
 
 def verify(built: Path, folder: Path) -> None:
@@ -409,7 +409,7 @@ def nvme_cli(built: Path, folder: Path) -> None:
 
 
 def paths(built: Path, folder: Path) -> None:
-    """Two paths of one host, of which ctl takes one away: Linux goes on by the other."""
+    """Two paths of one host, of which ctl takes one away: Linux continues by the other."""
     with stage(built, folder, 2048, "a1", "a1") as it:
         a = it.connected("a1")
         a.run(f"echo transport=tcp,traddr={ADDRESS},trsvcid={it.port},nqn=$nqn,hostnqn=nqn.2024-01.example:a1,"

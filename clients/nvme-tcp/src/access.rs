@@ -1,5 +1,5 @@
-//! Asymmetric Namespace Access: how well the namespaces are reached by a controller, which `ctl` sets. All namespaces are
-//! one group, so that a path has one state.
+//! Asymmetric Namespace Access: how well the namespaces are reached by a controller, which `ctl` sets. All namespaces
+//! are one group, so that a path has one state.
 
 use crate::bytes::put;
 use crate::target::Target;
@@ -32,7 +32,7 @@ impl Access {
 }
 
 impl Target<'_> {
-    /// `ana C STATE`: sets the state of a controller, which its host is told. Nothing if there is no such state.
+    /// `ana C STATE`: sets the state of a controller and notifies its host. `None` if there is no such state.
     pub fn set_access(&mut self, index: usize, word: &str) -> Option<()> {
         let access = Access::of(word)?;
         if self.access[index] != access {
@@ -46,7 +46,7 @@ impl Target<'_> {
         Some(())
     }
 
-    /// Log Page 0Ch: the group, with its namespaces unless groups alone are wanted.
+    /// Log Page 0Ch: the group, with its namespaces unless only groups are requested.
     pub fn access_page(&mut self, index: usize, is_of_groups: bool) -> Vec<u8> {
         let cntlid = self.controllers[index].cntlid;
         let mut nsids: Vec<u32> =

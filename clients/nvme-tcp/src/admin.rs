@@ -17,7 +17,7 @@ use crate::target::{Effect, Target};
 const NOT_ABORTED: u32 = 1;
 
 impl Target<'_> {
-    /// Carries out an admin command. It has no answer yet where it waits for an event.
+    /// Executes an admin command. One that waits for an event has no answer yet.
     pub fn admin(&mut self, index: usize, entry: &[u8; ENTRY], data: Data<'_>) -> Outcome<Option<Answer>> {
         let answer = match entry[0] {
             // Fabrics has Connect and Disconnect in their place.
@@ -29,7 +29,7 @@ impl Target<'_> {
                 Answer::of(SUCCESS)
             }
             ASYNCHRONOUS_EVENT_REQUEST => return self.request_event(index, u16_at(entry, 2)),
-            // Commands end before the next one is heard of, but for those that wait for an event, or are held.
+            // A command ends before the next one is received, except those that wait for an event or are held.
             ABORT => Answer { dw0: NOT_ABORTED, ..Answer::of(SUCCESS) },
             IDENTIFY => self.identify(index, entry, data)?,
             GET_LOG_PAGE => self.get_log_page(index, entry, asked(data))?,
@@ -61,7 +61,7 @@ impl Target<'_> {
         Ok(None)
     }
 
-    /// Tells the controllers of a list that a namespace was attached to them, or detached.
+    /// Notifies the controllers of a list that a namespace was attached or detached.
     fn tell_attachments(&mut self, nsid: u32, list: &[u8]) {
         let count = list.get(..2).map_or(0, |head| usize::from(u16_at(head, 0)));
         for cntlid in list.chunks_exact(2).skip(1).take(count).map(|it| usize::from(u16_at(it, 0))) {
@@ -98,7 +98,7 @@ fn request_entry(cid: u16) -> [u8; ENTRY] {
     entry
 }
 
-/// How many bytes a command's host has room for.
+/// The length of the host's buffer for a command's data.
 fn asked(data: Data<'_>) -> usize {
     match data {
         Data::FromController(length) => length,

@@ -9,7 +9,7 @@ pub enum Payload {
     None,
     /// These bytes.
     Bytes(Vec<u8>),
-    /// Bytes that lie in the memory of a controller's host.
+    /// Bytes in the memory of a controller's host.
     Memory {
         cntlid: u16,
         address: u64,

@@ -1,21 +1,20 @@
-//! A file that is written from its beginning to its end. The system reserves room for it ahead, so that it need not find
-//! a place on the disk for each page as it is written: that takes less time. The file is never longer than what was
-//! written, and room that is left over is given back.
+//! A file that is written from its beginning to its end. Disk space is reserved ahead, since finding a place for each
+//! page as it is written takes longer. The file is never longer than what was written, and unused space is released.
 
 use crate::system::reserve;
 use std::fs::File;
 use std::io::{self, ErrorKind, IoSlice, Write};
 
-/// Room is reserved for as many bytes as a file has, but for these at most; and for none where it has fewer than those.
+/// A file reserves as many bytes as it has: at most the second number, and none if it has fewer than the first.
 const MOST: u64 = 64 << 20;
 const LEAST: u64 = 1 << 20;
 
-/// A file, and the room that it has.
+/// A file with its reserved space.
 pub struct Appended {
     file: File,
     /// How many bytes were written.
     length: u64,
-    /// Where the room ends that was reserved.
+    /// The end of the reserved space.
     reserved: u64,
     /// Whether more may be: no file that the system has refused it asks again.
     takes_room: bool,
@@ -28,7 +27,7 @@ impl Appended {
         Ok(Appended { file, length: 0, reserved: 0, takes_room })
     }
 
-    /// Writes bytes behind the others.
+    /// Appends bytes.
     pub fn append(&mut self, bytes: &[u8]) -> io::Result<()> {
         self.make_room(bytes.len() as u64);
         self.file.write_all(bytes)?;
@@ -36,7 +35,7 @@ impl Appended {
         Ok(())
     }
 
-    /// Writes bytes behind the others, and behind them others that lie elsewhere.
+    /// Appends bytes, and then others from a second slice.
     pub fn append_both(&mut self, first: &[u8], then: &[u8]) -> io::Result<()> {
         if then.is_empty() {
             return self.append(first);
@@ -53,7 +52,7 @@ impl Appended {
         Ok(())
     }
 
-    /// Gives back room, and has the disk hold all bytes. A pipe has no disk.
+    /// Releases unused space and syncs the file. A pipe has no disk.
     pub fn sync(&mut self) -> io::Result<()> {
         self.give_back();
         match self.file.sync_all() {
@@ -67,8 +66,8 @@ impl Appended {
         self.length
     }
 
-    /// Has room reserved, if it is time, for so many bytes and those behind them. Where the system refuses that, the file
-    /// does without.
+    /// Reserves space for `count` more bytes and some after them, if it is due. The file works without it if the
+    /// system refuses.
     fn make_room(&mut self, count: u64) {
         let (place, room) = match wanted(self.length, count, self.reserved) {
             Some(wanted) if self.takes_room => wanted,
@@ -81,7 +80,7 @@ impl Appended {
         }
     }
 
-    /// Gives back the room that nothing was written to. Where the system refuses that, the file keeps it.
+    /// Releases the space that nothing was written to, unless the system refuses.
     pub fn give_back(&mut self) {
         if self.reserved > self.length {
             let _ = self.file.metadata().and_then(|it| self.file.set_len(it.len()));
@@ -96,8 +95,8 @@ impl Drop for Appended {
     }
 }
 
-/// Where room is to be reserved, and for how many bytes, before so many are written to a file of a length, whose room
-/// ends at a place.
+/// Position and length of the space to reserve before `count` bytes are appended to a file of `length` bytes, whose
+/// space ends at `reserved`.
 fn wanted(length: u64, count: u64, reserved: u64) -> Option<(u64, u64)> {
     let place = length.max(reserved);
     if length < LEAST || length + count <= place {

@@ -82,7 +82,7 @@ pub struct Association {
     /// The connection of each queue, that of the admin queue first.
     pub queues: [Option<ConnectionId>; QUEUES],
     pub admin_entries: u16,
-    /// How long it lives without a Keep Alive, in seconds; for ever where this is 0.
+    /// Keep Alive Timeout in seconds; 0 is none.
     keep_alive_seconds: u32,
     heard: Instant,
     pub events: Events,
@@ -131,7 +131,7 @@ impl Association {
     }
 
     pub fn is_expired(&self, now: Instant) -> bool {
-        // The timer has a second more than was asked for, since it is looked at now and then.
+        // The timer has a second more than the host's timeout, since timeouts are checked at intervals.
         let patience = Duration::from_secs(u64::from(self.keep_alive_seconds) + 1);
         self.keep_alive_seconds != 0 && now.saturating_duration_since(self.heard) > patience
     }

@@ -168,7 +168,7 @@ enum Step {
 pub enum Taken {
     /// The next message to the host is ready.
     Ready,
-    /// The next message needs this work, whose result goes to `finish`.
+    /// The next message needs this computation, whose result goes to `finish`.
     Work(Work),
     /// Host and controller have authenticated each other.
     Proved,

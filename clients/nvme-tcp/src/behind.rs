@@ -1,6 +1,6 @@
-//! Files that are written by threads of their own, while that of the target does what is next. Pieces go to them in their
-//! order: what a thread can do before, it does while another writes. Whoever has begun a piece learns when the system
-//! has it.
+//! Writes files by threads of their own, in order, while the target's thread continues. A thread can prepare one batch
+//! while another thread writes. Each batch has a number, and callers can wait until the system has all batches up to
+//! it.
 
 use std::collections::{BTreeMap, VecDeque};
 use std::io;
@@ -10,19 +10,19 @@ use std::sync::{Arc, Condvar, Mutex, MutexGuard, PoisonError};
 use std::thread::{self, JoinHandle};
 use std::time::Duration;
 
-/// How many pieces are under way at most.
+/// The most batches that are begun and not written.
 const MOST: u64 = 8;
-/// A piece of fewer bytes is written at once, where no other is under way: that is quicker than to wake a thread.
+/// A smaller batch is written at once if no other is in progress: that is faster than to wake a thread.
 const SMALL: usize = 16 << 10;
-/// At the end it is looked so often, and with such a pause, whether the system has all pieces.
+/// Number of polls at the end for unwritten batches, and the delay between them.
 const LOOKS: usize = 100;
 const PAUSE: Duration = Duration::from_millis(10);
-/// In the place of how many pieces were written: one could not be.
+/// Replaces the number of written batches after a failed write.
 const FAILED: u64 = u64::MAX;
 
-/// Bytes, and where they go.
+/// A batch of bytes, and where they go.
 pub trait Piece: Default + Send + 'static {
-    /// The files that they go to. Whoever writes has them alone.
+    /// The files. One thread writes at a time.
     type Files: Send + 'static;
     /// What is made of them before they are written. It is kept, and what was made before is written over.
     type Made: Default + Send;
@@ -33,36 +33,35 @@ pub trait Piece: Default + Send + 'static {
     /// Makes of them what is written, while others are written.
     fn make(&self, made: &mut Self::Made);
 
-    /// Hands the first of them to the system, as many as go well without what is behind them.
+    /// Writes the beginning of a batch, up to a place at which writes are fast.
     fn write_first(&self, _made: &Self::Made, _files: &mut Self::Files) -> io::Result<()> {
         Ok(())
     }
 
-    /// Hands the others to the system, and leaves none. What was made of the next piece by then, if there is one, may go
-    /// with them in part.
+    /// Writes the rest of a batch. If the next batch is prepared by then, part of it may be written too.
     fn write(&mut self, made: &Self::Made, next: Option<&Self::Made>, files: &mut Self::Files) -> io::Result<()>;
 }
 
-/// The pieces that no thread has taken yet, by how many there were before, and whether there will be no more.
+/// The batches that no thread has taken yet, by their numbers, and whether these are the last.
 struct Given<P> {
     pieces: VecDeque<(u64, P)>,
     is_over: bool,
 }
 
-/// The pieces that were made, and whether one is being written.
+/// The prepared batches, and whether one is being written.
 struct Turn<P: Piece> {
-    /// By how many pieces there were before.
+    /// By number.
     made: BTreeMap<u64, (P, P::Made)>,
-    /// How many pieces were taken to be written.
+    /// Number of batches that were taken to be written.
     taken: u64,
-    /// How many pieces were written.
+    /// Number of batches written.
     written: u64,
-    /// So many pieces are to be written until the target's thread goes on, if it waits.
+    /// The number of written batches for which the target's thread waits.
     awaited: Option<u64>,
     /// Whether a thread writes. It writes the next ones too, if they were made by then.
     is_writing: bool,
     has_failed: bool,
-    /// Why a piece could not be written, until it is told.
+    /// Why a batch could not be written, until the target takes it.
     failure: Option<io::Error>,
     /// Memory of what was written.
     spare: Vec<P>,
@@ -84,27 +83,27 @@ impl<P: Piece> Turn<P> {
         }
     }
 
-    /// The piece whose turn it is to be written, if it was made.
+    /// The next batch in order, if it is prepared.
     fn next(&mut self) -> Option<(P, P::Made)> {
         let next = self.made.remove(&self.taken);
         self.taken += u64::from(next.is_some());
         next
     }
 
-    /// Whether the target's thread goes on that waits for so many pieces.
+    /// Whether to wake the target's thread, which waits for `count` batches.
     fn has(&self, count: u64) -> bool {
         self.has_failed || self.written >= count
     }
 }
 
-/// The pieces that are on their way, and the files.
+/// The batches in progress, and the files.
 struct Way<P: Piece> {
     given: Mutex<Given<P>>,
     has_more: Condvar,
     turn: Mutex<Turn<P>>,
-    /// The pieces for which the target's thread waits were written.
+    /// Signals that the batches for which the target's thread waits are written.
     has_awaited: Condvar,
-    /// How many pieces were written, or that one could not be: what the target's thread sees without a lock.
+    /// Number of batches written, or `FAILED`: read by the target's thread without a lock.
     written: AtomicU64,
     files: Mutex<P::Files>,
 }
@@ -114,19 +113,19 @@ impl<P: Piece> Way<P> {
         self.given.lock().unwrap_or_else(PoisonError::into_inner)
     }
 
-    /// Has a thread take a piece.
+    /// Wakes a thread for a batch.
     fn give(&self, number: u64, piece: P) {
         self.given().pieces.push_back((number, piece));
         self.has_more.notify_one();
     }
 
-    /// Has the threads end when all pieces were taken.
+    /// Ends the threads when all batches are taken.
     fn end(&self) {
         self.given().is_over = true;
         self.has_more.notify_all();
     }
 
-    /// The next piece, and how many there were before. There is none when the target ends.
+    /// The next batch and its number; `None` when the target ends.
     fn next(&self) -> Option<(u64, P)> {
         let waited = self.has_more.wait_while(self.given(), |given| given.pieces.is_empty() && !given.is_over);
         waited.unwrap_or_else(PoisonError::into_inner).pieces.pop_front()
@@ -140,7 +139,7 @@ impl<P: Piece> Way<P> {
         self.files.lock().unwrap_or_else(PoisonError::into_inner)
     }
 
-    /// Takes pieces, makes them and has them written, until the target ends.
+    /// Takes batches, prepares them and writes them, until the target ends.
     fn serve(&self) {
         while let Some((number, piece)) = self.next() {
             let mut made = self.turn().spare_made.pop().unwrap_or_default();
@@ -153,13 +152,13 @@ impl<P: Piece> Way<P> {
         }
     }
 
-    /// Writes the pieces whose turn it is, and those that are made meanwhile. So a thread that makes pieces need not wait
-    /// for another that writes, and the one that writes goes on without being woken.
+    /// Writes the batches that are next in order, and those that are prepared meanwhile. So a thread that prepares
+    /// batches never waits for one that writes, and the one that writes continues without being woken.
     fn write<'w>(&'w self, mut turn: MutexGuard<'w, Turn<P>>) {
         turn.is_writing = true;
         let mut next = turn.next();
         while let Some((mut piece, made)) = next {
-            // None is written behind one that could not be.
+            // After a failed write nothing is written.
             let has_failed = turn.has_failed;
             drop(turn);
             let mut result = if has_failed {
@@ -180,7 +179,7 @@ impl<P: Piece> Way<P> {
         turn.is_writing = false;
     }
 
-    /// A piece was written, or could not be.
+    /// A batch was written, or could not be.
     fn tell(&self, turn: &mut Turn<P>, result: io::Result<()>) {
         match result {
             Ok(()) => {
@@ -201,17 +200,17 @@ impl<P: Piece> Way<P> {
     }
 }
 
-/// Files, and the pieces that are on their way to them.
+/// Files and the batches on their way to them.
 pub struct Behind<P: Piece> {
     way: Arc<Way<P>>,
     threads: Vec<JoinHandle<()>>,
     made: P::Made,
-    /// How many pieces were begun.
+    /// Number of batches begun.
     begun: u64,
 }
 
 impl<P: Piece> Behind<P> {
-    /// Files that are written by so many threads with this name.
+    /// Starts `threads` threads with this name that write the files.
     pub fn new(name: &str, threads: usize, files: P::Files) -> io::Result<Self> {
         let given = Mutex::new(Given { pieces: VecDeque::new(), is_over: false });
         let (turn, files, written) = (Mutex::new(Turn::new()), Mutex::new(files), AtomicU64::new(0));
@@ -225,13 +224,13 @@ impl<P: Piece> Behind<P> {
         Ok(Behind { way, threads, made: P::Made::default(), begun: 0 })
     }
 
-    /// Does something with the files, behind the piece that is being written.
+    /// Calls a function with the files, after the batch that is being written.
     pub fn with_files<R>(&self, act: impl FnOnce(&mut P::Files) -> R) -> R {
         act(&mut self.way.files())
     }
 
-    /// Has a piece written behind all others, and empties it: now, or a little later. It was written once so many pieces
-    /// are done as were begun by then. `is_awaited` says that nothing is done before it was written.
+    /// Writes a batch after all others and empties it: now, or a little later. It is written once the number of written
+    /// batches is `begun()`. With `is_awaited` the caller waits for it next.
     pub fn begin(&mut self, piece: &mut P, is_awaited: bool) -> io::Result<()> {
         if (is_awaited || piece.size() < SMALL) && self.under_way()? == 0 {
             piece.make(&mut self.made);
@@ -240,7 +239,7 @@ impl<P: Piece> Behind<P> {
         self.send(piece)
     }
 
-    /// Has a piece written behind all others by a thread, and empties it.
+    /// Gives a batch to a thread and empties it.
     pub fn send(&mut self, piece: &mut P) -> io::Result<()> {
         if self.under_way()? == MOST {
             self.wait_for(self.begun - MOST + 1)?;
@@ -251,7 +250,7 @@ impl<P: Piece> Behind<P> {
         Ok(())
     }
 
-    /// How many pieces were begun.
+    /// Number of batches begun.
     pub fn begun(&self) -> u64 {
         self.begun
     }
@@ -269,7 +268,7 @@ impl<P: Piece> Behind<P> {
         Ok(self.begun - self.done()?)
     }
 
-    /// Waits until the system has so many pieces, which were begun.
+    /// Waits until `count` batches are written.
     pub fn wait_for(&self, count: u64) -> io::Result<()> {
         if self.done()? < count {
             let mut turn = self.way.turn();
@@ -281,7 +280,7 @@ impl<P: Piece> Behind<P> {
 }
 
 impl<P: Piece> Drop for Behind<P> {
-    /// Closes the files, unless the system takes more than a second for what is under way.
+    /// Closes the files, unless batches in progress take longer than a second.
     fn drop(&mut self) {
         let mut looks = 0..LOOKS;
         while self.under_way().map_or(false, |count| count != 0) {
@@ -341,7 +340,7 @@ mod tests {
         fs::remove_file(path).unwrap();
     }
 
-    /// A byte, which is put behind others. That of 7 can't be written.
+    /// Appends a byte. A 7 can't be written.
     #[derive(Default)]
     struct Byte(u8);
 
@@ -376,7 +375,7 @@ mod tests {
         assert_eq!(*files.lock().unwrap(), [5, 6]);
     }
 
-    /// Numbers, which tell how they are written: the first of a piece by itself, and then it before the next.
+    /// Numbers that show how they are written: the first of a batch alone, then it with the next ones.
     #[derive(Default)]
     struct Number(u64);
 

@@ -9,7 +9,7 @@ use std::fs::File;
 use std::io::{self, Read};
 use std::path::Path;
 
-/// The most bytes of a text, and one, which the library refuses.
+/// One more than the longest text that the library accepts.
 const MOST_TEXT: u64 = (4 << 20) + 1;
 
 /// A subsystem as CONFIG describes it. Its hosts have no drivers, since Linux is theirs.
@@ -28,7 +28,7 @@ pub fn text_of(path: &Path) -> io::Result<Vec<u8>> {
 }
 
 impl Configuration {
-    /// Reads a text, and judges it for an image of so many blocks. The error begins with the line and the column.
+    /// Reads a text, and checks it for an image of `blocks` blocks. The error begins with line and column.
     pub fn read(text: &[u8], blocks: u64) -> Result<Configuration, String> {
         let mut config = read_configuration(text, blocks).map_err(|error| told(text, &error))?;
         config.controllers.iter_mut().for_each(|it| it.raw = true);
@@ -52,7 +52,7 @@ impl Configuration {
         self.config.namespaces.iter().position(|it| it.nsid == nsid)
     }
 
-    /// How many blocks a namespace has, 0 where there is none.
+    /// Number of blocks of a namespace, 0 if there is none.
     pub fn blocks(&self, nsid: u32) -> u64 {
         self.place(nsid).map_or(0, |at| self.config.namespaces[at].blocks)
     }
@@ -62,7 +62,7 @@ impl Configuration {
         (1..=MOST_NAMESPACES).contains(&nsid)
     }
 
-    /// Where a namespace begins, in blocks: they lie one after the other. Nothing where there is none.
+    /// First block of a namespace: they follow one another. `None` if there is none.
     #[inline]
     pub fn first_block(&self, nsid: u32) -> Option<u64> {
         let at = self.place(nsid)?;
@@ -70,7 +70,7 @@ impl Configuration {
     }
 }
 
-/// Why a text is refused. Where a host is written as a UUID, the number that is wanted in its place helps.
+/// Why a text is refused. If a host is written as a UUID, the reason names the number to write instead.
 fn told(text: &[u8], error: &ConfigError) -> String {
     let mut told = if error.reason.is_empty() { format!(" {:?}", error.name) } else { error.reason.clone() };
     let line = text.split(|byte| *byte == b'\n').nth(error.line.wrapping_sub(1)).unwrap_or_default();

@@ -32,12 +32,12 @@ const BEFORE_PROOF: Duration = Duration::from_secs(120);
 const DISCOVERY_IDLE: Duration = Duration::from_secs(120);
 /// How long a connection that has ended waits for its host to close it.
 const BEFORE_CLOSE: Duration = Duration::from_secs(1);
-/// The room for what is received and not taken yet: the longest PDU, and short ones beside it.
+/// Buffer size for received bytes: the longest PDU, and short ones after it.
 pub const ROOM: usize = pdu::MOST + (64 << 10);
-/// A PDU that is longer than this is long, and behind the rest of one no more than so much is received with it.
+/// A longer PDU counts as long. With the rest of one, at most this many bytes after it are received.
 const LONG: usize = 32 << 10;
 const BEHIND_LONG: usize = 4 << 10;
-/// With so many bytes that the host has not taken, nothing more of it is carried out.
+/// Limit of unsent answers: above it no further command of the host is executed.
 const OUTPUT_FULL: usize = 128 << 10;
 
 /// How far a connection is.
@@ -46,7 +46,7 @@ enum Phase {
     /// It waits for ICReq.
     Begun,
     Open,
-    /// It says what is to be said, and hears nothing more.
+    /// Sends what is queued, and receives nothing more.
     Ending,
 }
 
@@ -79,7 +79,7 @@ pub struct Connection {
     transfers: Transfers,
     /// What was received and not taken yet.
     input: Input,
-    /// What is to be sent.
+    /// What to send.
     output: Output,
     /// Whether PDUs wait until the host has taken answers.
     waits: bool,
@@ -87,7 +87,7 @@ pub struct Connection {
     deadline: Option<Instant>,
     /// Whether it is gone.
     pub is_closed: bool,
-    /// Why it ends, where the target ends it.
+    /// Why the target closes it, if it does.
     pub closing: Option<Closing>,
 }
 
@@ -117,7 +117,7 @@ impl Connection {
         self.deadline.map_or(false, |deadline| now > deadline)
     }
 
-    /// Whether more is to be received, and whether there is something to send.
+    /// Whether to receive more, and whether there is something to send.
     pub fn wants(&self) -> (bool, bool) {
         (self.phase == Phase::Ending || !self.is_full(), self.output.len() != 0)
     }
@@ -145,8 +145,8 @@ impl Connection {
         Ok(())
     }
 
-    /// How many bytes wait at most when more were received: not many behind a long PDU that is there in part, so that not
-    /// much of the one behind it has to be moved to the front.
+    /// Limit of bytes that wait after a receive: few after an incomplete long PDU, so that little of the next one has
+    /// to be moved to the front.
     fn most_wanted(&self) -> usize {
         let head = self.input.waiting();
         let layout = if head.len() < COMMON { None } else { Layout::of(head, self.agreed).ok() };
@@ -156,7 +156,7 @@ impl Connection {
         }
     }
 
-    /// Takes the PDUs that are whole, as long as there is room for their answers.
+    /// Takes complete PDUs while there is space for their answers.
     pub fn take_all(&mut self, target: &mut Target<'_>) -> Outcome<()> {
         let mut input = mem::take(&mut self.input);
         let mut result = Ok(());
@@ -211,7 +211,7 @@ impl Connection {
         Ok(())
     }
 
-    /// A command. It is carried out as soon as it has its data.
+    /// A command. It is executed as soon as it has its data.
     fn capsule(&mut self, target: &mut Target<'_>, layout: &Layout, unit: &[u8]) -> Result<(), Stop> {
         let mut entry = [0; ENTRY];
         entry.copy_from_slice(&unit[COMMON..COMMON + ENTRY]);
@@ -354,17 +354,17 @@ impl Connection {
         Ok(())
     }
 
-    /// Tells the host what it has done, and ends.
+    /// Sends the termination request, and ends.
     fn terminate(&mut self, target: &Target<'_>, fatal: Fatal, bytes: &[u8]) {
         target.say(format_args!("a connection is ended: {fatal:?}"));
         self.closing = Some(Closing::Protocol);
-        // What goes before it is answers to commands, which may be on their way in part.
+        // Answers to commands precede it, and may be partly sent.
         pdu::termination(&mut self.output, fatal, &bytes[..bytes.len().min(pdu::IC)]);
         self.end();
     }
 
-    /// Sends what is to be sent, hears nothing more, and waits for a moment that the host closes the connection: if the
-    /// target did so while bytes of the host are on their way, what it has said last would be lost.
+    /// Sends what is queued, receives nothing more, and waits a moment for the host to close the connection: if the
+    /// target closed it while bytes of the host are on their way, its last answers would be lost.
     pub fn end(&mut self) {
         self.phase = Phase::Ending;
         self.deadline = Some(Instant::now() + BEFORE_CLOSE);
@@ -386,7 +386,7 @@ impl Connection {
     }
 }
 
-/// Whether an error of a socket says no more than that nothing can be done now.
+/// Whether an error of a socket only means that nothing can be done now.
 pub fn is_passing(error: &io::Error) -> bool {
     matches!(error.kind(), io::ErrorKind::WouldBlock | io::ErrorKind::Interrupted)
 }

@@ -1,4 +1,4 @@
-//! Lines of control: what a test, or whoever runs the target, may ask of it beside its hosts.
+//! Lines of control, for tests and operators.
 
 use crate::connection::is_passing;
 use crate::fault::Outcome;
@@ -19,7 +19,7 @@ use std::time::{Duration, Instant};
 const LINE: usize = 4096;
 /// With this many bytes that were not taken no further line is answered.
 const FULL: usize = 64 << 10;
-/// How long whoever asks may take for the answers that are due.
+/// How long a client may take for the answers that are due.
 const PATIENCE: Duration = Duration::from_secs(2);
 
 /// Listens at a socket, whose folder nobody else may enter: it is made so, or refused.
@@ -139,7 +139,7 @@ impl Console {
         }
     }
 
-    /// Answers lines as long as there is room; whether all that are whole are answered.
+    /// Answers lines while there is space; whether all complete ones are answered.
     fn answer_lines(&mut self, target: &mut Target<'_>) -> Outcome<bool> {
         while let Some(end) = self.input.iter().position(|byte| *byte == b'\n') {
             if self.output.len() >= FULL {
@@ -167,8 +167,8 @@ impl Console {
 }
 
 impl Target<'_> {
-    /// Answers the line with this number. The answer begins with `!` where there is no such line, or nothing that it
-    /// speaks of.
+    /// Answers the line with this number. The answer begins with `!` if there is no such line, or nothing that it
+    /// names.
     fn answer_line(&mut self, number: u64, line: &str) -> Outcome<String> {
         let words: Vec<&str> = line.split_whitespace().collect();
         let answer = match *words {
@@ -237,7 +237,7 @@ impl Target<'_> {
         format!("[{text}]")
     }
 
-    /// How many commands each controller has carried out, as JSON.
+    /// The number of executed commands of each controller, as JSON.
     fn counts(&self) -> String {
         let each: Vec<String> =
             self.controllers.iter().map(|it| format!("\"{}\": {}", it.cntlid, it.commands)).collect();

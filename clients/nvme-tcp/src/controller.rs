@@ -23,14 +23,14 @@ const DOORBELLS: u64 = 0x1000;
 /// CC.EN.
 pub const ENABLE: u32 = 1;
 
-/// Where a command's data go.
+/// The direction and place of a command's data.
 #[derive(Clone, Copy)]
 pub enum Data<'d> {
     /// Nowhere: it has none, or keeps the data pointer that it has.
     None,
     /// These go to the controller.
     ToController(&'d [u8]),
-    /// So many bytes come from it.
+    /// This many bytes come from the controller.
     FromController(usize),
 }
 
@@ -44,7 +44,7 @@ impl Data<'_> {
     }
 }
 
-/// What became of a command. Its data are in the memory from `data` on until the next command is carried out.
+/// The result of a command. Its data are in the memory from `data` on until the next command is executed.
 #[derive(Clone, Copy, Debug, PartialEq, Eq)]
 pub struct Completed {
     pub status: Status,
@@ -105,7 +105,7 @@ impl Controller {
         machine.write32(self.cntlid, CC, 0)
     }
 
-    /// CC is written. Before CC.EN is set, the admin queues of so many entries get their places.
+    /// Writes CC. Before CC.EN is set, the admin queues get their places and sizes.
     pub fn configure(&mut self, machine: &mut Machine<'_>, value: u32, admin_entries: u16) -> Outcome<()> {
         if value & ENABLE == 0 {
             self.forget();
@@ -163,7 +163,7 @@ impl Controller {
         Ok(())
     }
 
-    /// Has a command carried out: stores it, rings, has it fetched and executed, and takes its completion.
+    /// Executes a command: stores it, rings, fetches and executes it, and takes its completion.
     #[inline]
     pub fn run(
         &mut self,
@@ -179,7 +179,7 @@ impl Controller {
         self.execute(machine, qid, at, Room::AT_ONCE.start(data.length()))
     }
 
-    /// Has a command fetched, and not executed; whether it was.
+    /// Fetches a command without executing it; whether it was fetched.
     pub fn hold(
         &mut self,
         machine: &mut Machine<'_>,
@@ -195,13 +195,13 @@ impl Controller {
         Ok(is_fetched)
     }
 
-    /// Has the first of the commands that are held executed, whose data lie at this place.
+    /// Executes the first of the held commands, whose data are at this place.
     pub fn release(&mut self, machine: &mut Machine<'_>, data: u64) -> Outcome<Completed> {
         let qid = self.held.remove(0);
         self.execute(machine, qid, 0, data)
     }
 
-    /// Stores a command and its data, rings, and has it fetched; whether it was.
+    /// Stores a command and its data, rings and fetches it; whether it was fetched.
     fn submit(
         &mut self,
         machine: &mut Machine<'_>,
@@ -232,7 +232,7 @@ impl Controller {
         Ok(is_fetched)
     }
 
-    /// Has the i-th of the commands that were fetched executed, and takes its completion.
+    /// Executes the i-th fetched command, and takes its completion.
     fn execute(&mut self, machine: &mut Machine<'_>, qid: u16, i: usize, data: u64) -> Outcome<Completed> {
         self.commands += 1;
         let posted = match machine.execute(self.cntlid, i)? {
@@ -248,12 +248,12 @@ impl Controller {
     }
 }
 
-/// The tail doorbell of a queue; the head doorbell stands 4 behind it.
+/// The tail doorbell of a queue; its head doorbell is 4 bytes further.
 fn doorbell(qid: u16) -> u64 {
     DOORBELLS + 8 * u64::from(qid)
 }
 
-/// An entry as it goes to the subsystem: PRPs in the place of an SGL, PSDT 0.
+/// An entry as it goes to the subsystem: PRPs instead of an SGL, PSDT 0.
 fn placed(entry: &[u8; ENTRY], data: Data<'_>, room: Room) -> [u8; ENTRY] {
     let mut placed = *entry;
     placed[1] &= 0x3f;
@@ -265,8 +265,8 @@ fn placed(entry: &[u8; ENTRY], data: Data<'_>, room: Room) -> [u8; ENTRY] {
     placed
 }
 
-/// Whether a command, where it succeeds, writes all of these bytes: a Read of just so many blocks. Elsewhere zeros
-/// stand there before it, so that its host gets nothing of commands before.
+/// Whether a successful command writes all of these bytes: a Read of exactly as many blocks. For others the buffer is
+/// cleared first, so that the host gets nothing of earlier commands.
 fn fills(entry: &[u8; ENTRY], qid: u16, length: usize) -> bool {
     qid != 0 && entry[0] == READ && length == BLOCK as usize * (usize::from(u16_at(entry, 48)) + 1)
 }

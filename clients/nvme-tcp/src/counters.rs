@@ -40,7 +40,7 @@ pub enum Closing {
     Protocol,
     /// It took too long to connect, or a discovery controller was not asked for a while.
     Late,
-    /// It made room for others before it had connected.
+    /// Closed in favour of others before it had connected.
     Crowded,
     /// Its association has ended: by its admin queue, Keep Alive, a reset or a power cycle.
     Association,
@@ -74,8 +74,8 @@ pub const CLOSINGS: [(Closing, &str); 6] = [
 /// The counters.
 pub struct Counters {
     pub started: Duration,
-    /// Commands of Fabrics and admin commands that have succeeded, by kind and opcode. Those of I/O are counted for each
-    /// controller.
+    /// Commands of Fabrics and admin commands that have succeeded, by kind and opcode. Those of I/O are counted for
+    /// each controller.
     pub succeeded: [[u64; 256]; 2],
     /// Those that have not, by kind, opcode and status.
     pub failed: BTreeMap<(Kind, u8, Status), u64>,

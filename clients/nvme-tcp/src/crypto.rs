@@ -111,8 +111,8 @@ impl Exchange {
         Ok(Some(Exchange { prime, private, public }))
     }
 
-    /// The result, with leading zeros as long as the prime. `None` unless the other side's value is as long as the
-    /// prime and from 2 to p - 2: no exchange gives other values.
+    /// The result, with leading zeros up to the length of the prime. `None` unless the other side's value has that
+    /// length and is from 2 to p - 2: no exchange gives other values.
     pub fn shared(&self, value: &[u8]) -> Result<Option<Wiped>, Failed> {
         let mut one = vec![0; self.prime.len()];
         let mut last = self.prime.clone();

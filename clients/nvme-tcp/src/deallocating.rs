@@ -56,7 +56,8 @@ fn plan_of<'d>(entry: &[u8; ENTRY], data: Data<'d>, blocks: u64) -> Plan<'d> {
     Plan::Zero(bytes)
 }
 
-/// The Write Zeroes of a range, in the name of a command. A range within a namespace has no more blocks than one zeroes.
+/// The Write Zeroes of a range, in the name of a command. A range within a namespace has no more blocks than one
+/// zeroes.
 fn zeroing(entry: &[u8; ENTRY], range: Range) -> [u8; ENTRY] {
     let mut zeroing = *entry;
     zeroing[0] = WRITE_ZEROES;
@@ -79,7 +80,7 @@ pub fn only_zeroing(entry: &[u8; ENTRY], data: Data<'_>, blocks: u64) -> Option<
 }
 
 impl Target<'_> {
-    /// Carries out Dataset Management. The first range that is not zeroed ends it.
+    /// Executes Dataset Management. It ends at the first range that can't be zeroed.
     pub fn deallocate(&mut self, index: usize, qid: u16, entry: &[u8; ENTRY], data: Data<'_>) -> Outcome<Answer> {
         let bytes = match plan_of(entry, data, self.configuration.blocks(u32_at(entry, 4))) {
             Plan::Zero(bytes) => bytes,

@@ -1,6 +1,6 @@
 //! CRC32C, the digest of NVMe/TCP, eight bytes at a time.
 
-/// What each byte adds, with 0 to 7 bytes behind it.
+/// What each byte adds, with 0 to 7 bytes after it.
 static TABLES: [[u32; 256]; 8] = tables();
 
 const fn tables() -> [[u32; 256]; 8] {

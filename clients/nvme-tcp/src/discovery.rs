@@ -1,4 +1,4 @@
-//! Discovery controllers, which tell hosts where the subsystem is. None of them is a controller of the subsystem.
+//! Discovery controllers, by which hosts find the subsystem. None of them is a controller of the subsystem.
 
 use crate::answer::Answer;
 use crate::association::{ConnectionId, HostQueue};
@@ -47,7 +47,7 @@ impl Discovery {
         self.configuration & ENABLE != 0
     }
 
-    /// The value of a property, where it has one of this size.
+    /// The value of a property, if there is one of this size.
     pub fn property(self, offset: u64, size: usize) -> Option<u64> {
         match (offset, size) {
             // MQES, CQR, TO: ten seconds, CSS: the NVM command set.
@@ -62,7 +62,7 @@ impl Discovery {
 }
 
 impl Target<'_> {
-    /// Carries out a command of a discovery controller.
+    /// Executes a command of a discovery controller.
     pub fn discover(&mut self, queue: &HostQueue, discovery: Discovery, entry: &[u8; ENTRY], data: Data<'_>) -> Answer {
         let length = match data {
             Data::FromController(length) => length,

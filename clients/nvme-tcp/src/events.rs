@@ -1,17 +1,17 @@
-//! Asynchronous events: requests that are held, and the notices that a controller's namespaces, or how they are reached,
-//! have changed.
+//! Asynchronous events: requests that are held, and the notices that a controller's namespaces, or how they are
+//! reached, have changed.
 
 use crate::bytes::put;
 use crate::nvme::{CHANGED_NAMESPACES, NAMESPACE_ACCESS};
 use std::collections::{BTreeSet, VecDeque};
 
-/// How many Asynchronous Event Requests of a controller are held at most: Identify Controller's AERL and one.
+/// The most Asynchronous Event Requests of a controller that are held: Identify Controller's AERL plus one.
 pub const MOST_EVENTS: usize = 4;
 /// The size of the log page of namespaces that have changed.
 const LIST: usize = 4096;
 
-/// A notice: its bit in OAES and in Asynchronous Event Configuration, and double word 0 of its answer, which has the log
-/// page, the information, and type 2h.
+/// A notice: its bit in OAES and in Asynchronous Event Configuration, and double word 0 of its answer, which has the
+/// log page, the information, and type 2h.
 #[derive(Clone, Copy, Debug, PartialEq, Eq)]
 pub struct Notice {
     pub mask: u32,
@@ -30,12 +30,12 @@ pub struct Events {
     pub configuration: u32,
     changed: BTreeSet<u32>,
     has_new_access: bool,
-    /// The masks of the notices that the host was told since it last read their log pages.
+    /// The masks of the notices that were sent since the host last read their log pages.
     told: u32,
 }
 
 impl Events {
-    /// Holds a request; whether there is room for it.
+    /// Holds a request, unless the limit is reached.
     pub fn hold(&mut self, cid: u16) -> bool {
         let has_room = self.requests.len() < MOST_EVENTS;
         if has_room {
@@ -59,7 +59,7 @@ impl Events {
         self.has_new_access = true;
     }
 
-    /// The request that is to be answered now, and double word 0 of the answer.
+    /// The request to answer now, and double word 0 of the answer.
     pub fn due(&mut self) -> Option<(u16, u32)> {
         let pending = [(NAMESPACE_NOTICE, !self.changed.is_empty()), (ACCESS_NOTICE, self.has_new_access)];
         let is_due = |(notice, has_changed): &(Notice, bool)| {
@@ -80,7 +80,7 @@ impl Events {
         page
     }
 
-    /// A log page was read, and its event is not to be retained: the next change is told.
+    /// The log page was read without Retain Asynchronous Event: the next change is reported again.
     pub fn was_read(&mut self, page: u8) {
         match page {
             CHANGED_NAMESPACES => {

@@ -26,7 +26,7 @@ pub fn is_connect(entry: &[u8; ENTRY]) -> bool {
     entry[0] == FABRICS && entry[4] == CONNECT
 }
 
-/// A parameter of Connect that is wrong: where it stands in the entry, or in the data.
+/// A wrong parameter of Connect: its offset in the entry, or in the data.
 enum Wrong {
     InEntry(u32),
     InData(u32),
@@ -42,7 +42,7 @@ impl From<Wrong> for Answer {
     }
 }
 
-/// Where parameters stand: QID and SQSIZE in the entry; HOSTID, CNTLID, SUBNQN and HOSTNQN in the data.
+/// Offsets of parameters: QID and SQSIZE in the entry; HOSTID, CNTLID, SUBNQN and HOSTNQN in the data.
 const QID: Wrong = Wrong::InEntry(42);
 const SQSIZE: Wrong = Wrong::InEntry(44);
 const HOSTID: Wrong = Wrong::InData(0);
@@ -56,7 +56,7 @@ fn property(entry: &[u8; ENTRY]) -> (u64, usize) {
 }
 
 impl Target<'_> {
-    /// Carries out a command of Fabrics.
+    /// Executes a Fabrics command.
     pub fn fabrics(&mut self, queue: &mut HostQueue, entry: &[u8; ENTRY], data: Data<'_>) -> Outcome<Answer> {
         match (entry[4], queue.session) {
             (CONNECT, Session::None) => {
@@ -148,7 +148,7 @@ impl Target<'_> {
         }
     }
 
-    /// Makes a queue what its Connect wants, unless that can't be any more.
+    /// Gives a queue what its Connect asks for, unless that is no longer possible.
     pub fn take_place(&mut self, queue: &HostQueue, data: &ConnectData, place: Session) -> Outcome<Result<(), Answer>> {
         match place {
             Session::Controller { index, qid: 0 } if self.associations[index].is_some() => {
@@ -164,7 +164,7 @@ impl Target<'_> {
         Ok(Ok(()))
     }
 
-    /// The first controller of the host that is free. Those come last for which other hosts' proofs are under way.
+    /// The first free controller of the host; last come those that other hosts are authenticating for.
     fn free_controller(&self, data: &ConnectData) -> Result<usize, Answer> {
         let host = u128::from_le_bytes(data.host_id);
         if self.controllers.iter().all(|it| it.host != host) {

@@ -3,7 +3,7 @@
 use nvmesim::Refusal;
 use std::{fmt, io};
 
-/// Why the target ends: nothing that a host sends is such a fault.
+/// Why the target ends. Nothing that a host sends is such a fault.
 #[derive(Debug)]
 pub enum Fault {
     /// The library refused a call that it has to take.
@@ -36,5 +36,5 @@ impl From<Refusal> for Fault {
     }
 }
 
-/// What a step gives, unless the target ends.
+/// The result of a step, unless the target ends.
 pub type Outcome<T> = Result<T, Fault>;

@@ -1,5 +1,5 @@
-//! Set Features and Get Features: those that hosts ask for and the subsystem leaves out, and the Select field of all. None
-//! can be saved.
+//! Set Features and Get Features: those that hosts ask for and the subsystem leaves out, and the Select field of all.
+//! None can be saved.
 
 use crate::answer::Answer;
 use crate::bytes::u32_at;
@@ -85,7 +85,7 @@ impl Features {
     /// Sets a feature: the fields that it has.
     fn set(&mut self, fid: u8, dw11: u32) -> Result<(), Status> {
         match fid {
-            // Commands are carried out one after the other, so there are no weights.
+            // Commands are executed one after the other, so there are no weights.
             ARBITRATION => self.arbitration = dw11 & 7,
             // There is power state 0 alone.
             POWER_MANAGEMENT if dw11 & 0x1f != 0 => return Err(INVALID_FIELD),
@@ -98,8 +98,8 @@ impl Features {
     }
 }
 
-/// Which temperature threshold is meant: over or under, of the composite temperature. There are no sensors, but all of
-/// them may be set together with it.
+/// Which temperature threshold is selected: over or under, of the composite temperature. There are no sensors, but all
+/// of them may be set together with it.
 fn threshold(dw11: u32, may_be_all: bool) -> Result<usize, Status> {
     match (dw11 >> 20 & 3, dw11 >> 16 & 15) {
         (kind @ (0 | 1), 0) => Ok(kind as usize),
@@ -127,7 +127,7 @@ fn answered(result: Result<u32, Status>) -> Answer {
 }
 
 impl Target<'_> {
-    /// Carries out Set Features.
+    /// Executes Set Features.
     pub fn set_features(&mut self, index: usize, entry: &[u8; ENTRY], data: Data<'_>) -> Outcome<Answer> {
         let (dw10, dw11) = (u32_at(entry, 40), u32_at(entry, 44));
         match dw10 as u8 {
@@ -171,7 +171,7 @@ impl Target<'_> {
         Err(INVALID_FIELD)
     }
 
-    /// Carries out Get Features.
+    /// Executes Get Features.
     pub fn get_features(&mut self, index: usize, entry: &[u8; ENTRY], data: Data<'_>) -> Outcome<Answer> {
         let (fid, select) = (entry[40], u32_at(entry, 40) >> SELECT_AT & 7);
         if select > SUPPORTED {
@@ -212,7 +212,8 @@ impl Target<'_> {
         }
     }
 
-    /// Error Recovery of a namespace: how long it is tried to recover data, which is never needed, is kept as it was set.
+    /// Error Recovery of a namespace: how long it is tried to recover data, which is never needed, is kept as it was
+    /// set.
     fn get_recovery(&mut self, index: usize, nsid: u32, select: u32) -> Result<u32, Status> {
         let place = self.attached_place(index, nsid)?;
         Ok(match select {

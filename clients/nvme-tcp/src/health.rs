@@ -1,5 +1,5 @@
-//! What a controller has done since the target started, as the log pages Error Information and SMART / Health Information
-//! have it.
+//! What a controller has done since the target started, as the log pages Error Information and SMART / Health
+//! Information have it.
 
 use crate::bytes::{put, u16_at, u32_at, u64_at};
 use crate::nvme::{COMPARE, ENTRY, READ, WRITE};

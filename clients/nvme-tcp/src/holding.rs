@@ -18,17 +18,17 @@ pub struct Held {
     /// What was fetched, and the opcode that its host has sent.
     entry: [u8; ENTRY],
     opcode: u8,
-    /// The data that it has, or how many bytes come from the controller; and where they lie.
+    /// The data that it has, or how many bytes come from the controller; and their address.
     data: Vec<u8>,
     length: usize,
     place: u64,
-    /// The number of its room.
+    /// The number of its buffer.
     room: usize,
 }
 
 impl Target<'_> {
-    /// Holds a command behind its fetch; whether it does. Only a few with little data have room, and of Dataset Management
-    /// those with one range.
+    /// Holds a command after its fetch, if it is among those that can be held: few, with little data, and of Dataset
+    /// Management only those with one range.
     pub fn hold(
         &mut self,
         connection: ConnectionId,

@@ -1,4 +1,4 @@
-//! What the log says of hosts: that they connect, are refused, have gone, and are fenced.
+//! Log lines about hosts: they connect, are refused, leave, and are fenced.
 
 use crate::answer::Answer;
 use crate::association::{Association, HostQueue, Session};
@@ -13,7 +13,7 @@ use crate::target::{uuid, Target};
 use std::fmt::Display;
 use std::net::SocketAddr;
 
-/// Where Connect's data has CNTLID, SUBNQN and HOSTNQN, as double word 0 of a refusal names them.
+/// Offsets of CNTLID, SUBNQN and HOSTNQN in Connect's data, as double word 0 of a refusal names them.
 const CNTLID: u32 = 1 << 16 | 16;
 const SUBNQN: u32 = 1 << 16 | 256;
 const HOSTNQN: u32 = 1 << 16 | 512;
@@ -86,7 +86,7 @@ impl Target<'_> {
             (CONNECT_PARAMETERS, SUBNQN) => "there is no subsystem of this name",
             (CONNECT_PARAMETERS, HOSTNQN) => "the name of the host is wrong",
             (CONNECT_PARAMETERS, _) => "a parameter of Connect is wrong",
-            _ => "the command can't be carried out",
+            _ => "the command can't be executed",
         }
     }
 

@@ -37,7 +37,8 @@ const COMMANDS: u16 = 1 << 2 | 1 << 4;
 /// The limit of Write Zeroes, as a power of two of pages: 65,536 blocks.
 const ZEROES_LIMIT: u8 = 13;
 
-/// What every controller of Fabrics tells.
+/// What every Fabrics controller reports. Linux 6.1 does not connect without KAS and SGLS, and without MAXCMD it asks
+/// for queues of 65,536 entries.
 fn fabrics(told: &mut [u8], name: &str) {
     // KAS: the keep alive timer counts in seconds, tenths of which are its unit.
     put(told, 320, &10u16.to_le_bytes());
@@ -52,7 +53,7 @@ fn fabrics(told: &mut [u8], name: &str) {
     told[1803] = 1;
 }
 
-/// Completes what the subsystem has told of a controller.
+/// Completes what the subsystem reports of a controller.
 pub fn controller(told: &mut [u8], name: &str, identity: Identity, has_image: bool) {
     fabrics(told, name);
     put(told, SERIAL_AT, &identity.serial());
@@ -76,7 +77,7 @@ pub fn controller(told: &mut [u8], name: &str, identity: Identity, has_image: bo
     put(told, 540, &MOST_NAMESPACES.to_le_bytes());
     // OFCS: Disconnect.
     put(told, 1804, &1u16.to_le_bytes());
-    // VWC: an image lies in the page cache of this machine until it is synced, so hosts have to flush.
+    // VWC: an image's blocks are in the page cache of this machine until it is synced, so hosts have to flush.
     told[525] |= u8::from(has_image);
 }
 
@@ -97,7 +98,7 @@ pub fn discovery(cntlid: u16, name: &str, identity: Identity) -> Vec<u8> {
     told
 }
 
-/// Completes what the subsystem has told of a namespace.
+/// Completes what the subsystem reports of a namespace.
 pub fn namespace(told: &mut [u8]) {
     // DLFEAT: blocks that are deallocated read as zeros.
     told[33] = 1;
@@ -105,7 +106,7 @@ pub fn namespace(told: &mut [u8]) {
     put(told, 92, &access::GROUP.to_le_bytes());
 }
 
-/// A namespace that is configured, whether or not it is attached: the same as the subsystem tells of one that is.
+/// A configured namespace, attached or not: what the subsystem reports of an attached one.
 pub fn allocated(it: &Namespace, is_protected: bool) -> Vec<u8> {
     let mut told = vec![0; BYTES];
     // NSZE, NCAP, NUSE; NMIC, RESCAP, NSATTR; LBADS.
@@ -117,7 +118,7 @@ pub fn allocated(it: &Namespace, is_protected: bool) -> Vec<u8> {
     told
 }
 
-/// What does not depend on the command set, of what is told of a namespace.
+/// The fields of a namespace that do not depend on the command set.
 pub fn independent(told: &[u8]) -> Vec<u8> {
     let mut structure = vec![0; BYTES];
     // NSFEAT, NMIC, RESCAP, FPI, ANAGRPID, NSATTR, and NSTAT: it is ready.

@@ -1,10 +1,10 @@
 //! The image: the file that follows the blocks in memory.
 //!
-//! The library works on bytes of this process alone, and a command's blocks are written to the file by one call before
-//! its completion goes out, those of commands that are neighbours by one call together. Where several hosts are served a
-//! thread of its own makes these calls, while the next commands are carried out. A mapping that is shared with the file
-//! would need no such call, but when the target is killed in the middle of a block it would leave half of it. `pwrite`
-//! puts whole pages of the page cache in place, and a block lies in one.
+//! The library works on bytes of this process alone. A command's blocks are written to the file by one call before its
+//! completion is sent, those of adjacent commands by one call together. With several hosts a thread of its own makes
+//! these calls, while the next commands are executed. A shared mapping of the file would need no such call, but a kill
+//! in the middle of a block would leave half of it. `pwrite` puts whole pages into the page cache, and no block crosses
+//! a page.
 
 use crate::behind::{Behind, Piece};
 use crate::bytes::{u16_at, u32_at, u64_at};
@@ -24,21 +24,21 @@ use std::path::Path;
 /// Force Unit Access, in double word 12.
 const FORCE_UNIT_ACCESS: u32 = 1 << 30;
 
-/// No more bytes than these are handed to the system together, unless one command has them.
+/// The most bytes that are written together, unless one command has more.
 const MOST_WAITING: usize = 128 << 10;
 
 /// Blocks that go to the file.
 #[derive(Default)]
 struct Blocks {
     bytes: Vec<u8>,
-    /// Where those go that are neighbours, and where they end here.
+    /// Position in the file of adjacent bytes, and their end in the buffer.
     runs: Vec<(u64, usize)>,
-    /// Where the next ones would go as neighbours of the last.
+    /// Position in the file at which the next bytes would be adjacent.
     next: u64,
 }
 
 impl Blocks {
-    /// Puts bytes behind the others, which go to a place of the file.
+    /// Appends bytes that go to a position of the file.
     fn put(&mut self, place: u64, bytes: &[u8]) {
         if self.runs.is_empty() || place != self.next {
             self.runs.push((place, 0));
@@ -57,7 +57,7 @@ struct Whole {
     length: u64,
 }
 
-/// An error if an image has become shorter. A write behind its end would make it as long again, with zeros in it.
+/// An error if an image has become shorter. A write past its end would make it as long again, with zeros in it.
 fn check_length(found: u64, length: u64) -> io::Result<()> {
     if found < length {
         return Err(changed(format!("it was cut to {found} bytes, of {length}")));
@@ -92,25 +92,25 @@ pub struct Image {
     file: Behind<Blocks>,
     watched: Watched,
     length: u64,
-    /// Blocks that are not handed to the system yet.
+    /// Blocks that are not written yet.
     waiting: Blocks,
     /// Room for blocks that are read from the medium.
     room: Vec<u8>,
 }
 
-/// A command that was carried out, and its data; of one that has not succeeded there are none.
+/// An executed command and its data, which are empty if it failed.
 #[derive(Clone, Copy)]
 pub struct Done<'d> {
     pub entry: &'d [u8; ENTRY],
     pub data: Data<'d>,
-    /// Whether its blocks are synced, whatever the command says: its host has no write cache.
+    /// Whether its blocks are synced in any case: its host has no write cache.
     pub is_synced: bool,
 }
 
 /// EROFS.
 const READ_ONLY_FILE_SYSTEM: i32 = 30;
 
-/// Whether a file can't be written: nobody has the permission, or this process has not, or its file system is read-only.
+/// Whether a file can't be written: by permission, or since its file system is read-only.
 pub fn is_read_only(path: &Path) -> bool {
     if fs::metadata(path).map_or(false, |it| it.permissions().readonly()) {
         return true;
@@ -140,8 +140,7 @@ impl Image {
         Ok(Image { file, watched, length, waiting: Blocks::default(), room: Vec::new() })
     }
 
-    /// Has the file follow an I/O command that was carried out: its blocks are to be written, and are synced where the
-    /// command asks for that.
+    /// Writes the blocks of an executed I/O command to the file, and syncs them if the command asks for that.
     pub fn follow(&mut self, machine: &mut Machine<'_>, configuration: &Configuration, done: Done<'_>) -> Outcome<()> {
         match done.entry[0] {
             WRITE | WRITE_ZEROES => {
@@ -156,8 +155,8 @@ impl Image {
         Ok(())
     }
 
-    /// Takes the blocks of a command. There are none where they are not all in the namespace, since then the command has
-    /// changed none. A Write that has succeeded leaves its data in them; else they are those of the medium.
+    /// Takes the blocks of a command: none if they are not all in the namespace, since then the command has changed
+    /// none. A successful Write leaves its data in them; else they are the medium's.
     fn take(&mut self, machine: &mut Machine<'_>, configuration: &Configuration, done: Done<'_>) -> Outcome<()> {
         let (nsid, slba) = (u32_at(done.entry, 4), u64_at(done.entry, 40));
         let length = BLOCK as usize * (usize::from(u16_at(done.entry, 48)) + 1);
@@ -181,7 +180,7 @@ impl Image {
         }
     }
 
-    /// Bytes are to be written at a place. They wait as long as they may be neighbours of the next ones.
+    /// Writes bytes to a position. They wait as long as the next ones may be adjacent.
     fn put(&mut self, place: u64, bytes: &[u8]) -> Outcome<()> {
         if self.waiting.size() + bytes.len() > MOST_WAITING {
             self.begin(false)?;
@@ -190,8 +189,8 @@ impl Image {
         Ok(())
     }
 
-    /// Hands all blocks to the system, or has that begun: so many pieces are done when it has them. `is_awaited` says
-    /// that nothing is done before. No host hears of a command before its blocks were handed over.
+    /// Writes all blocks, or begins to; the number of batches after which they are written. With `is_awaited` the
+    /// caller waits for that next. No host hears of a command before its blocks are given to the system.
     pub fn begin(&mut self, is_awaited: bool) -> Outcome<u64> {
         if self.waiting.size() != 0 {
             self.file.begin(&mut self.waiting, is_awaited).map_err(Fault::Image)?;
@@ -199,12 +198,12 @@ impl Image {
         Ok(self.file.begun())
     }
 
-    /// How many pieces are done.
+    /// Number of batches written.
     pub fn done(&self) -> Outcome<u64> {
         self.file.done().map_err(Fault::Image)
     }
 
-    /// Waits until so many pieces are done.
+    /// Waits until `count` batches are written.
     pub fn wait_for(&self, count: u64) -> Outcome<()> {
         self.file.wait_for(count).map_err(Fault::Image)
     }

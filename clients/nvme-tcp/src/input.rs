@@ -1,10 +1,10 @@
-//! Bytes that were received and not taken yet. A connection has memory of its own for few of them alone: what is received
-//! next goes into a room that all share, which the processor has in its cache. A connection keeps a room as long as
-//! much waits there, such as the part of a long PDU.
+//! Received bytes that were not taken yet. A connection has memory of its own for a few; the next bytes are received
+//! into a shared buffer, which the processor has in its cache. A connection keeps such a buffer while many bytes wait
+//! there, such as the part of a long PDU.
 
 use std::mem;
 
-/// With more bytes than these a connection keeps its room.
+/// With more bytes than these a connection keeps its buffer.
 const FEW: usize = 16 << 10;
 
 /// Rooms of one size that no connection keeps.
@@ -14,7 +14,7 @@ pub struct Rooms {
 }
 
 impl Rooms {
-    /// Rooms of so many bytes.
+    /// Buffers of this size.
     pub fn new(size: usize) -> Rooms {
         Rooms { size, free: Vec::new() }
     }
@@ -27,7 +27,7 @@ impl Rooms {
 /// The bytes of a connection.
 #[derive(Default)]
 pub struct Input {
-    /// A room, or few bytes.
+    /// A buffer, or few bytes.
     bytes: Vec<u8>,
     begin: usize,
     end: usize,
@@ -40,7 +40,7 @@ impl Input {
         &self.bytes[self.begin..self.end]
     }
 
-    /// So many of them were taken.
+    /// Number of bytes taken.
     pub fn taken(&mut self, count: usize) {
         self.begin += count;
     }
@@ -50,8 +50,8 @@ impl Input {
         self.begin = self.end;
     }
 
-    /// Puts what `receive` gives behind the bytes, of which there are at most `most` then. It tells how many it has
-    /// written to the front of what it is given.
+    /// Appends what `receive` returns, up to `most` bytes in all. `receive` returns how many bytes it has written to
+    /// the front of its slice.
     pub fn fill<E>(
         &mut self,
         rooms: &mut Rooms,
@@ -72,7 +72,7 @@ impl Input {
         Ok(count)
     }
 
-    /// Gives the room back, unless much waits there.
+    /// Returns the buffer, unless many bytes wait there.
     pub fn leave(&mut self, rooms: &mut Rooms) {
         if self.has_room && self.end - self.begin <= FEW {
             let few = self.waiting().to_vec();

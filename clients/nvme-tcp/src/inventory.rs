@@ -1,5 +1,5 @@
-//! Identify: the structures that Fabrics, Linux and nvme-cli ask for and the subsystem leaves out, and the fields that it
-//! leaves out in its own.
+//! Identify: the structures that Fabrics, Linux and nvme-cli ask for and the subsystem leaves out, and the fields that
+//! it leaves out in its own.
 
 use crate::answer::Answer;
 use crate::bytes::{put, u16_at, u32_at};
@@ -14,7 +14,7 @@ use crate::target::Target;
 type Structure = Result<Vec<u8>, Status>;
 
 impl Target<'_> {
-    /// Carries out Identify.
+    /// Executes Identify.
     pub fn identify(&mut self, index: usize, entry: &[u8; ENTRY], data: Data<'_>) -> Outcome<Answer> {
         // CSI 0 is the NVM Command Set, and there is no other.
         let (cns, has_command_set) = (entry[40], entry[47] == 0);
@@ -40,7 +40,7 @@ impl Target<'_> {
         })
     }
 
-    /// What the subsystem tells, where it is asked for another structure.
+    /// The subsystem's answer for another structure.
     fn told(&mut self, index: usize, entry: &[u8; ENTRY], cns: u8) -> Outcome<Structure> {
         let mut asking = *entry;
         asking[40] = cns;
@@ -63,7 +63,7 @@ impl Target<'_> {
         }))
     }
 
-    /// Identify Namespace, which is zeros where it is not attached.
+    /// Identify Namespace: zeros if it is not attached.
     fn namespace_structure(&mut self, index: usize, entry: &[u8; ENTRY]) -> Outcome<Structure> {
         let told = self.told(index, entry, identify::NAMESPACE)?;
         Ok(told.map(|mut told| {
@@ -74,7 +74,7 @@ impl Target<'_> {
         }))
     }
 
-    /// Identify Namespace, which is refused where it is not attached.
+    /// Identify Namespace: refused if it is not attached.
     fn attached(&mut self, index: usize, entry: &[u8; ENTRY]) -> Outcome<Structure> {
         let told = self.namespace_structure(index, entry)?;
         Ok(told.and_then(|it| if it.iter().any(|byte| *byte != 0) { Ok(it) } else { Err(INVALID_NAMESPACE) }))
@@ -96,7 +96,7 @@ impl Target<'_> {
         Ok(nsids.into_iter().filter(|nsid| *nsid > above).flat_map(u32::to_le_bytes).collect())
     }
 
-    /// A namespace that is configured, attached or not: zeros where there is none.
+    /// A configured namespace, attached or not: zeros if there is none.
     fn allocated_structure(&mut self, nsid: u32) -> Structure {
         if !self.configuration.may_be(nsid) {
             return Err(INVALID_NAMESPACE);

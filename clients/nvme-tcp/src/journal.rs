@@ -1,9 +1,9 @@
 //! The journal: the commands that changed reservations, write protection or attachments, the power cycles and the
 //! starts of targets, so that a target that is started again has what persists.
 //!
-//! It begins with the configuration. A record is synced before the completion of its command goes out. So of a record
-//! that is there in part nobody was told, and it is left out; any other fault refuses the journal. A target that finds
-//! records of another after its own has been taken over: it ends without an answer.
+//! It begins with the configuration. A record is synced before the completion of its command is sent. So an incomplete
+//! record was never answered, and is dropped; any other fault refuses the journal. A target that finds records of
+//! another after its own has been taken over: it ends without an answer.
 
 use crate::configuration::Configuration;
 use crate::controller::Data;

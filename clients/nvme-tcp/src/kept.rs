@@ -1,6 +1,6 @@
-//! The two files of a kept script: its lines, and what they gave. The system takes bytes sooner where they begin and end
-//! at multiples of many pages, since it finds a place in its memory for many pages at once. So lines are written as far
-//! as such a place, and then the others with the first of the next lines, if these are there by then.
+//! The two files of a kept script: its lines, and their results. Aligned writes are faster: the system caches many
+//! pages at once if bytes begin and end at multiples of them. So lines are written up to such a position, and the rest
+//! with the beginning of the next lines, if these are there by then.
 
 use crate::appended::Appended;
 use std::fs::File;
@@ -8,7 +8,7 @@ use std::io;
 
 /// The multiples at which bytes begin and end well.
 const WELL: u64 = 64 << 10;
-/// So many bytes of what lines gave are written, even where there are more lines.
+/// Results are written once there are this many bytes, even if more lines wait.
 const GAVE: usize = 32 << 10;
 
 /// A script and its transcript.
@@ -17,7 +17,7 @@ pub struct Kept {
     transcript: Appended,
     /// How many bytes of the next lines were written with others.
     ahead: usize,
-    /// What lines gave that were written, and is not in the transcript.
+    /// Results of written lines that are not in the transcript yet.
     gave: Vec<u8>,
 }
 
@@ -29,7 +29,7 @@ impl Kept {
         Ok(Kept { script, transcript, ahead: 0, gave: Vec::new() })
     }
 
-    /// Writes the first of these lines behind the others: as far as they end well.
+    /// Appends the first of these lines, up to an aligned position.
     pub fn write_first(&mut self, lines: &[u8]) -> io::Result<()> {
         let rest = &lines[self.ahead..];
         let end = self.script.length() + rest.len() as u64;
@@ -41,8 +41,8 @@ impl Kept {
         Ok(())
     }
 
-    /// Writes the others of these lines, and what they gave. Where there are next lines, the first of these go with them,
-    /// so that they end well together, and what they gave may wait.
+    /// Appends the rest of these lines, and the results. The first of the next lines, if there are any, are written
+    /// with them up to an aligned position, and the results may wait.
     pub fn write(&mut self, lines: &[u8], gave: &[u8], next: Option<&[u8]>) -> io::Result<()> {
         let rest = &lines[self.ahead..];
         self.ahead = 0;
@@ -56,7 +56,7 @@ impl Kept {
         self.write_gave(gave, next.is_some())
     }
 
-    /// Writes what lines gave behind what others gave, unless it may wait.
+    /// Appends results, unless they may wait.
     fn write_gave(&mut self, gave: &[u8], may_wait: bool) -> io::Result<()> {
         if self.gave.is_empty() && !may_wait {
             return self.transcript.append(gave);
@@ -75,7 +75,7 @@ impl Kept {
         self.transcript.sync()
     }
 
-    /// Gives back the room that is left over.
+    /// Releases the unused space.
     pub fn give_back(&mut self) {
         self.script.give_back();
         self.transcript.give_back();
@@ -83,7 +83,7 @@ impl Kept {
 }
 
 impl Drop for Kept {
-    /// Where next lines could not be written, the transcript still gets what those before gave.
+    /// If the next lines can't be written, the transcript still gets the results of those before.
     fn drop(&mut self) {
         let _ = self.transcript.append(&self.gave);
     }
@@ -104,7 +104,7 @@ mod tests {
         (Kept::new(files, b"").unwrap(), path, lengths)
     }
 
-    /// So many bytes, which are others for each number.
+    /// Distinct bytes for each number.
     fn bytes(number: usize, count: usize) -> Vec<u8> {
         (0..count).map(|at| (at / 7 + 31 * number) as u8).collect()
     }

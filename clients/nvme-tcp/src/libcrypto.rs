@@ -140,7 +140,8 @@ impl Drop for Number {
     }
 }
 
-/// A power modulo an odd number, as long as the modulus, highest byte first. Constant time in the exponent.
+/// A power modulo an odd number, in as many bytes as the modulus has, highest first. The time does not depend on the
+/// exponent.
 pub fn power(base: &[u8], exponent: &[u8], modulus: &[u8]) -> Result<Vec<u8>, Failed> {
     let [b, e, m] = [Number::of(base)?, Number::of(exponent)?, Number::of(modulus)?];
     let (result, mut bytes) = (Number::new()?, vec![0; modulus.len()]);

@@ -1,4 +1,4 @@
-//! Sockets that listen. A failure of accept(2), such as that the process has no descriptors left, is told once, and the
+//! Listening sockets. A failure of accept(2), such as that the process has no descriptors left, is logged once, and the
 //! socket is left alone for a moment: the connections wait in its queue, and the loop would find them again at once.
 
 use crate::fault::{Fault, Outcome};
@@ -19,9 +19,9 @@ const NOTHING: Interest = Interest { read: false, write: false };
 pub struct Listener<S> {
     socket: S,
     name: u64,
-    /// When it is asked again, after a failure.
+    /// When to try again after a failure.
     paused_until: Option<Instant>,
-    /// Whether it has failed since it last gave a connection. Then that was told.
+    /// Whether it has failed since its last connection, and this is logged.
     has_failed: bool,
 }
 

@@ -18,10 +18,10 @@ const TRIES: usize = 100;
 /// The delay between two tries to bind.
 const PAUSE: Duration = Duration::from_millis(50);
 
-/// The lock that is wanted of a file.
+/// The kind of lock.
 #[derive(Clone, Copy)]
 pub struct Lock {
-    /// Others may have a shared lock too, and none an exclusive one.
+    /// Others may have a shared lock too, but no exclusive one.
     pub is_shared: bool,
     /// Waits until it can be had; else it is refused if another process holds it.
     pub waits: bool,
@@ -40,7 +40,7 @@ impl Lock {
         Lock { is_shared: true, ..Lock::exclusive(waits) }
     }
 
-    /// Opens a regular file and locks it. After a wait another file may be at the path: then that one is wanted.
+    /// Opens a regular file and locks it. If another file is at the path after a wait, it locks that one.
     pub fn open(&self, path: &Path, options: &OpenOptions) -> io::Result<File> {
         for _ in 0..TRIES {
             let file = open_regular(path, options)?;

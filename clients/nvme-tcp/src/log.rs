@@ -1,5 +1,5 @@
-//! The log: lines on standard error that say what happens to hosts, each with its time, as text or as JSON. Of each topic
-//! no more are written than someone can read. How many were left out is said as soon as there is room again.
+//! The log: lines on standard error about hosts, each with its time, as text or as JSON. Each topic has a limit. Once
+//! lines of a topic are allowed again, one line reports how many were left out.
 
 use std::fmt::{self, Display, Write as _};
 use std::io::{self, Write as _};
@@ -53,7 +53,7 @@ fn tell(event: &str, reason: fmt::Arguments<'_>) {
     put(&line_of(form, now(), event, &[("reason", &reason)]));
 }
 
-/// Writes a line. Where standard error is closed nobody reads it.
+/// Writes a line. If standard error is closed nobody reads it.
 fn put(line: &str) {
     let _ = writeln!(io::stderr(), "{line}");
 }
@@ -147,8 +147,7 @@ pub enum Topic {
     Fenced(usize),
 }
 
-/// The names of topics but the last, and the most lines of each that are written at once: enough for all hosts to come and
-/// go.
+/// The names of topics except the last, and their limits: enough lines for all hosts to come and go.
 const TOPICS: [(&str, u32); 4] = [("service", 10), ("host", 64), ("refused", 10), ("closed", 10)];
 /// How often another one is.
 const PERIOD: Duration = Duration::from_secs(5);
@@ -161,7 +160,7 @@ struct Limit {
     burst: u32,
     period: Duration,
     room: u32,
-    /// When the room was looked at, up to whole periods.
+    /// When the limit was last updated, in whole periods.
     at: Instant,
     left_out: u64,
 }
@@ -171,7 +170,7 @@ impl Limit {
         Limit { burst, period, room: burst, at: now, left_out: 0 }
     }
 
-    /// Whether there is room for a line, which is taken.
+    /// Whether a line is within the limit, which counts it.
     fn take(&mut self, now: Instant) -> bool {
         let periods = (now.saturating_duration_since(self.at).as_millis() / self.period.as_millis()) as u32;
         if self.room == self.burst {
@@ -203,7 +202,7 @@ impl Log {
         Log { form, limits: topics.chain(fences).collect(), left_out: 0 }
     }
 
-    /// Writes a line, if there is room for one.
+    /// Writes a line, if it is within its topic's limit.
     pub fn put(&mut self, topic: Topic, event: &str, fields: &[Field<'_>]) {
         if self.form == Form::None {
             return;
@@ -224,7 +223,7 @@ impl Log {
         }
     }
 
-    /// Says how many lines were left out of topics for which there is room again.
+    /// Reports how many lines were left out, of topics that have space for lines again.
     pub fn rest(&mut self, now: Instant) {
         for limit in 0..self.limits.len() {
             if self.limits[limit].left_out != 0 && self.limits[limit].take(now) {

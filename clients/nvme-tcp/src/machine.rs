@@ -1,4 +1,4 @@
-//! The subsystem, event by event: each is a call of the library, and a line of the script where one is kept.
+//! The subsystem, event by event: each is a call of the library, and a line of the script if one is kept.
 
 use crate::fault::Outcome;
 use crate::script::Script;
@@ -95,28 +95,28 @@ impl<'a> Machine<'a> {
         }
     }
 
-    /// Hands the lines that are kept to the system, or has that begun: it has them when so many pieces are done.
-    /// `is_awaited` says that nothing is done before.
+    /// Writes the kept lines, or begins to; the number of batches after which they are written. With `is_awaited` the
+    /// caller waits for that next.
     pub fn begin_script(&mut self, is_awaited: bool) -> Outcome<u64> {
         self.script.as_mut().map_or(Ok(0), |it| it.begin(is_awaited))
     }
 
-    /// Is called ten times a second: a script to which nothing is added gives back the room that it has ahead.
+    /// Is called ten times a second: an idle script releases the disk space that it has reserved.
     pub fn rest_script(&mut self) -> Outcome<()> {
         self.script.as_mut().map_or(Ok(()), Script::rest)
     }
 
-    /// Has the disk hold the script.
+    /// Syncs the script.
     pub fn sync_script(&mut self) -> Outcome<()> {
         self.script.as_mut().map_or(Ok(()), Script::sync)
     }
 
-    /// How many pieces of the script are done.
+    /// Number of batches of the script that are written.
     pub fn script_done(&self) -> Outcome<u64> {
         self.script.as_ref().map_or(Ok(0), Script::done)
     }
 
-    /// Waits until so many pieces of the script are done.
+    /// Waits until `count` batches of the script are written.
     pub fn wait_for_script(&self, count: u64) -> Outcome<()> {
         self.script.as_ref().map_or(Ok(()), |it| it.wait_for(count))
     }

@@ -1,7 +1,7 @@
 //! `nvmetcp`: an NVMe/TCP target. Hosts reach the proved subsystem through it, by whatever network there is.
 //!
-//! It has no rule of its own: every status is that of the subsystem, but for those that Fabrics asks of a target. One
-//! thread owns the subsystem and serves all connections.
+//! It has no rule of its own: every status is that of the subsystem, except those of Fabrics commands. One thread owns
+//! the subsystem and serves all connections.
 #![deny(unsafe_code)]
 
 mod access;
@@ -103,13 +103,13 @@ const REFUSED: u8 = 1;
 const FAILED: u8 = 2;
 const BAD_COMMAND_LINE: u8 = 3;
 
-/// Where the blocks begin in their memory. They don't lie in pages as the memory of hosts does: where both do alike, the
-/// C library copies from the end, which is slower.
+/// Offset of the blocks in their memory. They are not aligned to pages as the memory of hosts is: if both are aligned
+/// alike, the C library copies from the end, which is slower.
 const BLOCKS_AT: usize = 2048;
-/// In the place of how many blocks an image has: there are as many as CONFIG wants.
+/// Replaces the number of blocks of an image: as many as CONFIG needs.
 const ANY_BLOCKS: u64 = u64::MAX;
 
-/// Why it ends: the exit status, and what it says.
+/// Why it ends: the exit status and the message.
 struct End {
     status: u8,
     text: String,
@@ -143,9 +143,9 @@ fn print(text: &str) -> Result<(), End> {
     io::stdout().write_all(text.as_bytes()).map_err(end(FAILED, "standard output"))
 }
 
-/// The version, and how the library was built, which the build says.
+/// The version, and how the library was built, as this build records it.
 fn version() -> String {
-    let made = option_env!("NVMETCP_LIBRARY").unwrap_or("in a way that this build was not told");
+    let made = option_env!("NVMETCP_LIBRARY").unwrap_or("in an unrecorded way");
     let proofs = if libcrypto::IS_THERE { "with --keys" } else { "without --keys: there was no libcrypto" };
     format!("nvmetcp {}\nover libnvmesim built {made}\nbuilt {proofs}\n", env!("CARGO_PKG_VERSION"))
 }
@@ -160,14 +160,14 @@ fn print_where() -> Result<(), End> {
 fn check(words: &[OsString]) -> Result<(), End> {
     let path = match words {
         [path] => Path::new(path),
-        _ => return Err(End { status: BAD_COMMAND_LINE, text: "--check CONFIG is wanted".to_owned() }),
+        _ => return Err(End { status: BAD_COMMAND_LINE, text: "--check needs one CONFIG".to_owned() }),
     };
     let text = configuration::text_of(path).map_err(end(FAILED, path.display()))?;
     judge(path, &text, ANY_BLOCKS)?;
     print(&format!("{}: not refused\n", path.display()))
 }
 
-/// The configuration in a text of a file, for an image of so many blocks.
+/// The configuration in a file's text, for an image of `blocks` blocks.
 fn judge(path: &Path, text: &[u8], blocks: u64) -> Result<Configuration, End> {
     Configuration::read(text, blocks)
         .map_err(|reason| End { status: REFUSED, text: format!("{}:{reason}", path.display()) })
@@ -177,7 +177,7 @@ fn judge(path: &Path, text: &[u8], blocks: u64) -> Result<Configuration, End> {
 fn control_line(words: &[OsString]) -> Result<(), End> {
     let (socket, line) = match words {
         [socket, line @ ..] if !line.is_empty() => (Path::new(socket), line.join(" ".as_ref())),
-        _ => return Err(End { status: BAD_COMMAND_LINE, text: "ctl SOCKET LINE is wanted".to_owned() }),
+        _ => return Err(End { status: BAD_COMMAND_LINE, text: "ctl needs SOCKET and LINE".to_owned() }),
     };
     let answer = control::ask(socket, &line.to_string_lossy()).map_err(end(FAILED, socket.display()))?;
     print(&answer)?;
@@ -205,7 +205,7 @@ fn serve(words: Vec<OsString>) -> Result<(), End> {
     serve_over(options, configuration, &text, keys)
 }
 
-/// Reads the keys, if there are to be any. From here on the memory of this process is nobody else's.
+/// Reads the keys, if the options name a file. From here on no other process can read the memory of this one.
 fn read_keys(options: &Options) -> Result<Option<Keys>, End> {
     let path = match &options.keys {
         Some(path) => path,
@@ -221,7 +221,7 @@ fn read_keys(options: &Options) -> Result<Option<Keys>, End> {
 
 /// Serves what a text describes until something ends it.
 fn serve_over(options: Options, configuration: Configuration, text: &[u8], keys: Option<Keys>) -> Result<(), End> {
-    // The locks and the port come first: what is read behind them stays as it is.
+    // Locks and port come first: what is read afterwards stays as it is.
     let image = open_image(&options, text)?;
     let folder = optional(&options.state, |path| state::open(path, options.waits))?;
     let listeners = listen(&options)?;
@@ -270,7 +270,7 @@ fn open_image(options: &Options, text: &[u8]) -> Result<Option<File>, End> {
     Ok(image)
 }
 
-/// Whether the image can't be written, which is told unless it was asked for.
+/// Whether the image can't be written; a warning says so unless `--read-only` was given.
 fn tells_read_only(options: &Options) -> bool {
     match &options.image {
         Some(path) if !options.settings.is_read_only && image::is_read_only(path) => {
@@ -286,7 +286,7 @@ fn optional<T>(path: &Option<PathBuf>, open: impl FnOnce(&Path) -> io::Result<T>
     path.as_ref().map(|path| open(path).map_err(end(FAILED, path.display()))).transpose()
 }
 
-/// Has a target begin as its options say: write protected, and with what persists.
+/// Prepares a target as its options say: write protected, and with what persists.
 fn begin(target: &mut Target<'_>, journal: Option<(Journal, Vec<Event>)>) -> Result<(), End> {
     if target.settings.is_read_only {
         if !target.protect().map_err(end(FAILED, "write protection"))? {
@@ -297,16 +297,16 @@ fn begin(target: &mut Target<'_>, journal: Option<(Journal, Vec<Event>)>) -> Res
     journal.map_or(Ok(()), |(journal, events)| restore(target, journal, &events))
 }
 
-/// Opens the journal of a folder, and says what of it is left out; the events that are not.
+/// Opens the journal of a folder, and reports which part of it is dropped; the other events.
 fn open_journal(folder: Folder, configuration: &Configuration) -> Result<(Journal, Vec<Event>), End> {
     let path = folder.path.clone();
     let what = path.display();
     let (journal, Found { current, torn }) = journal::open(folder, configuration).map_err(end(FAILED, &what))?;
     if torn != 0 {
-        warn(format_args!("{what}: the last {torn} bytes are a part of a record, which nobody was told of"));
+        warn(format_args!("{what}: dropped the last {torn} bytes, an incomplete record that was never answered"));
     }
     if current.stale != 0 {
-        let why = "of an older epoch than those before them: their target went on when another had taken over";
+        let why = "of an older epoch than those before them: their target had continued after another took over";
         warn(format_args!("{what}: {} records are ignored, since they are {why}", current.stale));
     }
     Ok((journal, current.events))

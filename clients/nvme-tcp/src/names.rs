@@ -1,4 +1,4 @@
-//! Names of commands, for those who look.
+//! Names of commands, for log and metrics.
 
 /// The name of a command, by its queue and its opcode.
 pub fn command_name(qid: u16, opcode: u8) -> &'static str {

@@ -1,5 +1,5 @@
-//! Numbers of the NVMe standard, and the limits of the subsystem: opcodes, features, sizes, and queues. They are in this
-//! file alone.
+//! Numbers of the NVMe standard, and the limits of the subsystem: opcodes, features, sizes, and queues. They are in
+//! this file alone.
 
 /// The size of a block, and of a submission queue entry.
 pub const BLOCK: u64 = 512;
@@ -53,7 +53,7 @@ pub const COMMAND_EFFECTS: u8 = 0x05;
 pub const NAMESPACE_ACCESS: u8 = 0x0c;
 pub const FEATURE_EFFECTS: u8 = 0x12;
 
-/// A namespace identifier that stands for all.
+/// The namespace identifier of all namespaces.
 pub const ALL_NAMESPACES: u32 = 0xffff_ffff;
 
 /// Opcodes of I/O commands.

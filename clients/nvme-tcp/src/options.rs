@@ -25,8 +25,8 @@ CONFIG has the lines of a script before `start`: controllers with their hosts, n
                                [::] includes IPv4
   --name NQN                   the subsystem's name, by default nqn.2024-01.example:suvmileh
   --keys FILE                  authenticate hosts by DH-HMAC-CHAP; FILE has a line HOSTID HOSTNQN SECRET
-                               [SECRET-OF-THE-CONTROLLER] for each, only its owner may access it, and SIGHUP has it
-                               read again
+                               [SECRET-OF-THE-CONTROLLER] for each, only its owner may access it, and SIGHUP rereads
+                               it
   --dhchap HASH,GROUP          hash and DH group of authentication, by default sha256,ffdhe2048: sha256, sha384 or
                                sha512; null, ffdhe2048, ffdhe3072, ffdhe4096, ffdhe6144 or ffdhe8192
   --allow HOSTID=ADDRESS       accept the host of CONFIG with this HOSTID, a UUID, from this address only; may be
@@ -50,9 +50,9 @@ CONFIG has the lines of a script before `start`: controllers with their hosts, n
 Control lines: powercycle, hold C, held C, go C, ana C STATE, hosts, counts, metrics; and queries, as in nvmelive:
 ?reservation N, ?attached, ?namespaces, ?blocks N SLBA COUNT, ?fetched C, ?queues C, ?registers C, ?register C OFF,
 ?window C ADDR LEN, ?help [WORD], ?line TEXT.
-Exit status: 0 ended by SIGTERM or SIGINT; 1 the configuration or the keys are refused, or there is no such line; 2 a
-file, a socket or the system failed; 3 bad command line. On such a signal it sends the answers that are due, syncs its
-files and closes its connections; a second one ends it at once.
+Runs until SIGTERM or SIGINT: it then sends the answers that are due, syncs its files and closes its connections; a
+second signal ends it at once. Exit status: 0 ended by a signal; 1 the configuration or the keys are refused, or there
+is no such line; 2 a file, a socket or the system failed; 3 bad command line.
 ";
 
 /// The words of a command line.
@@ -63,7 +63,7 @@ pub struct Options {
     pub waits: bool,
     /// Whether a script replaces files that are there.
     pub replaces: bool,
-    /// Where it listens.
+    /// The addresses to listen at.
     pub listen: Vec<SocketAddr>,
     pub settings: Settings,
     pub state: Option<PathBuf>,
@@ -75,7 +75,7 @@ pub struct Options {
 }
 
 impl Options {
-    /// Reads the words behind the program's name. The error says what is wrong with them.
+    /// Parses the words after the program's name. The error says what is wrong with them.
     pub fn read(words: impl Iterator<Item = OsString>) -> Result<Options, String> {
         let settings = Settings {
             name: "nqn.2024-01.example:suvmileh".to_owned(),
@@ -113,7 +113,7 @@ impl Options {
         }
         match configs.pop() {
             Some(config) if configs.is_empty() => Ok(Options { config, ..options }),
-            _ => Err("one CONFIG is wanted".to_owned()),
+            _ => Err("one CONFIG is needed".to_owned()),
         }
     }
 

@@ -1,5 +1,4 @@
-//! Bytes that are to be sent. Their room is kept, and what stood there before is written over, so that data are put in
-//! place once.
+//! Bytes to send. The buffer is kept and reused, so that data are copied once.
 
 /// Bytes in the order in which they go.
 #[derive(Default)]
@@ -20,7 +19,7 @@ impl Output {
         &self.bytes[self.begin..self.end]
     }
 
-    /// So many of them have been sent.
+    /// Number of bytes sent.
     pub fn sent(&mut self, count: usize) {
         self.begin += count;
         if self.begin == self.end {
@@ -28,19 +27,19 @@ impl Output {
         }
     }
 
-    /// Puts bytes behind the others.
+    /// Appends bytes.
     pub fn put(&mut self, part: &[u8]) {
         self.room(part.len()).copy_from_slice(part);
     }
 
-    /// Puts bytes after the others, no more than `most`, by what says how many it has put. If that fails, there are none.
+    /// Appends at most `most` bytes by a function that returns how many it has written. If it fails, none are appended.
     pub fn fill<E>(&mut self, most: usize, put: impl FnOnce(&mut [u8]) -> Result<usize, E>) -> Result<(), E> {
         let put = put(self.room(most));
         self.end -= most - *put.as_ref().unwrap_or(&0);
         put.map(|_| ())
     }
 
-    /// Room for so many bytes behind the others. It has bytes of before, and the caller writes all of it.
+    /// Extends the bytes by `length`. The caller must overwrite all of them: they are old ones.
     pub fn room(&mut self, length: usize) -> &mut [u8] {
         if self.begin != 0 && self.end + length > self.bytes.len() {
             self.bytes.copy_within(self.begin..self.end, 0);

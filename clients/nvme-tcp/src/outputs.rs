@@ -10,7 +10,7 @@ use std::io::{self, ErrorKind};
 use std::os::unix::fs::FileTypeExt;
 use std::path::{Path, PathBuf};
 
-/// The transcript of a script: beside it, with `.out` at its end.
+/// The transcript of a script: next to it, with `.out` at its end.
 fn transcript_of(script: &Path) -> PathBuf {
     let mut path = script.as_os_str().to_owned();
     path.push(".out");

@@ -56,8 +56,8 @@ const IO_EFFECTS: [(u8, u32); 10] = [
     (RESERVATION_RELEASE, 0),
 ];
 
-/// The part of a page that Get Log Page asks for, and zeros after the end of the page. NUMDL and NUMDU say how many double
-/// words that is, LPOL and LPOU where it begins.
+/// The part of a page that Get Log Page asks for, and zeros after the end of the page. NUMDL and NUMDU give its length
+/// in double words, LPOL and LPOU its offset.
 pub fn part(page: &[u8], entry: &[u8; ENTRY], length: usize) -> Result<Answer, Status> {
     let words = u64::from(u16_at(entry, 42)) | u64::from(u32_at(entry, 44) & 0xffff) << 16;
     let (asked, offset) = (4 * (words + 1), u64_at(entry, 48));
@@ -98,7 +98,7 @@ fn firmware_page() -> Vec<u8> {
 }
 
 impl Target<'_> {
-    /// Carries out Get Log Page.
+    /// Executes Get Log Page.
     pub fn get_log_page(&mut self, index: usize, entry: &[u8; ENTRY], length: usize) -> Outcome<Answer> {
         let retains = u32_at(entry, 40) & RETAIN != 0;
         if !PAGES.contains(&entry[40]) {

@@ -27,10 +27,10 @@ pub const IC: usize = 128;
 const COMMAND: usize = 72;
 const DATA: usize = 24;
 const DIGEST: usize = 4;
-/// A termination request repeats this much of a header at most.
+/// A termination request repeats at most this much of a header.
 const MOST_REPEATED: usize = 128;
 
-/// The most bytes of data in a capsule: Identify Controller's IOCCSZ, and what NVMe/TCP wants of admin queues.
+/// The most bytes of data in a capsule: Identify Controller's IOCCSZ, and the limit of NVMe/TCP for admin queues.
 pub const IN_CAPSULE: usize = 8192;
 /// The most bytes of any PDU that a host may send: PDO is a byte.
 pub const MOST: usize = 255 + MOST_DATA + DIGEST;
@@ -98,7 +98,7 @@ pub struct Layout {
     /// The sizes of its header and of the whole.
     pub header: usize,
     pub length: usize,
-    /// Where its data are, and how many.
+    /// Offset and length of its data.
     pub data: usize,
     pub data_length: usize,
     has_header_digest: bool,
@@ -106,7 +106,7 @@ pub struct Layout {
 }
 
 impl Layout {
-    /// Checks the eight bytes, before anything behind them is waited for.
+    /// Checks the eight bytes, before more is received.
     pub fn of(head: &[u8], agreed: Agreed) -> Result<Layout, Fatal> {
         let (header, most_data) = match head[0] {
             IC_REQUEST => (IC, 0),
@@ -132,7 +132,7 @@ impl Layout {
         Ok(Layout { kind, flags, header, length, data, data_length, has_header_digest, has_data_digest })
     }
 
-    /// A termination request of a host has no digest, and repeats a header in the place of data.
+    /// A termination request of a host has no digest, and repeats a header instead of data.
     fn of_termination(head: &[u8]) -> Result<Layout, Fatal> {
         let length = u32_at(head, 4) as usize;
         if usize::from(head[2]) != DATA {
@@ -156,7 +156,7 @@ impl Layout {
         }
     }
 
-    /// Where the data begin, by PDO, and how many there are.
+    /// Offset of the data, by PDO, and their length.
     fn data_of(head: &[u8], least: usize, most_data: usize, has_digest: bool) -> Result<(usize, usize), Fatal> {
         let (place, length) = (usize::from(head[3]), u32_at(head, 4) as usize);
         let digest = if has_digest { DIGEST } else { 0 };
@@ -172,12 +172,12 @@ impl Layout {
         Ok((place, length - place - digest))
     }
 
-    /// Whether the digest of the header is right, where there is one.
+    /// Whether the digest of the header is right, if there is one.
     pub fn has_right_header(&self, unit: &[u8]) -> bool {
         !self.has_header_digest || crc32c(&unit[..self.header]) == u32_at(unit, self.header)
     }
 
-    /// Whether the digest of the data is right, where there is one.
+    /// Whether the digest of the data is right, if there is one.
     pub fn has_right_data(&self, unit: &[u8]) -> bool {
         !self.has_data_digest || crc32c(self.data_in(unit)) == u32_at(unit, self.data + self.data_length)
     }
@@ -214,7 +214,7 @@ pub fn termination(out: &mut Output, fatal: Fatal, header: &[u8]) {
     out.put(repeated);
 }
 
-/// A header of 24 bytes, with its digest where there is one.
+/// A header of 24 bytes, with its digest if there is one.
 fn push_header(out: &mut Output, agreed: Agreed, unit: &[u8; DATA]) {
     out.put(unit);
     if agreed.header_digests {
@@ -242,7 +242,7 @@ pub fn ready_to_transfer(out: &mut Output, agreed: Agreed, cid: u16, tag: u16, l
     push_header(out, agreed, &unit);
 }
 
-/// All data of a command in one PDU: the header, and room for so many bytes, all of which `fill` writes.
+/// All data of a command in one PDU: the header, and `length` bytes, all of which `fill` writes.
 pub fn controller_data<E>(
     out: &mut Output,
     agreed: Agreed,

@@ -12,19 +12,19 @@ const TRANSPORT: u8 = 0x5a;
 /// PSDT 01b in the second byte: an SGL.
 const SGL: u8 = 0x40;
 
-/// Where the data of a command are.
+/// The location of a command's data.
 #[derive(Clone, Debug, PartialEq, Eq)]
 pub enum Pointer {
-    /// So many bytes, which may be none, come from the controller.
+    /// This many bytes, possibly none, come from the controller.
     FromController(usize),
     /// These bytes of the capsule's data go to it.
     InCapsule(Range<usize>),
-    /// So many bytes go to it, which the host sends when it is asked to.
+    /// This many bytes go to the controller; the host sends them in answer to R2T.
     OnRequest(usize),
 }
 
 impl Pointer {
-    /// The pointer of a command whose capsule has so many bytes of data.
+    /// The pointer of a command whose capsule has `capsule` bytes of data.
     pub fn of(entry: &[u8; ENTRY], capsule: usize) -> Result<Pointer, Status> {
         if entry[1] & 0xc0 != SGL {
             return Err(INVALID_FIELD);

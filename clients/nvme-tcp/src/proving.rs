@@ -40,7 +40,7 @@ pub struct Prover {
 }
 
 impl Prover {
-    /// Starts the thread. `path` is where the keys came from, and are read again.
+    /// Starts the thread. `path` is the file of keys, which may be read again.
     pub fn start(path: &Path, keys: Keys, choice: Choice, subsystem: &str, controllers: usize) -> io::Result<Prover> {
         let wanted = (0..controllers).map(|_| Rc::new(())).collect();
         let (path, subsystem) = (path.to_owned(), subsystem.into());
@@ -80,7 +80,7 @@ impl Proof {
     }
 }
 
-/// Whether a command is executed before the proof.
+/// Whether a command is executed before authentication.
 pub fn goes_before_proof(entry: &[u8; ENTRY]) -> bool {
     entry[0] == FABRICS && matches!(entry[4], AUTHENTICATION_SEND | AUTHENTICATION_RECEIVE | DISCONNECT)
 }
@@ -96,8 +96,8 @@ impl Target<'_> {
         self.prover.as_ref().map_or(0, |it| Rc::strong_count(&it.wanted[index]) - 1)
     }
 
-    /// The proof that a queue needs, if there are keys. Discovery needs none: nvme-cli 2.3 gives the kernel no secret
-    /// for it.
+    /// The authentication that a queue needs, if there are keys. Discovery needs none: nvme-cli 2.3 gives the kernel no
+    /// secret for it.
     pub fn proof_of(&self, data: &ConnectData, place: Session) -> Option<Proof> {
         let prover = self.prover.as_ref()?;
         let count = match place {

@@ -1,7 +1,7 @@
-//! A new subsystem gets what persists of the last one: the commands of the journal are carried out again, and power is
-//! lost at each start. So its state is that of one run of the subsystem, in which each restart is a power cycle. That of
-//! a read-only image is write protected before, by commands too, and those of the journal on write protection are left
-//! out.
+//! A new subsystem gets what persists of the last one: the commands of the journal are executed again, and power is
+//! lost at each start. So its state is that of one run of the subsystem, in which each restart is a power cycle. With a
+//! read-only image it is write protected first, also by commands, and the journal's commands on write protection are
+//! skipped; they count again in the next target that writes.
 
 use crate::bytes::put;
 use crate::controller::{Data, ENABLE};
@@ -13,7 +13,7 @@ use crate::status::SUCCESS;
 use crate::target::Target;
 use crate::window::PAGE;
 
-/// CC of a controller that carries out commands of the journal: entries of 64 and of 16 bytes.
+/// CC of a controller that executes commands of the journal: entries of 64 and of 16 bytes.
 const CONFIGURATION: u32 = 4 << 20 | 6 << 16 | ENABLE;
 /// The I/O queue of these commands.
 const QUEUE: u16 = 1;
@@ -22,7 +22,7 @@ const ATTACH: u32 = 0;
 const DETACH: u32 = 1;
 
 impl Target<'_> {
-    /// Carries out the events of a journal; the number of the first that does not succeed now, if one does not.
+    /// Executes the events of a journal; the number of the first that fails now, if one does.
     pub fn restore(&mut self, events: &[Event]) -> Outcome<Option<usize>> {
         for (number, event) in events.iter().enumerate() {
             if !self.restore_one(event)? {
@@ -48,7 +48,7 @@ impl Target<'_> {
         self.succeeds(usize::from(cntlid).wrapping_sub(1), qid, entry, data)
     }
 
-    /// Carries out a command of a controller, if it is there; whether it has succeeded.
+    /// Executes a command of a controller, if it is there; whether it has succeeded.
     fn succeeds(&mut self, index: usize, qid: u16, entry: &[u8; ENTRY], data: &[u8]) -> Outcome<bool> {
         let controller = match self.controllers.get_mut(index) {
             Some(controller) => controller,
@@ -65,8 +65,8 @@ impl Target<'_> {
         Ok(completed.status == SUCCESS)
     }
 
-    /// Write protects all namespaces; whether it could. Set Features wants a controller that is attached: a namespace
-    /// without one has the first for so long.
+    /// Write protects all namespaces; whether it could. Set Features needs an attached controller: a namespace without
+    /// one is attached to the first meanwhile.
     pub fn protect(&mut self) -> Outcome<bool> {
         let nsids: Vec<u32> = self.configuration.config.namespaces.iter().map(|it| it.nsid).collect();
         let mut is_done = true;

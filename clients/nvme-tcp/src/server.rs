@@ -22,9 +22,9 @@ use std::time::{Duration, Instant};
 const CONTROL: u64 = 0;
 /// That of the thread which computes for proofs.
 const WORK: u64 = u64::MAX;
-/// How often it is looked what has taken too long.
+/// Interval between timeout checks.
 const LOOK: Duration = Duration::from_millis(100);
-/// How many connections there are at most that are no queue of a controller. One makes room for a new one.
+/// The most connections without a controller's queue. A new one closes one of them.
 const MOST_GUESTS: usize = 48;
 const MOST_CONSOLES: usize = 8;
 
@@ -35,7 +35,7 @@ const TO_READ: Interest = Interest { read: true, write: false };
 struct Served {
     connection: Connection,
     interest: Interest,
-    /// The system has what was handed over so far before it says what it has to say, and is heard again.
+    /// The system must have everything of the batch before its answers are sent and more is received.
     waits_for: Option<Handed>,
 }
 
@@ -59,11 +59,11 @@ pub struct Server<'a> {
     hosts: Vec<Listener<TcpListener>>,
     control: Option<Listener<UnixListener>>,
     connections: HashMap<u64, Served>,
-    /// Where they receive.
+    /// Receive buffers.
     rooms: Rooms,
     /// The connections that wait for script or image, in the order in which they have begun to.
     waiting: VecDeque<u64>,
-    /// Whether there is only one connection that can be served, the same as before, and none that waits.
+    /// Whether only one connection can be served, the same as before, and none waits.
     is_alone: bool,
     /// The connection that could be served last, if there was only one.
     last: Option<u64>,
@@ -115,7 +115,8 @@ impl<'a> Server<'a> {
         self.target.sync()
     }
 
-    /// Takes no more connections and no more commands. Those that are there get the answers that are due, and are closed.
+    /// Takes no more connections and no more commands. Those that are there get the answers that are due, and are
+    /// closed.
     fn end_connections(&mut self) -> Outcome<()> {
         let poll = &self.poll;
         self.hosts.drain(..).try_for_each(|it| it.close(poll)).map_err(Fault::System)?;
@@ -134,8 +135,8 @@ impl<'a> Server<'a> {
         Ok(())
     }
 
-    /// Serves all that can be served. Where that is nothing, and connections wait for script or image, it waits for the
-    /// first of these.
+    /// Serves every connection that is ready. If none is, and some wait for script or image, blocks on the oldest
+    /// write.
     fn turn(&mut self, ready: &mut Vec<Ready>, look: &mut Instant) -> Outcome<()> {
         let patience = if self.waiting.is_empty() { LOOK } else { Duration::ZERO };
         self.poll.wait(patience.as_millis() as i32, ready).map_err(Fault::System)?;
@@ -174,13 +175,13 @@ impl<'a> Server<'a> {
         Ok(())
     }
 
-    /// What the system has to have before the first connection goes on of those that wait.
+    /// The batches after which the first waiting connection continues.
     fn awaited(&self) -> Option<Handed> {
         self.waiting.front().and_then(|name| self.connections.get(name)).and_then(|served| served.waits_for)
     }
 
-    /// Whether one connection alone can be served, as before, so that it is likely that nothing comes of others. Where many
-    /// are served there are moments at which one of them can be.
+    /// Whether only one connection can be served, as before, so that others are probably idle. With many hosts there
+    /// are moments at which one of them is ready.
     fn is_only(&mut self, ready: &[Ready]) -> bool {
         let before = self.last;
         match ready {
@@ -245,7 +246,7 @@ impl<'a> Server<'a> {
         Ok(true)
     }
 
-    /// Has connections go on whose proofs have waited for work.
+    /// Continues connections whose authentication has waited for a computation.
     fn take_work(&mut self) -> Outcome<()> {
         for Finished { connection, done } in self.target.take_finished() {
             if let Some(served) = self.connections.get_mut(&connection) {
@@ -256,7 +257,7 @@ impl<'a> Server<'a> {
         Ok(())
     }
 
-    /// Has connections say what they have to say for which the system has all that was to be handed over.
+    /// Sends the answers for which the system has all that had to be written.
     fn resume(&mut self) -> Outcome<()> {
         for _ in 0..self.waiting.len() {
             let name = self.waiting.pop_front().unwrap_or_default();
@@ -275,7 +276,7 @@ impl<'a> Server<'a> {
         Ok(())
     }
 
-    /// Goes on with a connection, and with what that has done to others.
+    /// Flushes a connection, then applies side effects on others.
     fn finish(&mut self, name: u64, is_handed: bool) -> Outcome<()> {
         self.send(name, is_handed)?;
         if self.connections.get(&name).map_or(false, |it| it.connection.is_closed) {
@@ -284,9 +285,8 @@ impl<'a> Server<'a> {
         self.apply_effects()
     }
 
-    /// Sends what a connection has to say, and takes PDUs that had to wait for that. Script and image go first, unless
-    /// they are handed over, so that they have all that a host was told. Where they take a while, the connection waits for
-    /// them.
+    /// Sends a connection's answers, and takes PDUs that had to wait for that. Script and image are written first, so
+    /// that they have everything that a host was answered. If that takes a while, the connection waits for them.
     fn send(&mut self, name: u64, is_handed: bool) -> Outcome<()> {
         let Server { target, connections, waiting, is_alone, .. } = self;
         let served = match connections.get_mut(&name) {

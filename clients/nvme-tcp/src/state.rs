@@ -1,4 +1,4 @@
-//! The state folder: the lock that says that one target has it, and the identity that says that a target has used it.
+//! The state folder: a lock by which one target has it, and the identity, which also shows that a target has used it.
 //! The journal is the third file there.
 
 use crate::control;
@@ -17,7 +17,7 @@ const IDENTITY: &str = "identity";
 pub const JOURNAL: &str = "journal";
 /// All files of the folder.
 pub const FILES: [&str; 3] = [IN_USE, IDENTITY, JOURNAL];
-/// The most bytes of the line that says who has locked it.
+/// The longest line that names the owner of the lock.
 const MOST_NAMED: u64 = 200;
 
 /// A state folder that this target has.
@@ -29,7 +29,7 @@ pub struct Folder {
 }
 
 impl Folder {
-    /// Has the folder say that it was used, and which disk it is of.
+    /// Records that the folder was used, and the identity of its disk.
     pub fn use_it(&mut self) -> io::Result<Identity> {
         if let Some(identity) = self.identity {
             return Ok(identity);
@@ -78,7 +78,7 @@ fn me() -> String {
     format!("process {} (nvmetcp) of machine {}\n", std::process::id(), machine.trim())
 }
 
-/// Who has locked the file: a process of this machine, or else whoever has named itself in the file.
+/// The owner of the lock: a process of this machine, or else the name in the file.
 fn holder(file: &File) -> String {
     known_holder(file).unwrap_or_else(|| {
         let (mut file, mut text) = (file, String::new());

@@ -1,4 +1,4 @@
-//! The statuses of completions, and which of them say Do Not Retry.
+//! The statuses of completions, and which of them have Do Not Retry.
 
 use std::fmt;
 
@@ -75,9 +75,9 @@ impl Status {
         }
     }
 
-    /// Whether the same command may succeed later or by another path, without anything that its host has to do first.
-    /// All others say Do Not Retry: Linux repeats a command without it five times, and a write that a preemption has
-    /// aborted would then be carried out once its host has registered again.
+    /// Whether the same command may succeed later or by another path, before its host has done anything else. All
+    /// others have Do Not Retry: Linux repeats a command without it five times, and a write that a preemption has
+    /// aborted would then be executed once its host has registered again.
     fn a_repeat_can_help(self) -> bool {
         matches!(self, COMMAND_SEQUENCE | TRANSIENT_TRANSPORT | CONTROLLER_BUSY | INACCESSIBLE)
     }

@@ -1,11 +1,10 @@
-//! Calls of the system that the standard library has not: its poll, epoll(7), options of sockets, room for files and
-//! their locks, signals, and what keeps memory secret.
-//! One of the three files where something is unsafe. The others are `libcrypto.rs`, and that of the library's calls,
-//! clients/rust/src/raw.rs.
+//! System calls that the standard library lacks: its poll, epoll(7), options of sockets, space and locks of files,
+//! signals, and what keeps memory secret. One of three files with unsafe code. The others are `libcrypto.rs` and
+//! clients/rust/src/raw.rs, which calls the library.
 //!
-//! What makes it safe: `Event` is laid out as the kernel's `struct epoll_event` on x86-64, which is packed; the arrays
-//! and values that the calls are given are as long as they are told; and a descriptor that a call has returned is owned
-//! by nobody else. The handler of signals stores to an atomic value and calls signal(2), which a handler may do.
+//! Why it is safe: `Event` has the layout of the kernel's `struct epoll_event` on x86-64, which is packed; arrays and
+//! values have the lengths that the calls are given; and nobody else owns a descriptor that a call has returned. The
+//! signal handler stores to an atomic value and calls signal(2), as a handler may.
 
 use std::fs::File;
 use std::io;
@@ -45,7 +44,7 @@ const FAULT: u32 = 0x008;
 const HANG_UP: u32 = 0x010;
 /// FALLOC_FL_KEEP_SIZE.
 const KEEP_LENGTH: i32 = 1;
-/// How many events one call gives.
+/// The most events of one call.
 const MOST: usize = 64;
 
 extern "C" {
@@ -82,7 +81,7 @@ pub fn note_signals() {
     act_on_signals(ask_to_end as extern "C" fn(i32) as usize);
 }
 
-/// Whether such a signal was noted.
+/// Whether this signal has come.
 pub fn is_asked_to_end() -> bool {
     IS_ASKED_TO_END.load(Ordering::Relaxed)
 }
@@ -118,10 +117,9 @@ pub fn user() -> u32 {
     unsafe { geteuid() }
 }
 
-/// Options of sockets by their levels: SO_KEEPALIVE; the seconds without a byte behind which the system asks whether the
-/// other side is there, TCP_KEEPIDLE; those between two such questions, TCP_KEEPINTVL; how many of them are in vain until
-/// the connection ends, TCP_KEEPCNT; and the milliseconds after which it ends where what was sent is not acknowledged,
-/// TCP_USER_TIMEOUT.
+/// Options of sockets by their levels: SO_KEEPALIVE; TCP_KEEPIDLE, idle seconds before the first probe; TCP_KEEPINTVL,
+/// seconds between probes; TCP_KEEPCNT, failed probes before the connection ends; and TCP_USER_TIMEOUT, milliseconds
+/// until it ends if sent bytes are not acknowledged.
 const ASKS: [(i32, i32, i32); 5] = [(1, 9, 1), (6, 4, 30), (6, 5, 10), (6, 6, 6), (6, 18, 90_000)];
 
 /// Has the system end a connection whose other side was not heard of for 90 seconds.
@@ -134,7 +132,7 @@ pub fn end_when_lost(socket: &impl AsRawFd) -> io::Result<()> {
     })
 }
 
-/// Has the system take so many bytes of the disk for a file, from a place on. The file stays as long as it is.
+/// Reserves disk space for a file, from a position. The file keeps its length.
 pub fn reserve(file: &File, place: u64, count: u64) -> io::Result<()> {
     match unsafe { fallocate(file.as_raw_fd(), KEEP_LENGTH, place as i64, count as i64) } {
         0 => Ok(()),
@@ -191,8 +189,7 @@ impl Poll {
         }
     }
 
-    /// Waits until something can be done, or so long: puts that in the place of what stands in `ready`. A signal ends
-    /// the wait too.
+    /// Waits for events, at most for a time, and replaces the content of `ready` by them. A signal ends the wait too.
     pub fn wait(&mut self, milliseconds: i32, ready: &mut Vec<Ready>) -> io::Result<()> {
         ready.clear();
         let poll = self.descriptor.as_raw_fd();

@@ -33,16 +33,16 @@ use std::time::Instant;
 const READY: u32 = 1;
 const SHUTDOWN_STATUS: u32 = 3 << 2;
 
-/// What the command line says of the target.
+/// The settings of the command line.
 pub struct Settings {
     /// The subsystem's name.
     pub name: String,
     pub admission: Admission,
-    /// The address that discovery tells, where that is not the one that the host has reached.
+    /// The address that discovery returns, if it is not the one that the host has reached.
     pub advertised: Option<SocketAddr>,
     /// Whether all namespaces stay write protected.
     pub is_read_only: bool,
-    /// Whether it is told on standard error what hosts do.
+    /// Whether to log what hosts do.
     pub traces: bool,
     /// How the log is written.
     pub log: Form,
@@ -62,7 +62,7 @@ pub enum Effect {
     Answer(ConnectionId, [u8; ENTRY], Answer),
 }
 
-/// What was handed over so far: so many pieces of the script, and so many of the image.
+/// The numbers of batches begun so far, of the script and of the image.
 #[derive(Clone, Copy, Debug, Default, PartialEq, Eq)]
 pub struct Handed {
     script: u64,
@@ -134,14 +134,14 @@ impl<'a> Target<'a> {
         }
     }
 
-    /// Tells what happens, where that is wanted.
+    /// Logs what happens, if `--trace` asks for it.
     pub fn say(&self, text: fmt::Arguments<'_>) {
         if self.settings.traces {
             let _ = writeln!(io::stderr(), "nvmetcp: {text}");
         }
     }
 
-    /// Carries out a command that has its data. It has no answer yet where it is held.
+    /// Executes a command that has its data. A held command has no answer yet.
     pub fn carry_out(&mut self, queue: &mut HostQueue, entry: &[u8; ENTRY], data: Data<'_>) -> Outcome<Option<Answer>> {
         if entry[0] == FABRICS {
             if entry[4] == AUTHENTICATION_RECEIVE {
@@ -188,8 +188,8 @@ impl<'a> Target<'a> {
         Ok(Some(Answer::completed(completed, self.controllers[index].cntlid, length)))
     }
 
-    /// Has the processor fetch the first page of the blocks that a Write writes, while the command is on its way to them.
-    /// Elsewhere it does so by itself.
+    /// Has the processor fetch the first page of the blocks that a Write writes, while the command is on its way to
+    /// them. Elsewhere it does so by itself.
     fn prefetch(&self, entry: &[u8; ENTRY]) {
         if let (WRITE, Some(first)) = (entry[0], self.configuration.first_block(u32_at(entry, 4))) {
             let (slba, blocks) = (u64_at(entry, 40), u64::from(u16_at(entry, 48)) + 1);
@@ -198,7 +198,7 @@ impl<'a> Target<'a> {
         }
     }
 
-    /// Has the image and the journal follow a command that was allowed.
+    /// Makes image and journal follow a command that was allowed.
     pub fn follow(
         &mut self,
         index: usize,
@@ -228,15 +228,15 @@ impl<'a> Target<'a> {
         }
     }
 
-    /// Hands to the system what it has to have before a host hears of its commands, the blocks of the image and the lines
-    /// of the script, or has that begun. `is_awaited` says that nothing else can be done before it has them.
+    /// Writes what the system must have before a host hears of its commands, the blocks of the image and the lines of
+    /// the script, or begins to. With `is_awaited` the caller waits for that next.
     pub fn hand_over(&mut self, is_awaited: bool) -> Outcome<Handed> {
         let script = self.machine.begin_script(is_awaited)?;
         let image = self.image.as_mut().map_or(Ok(0), |it| it.begin(is_awaited))?;
         Ok(Handed { script, image })
     }
 
-    /// Whether the system has what was handed over so far.
+    /// Whether the system has everything up to `handed`.
     pub fn has(&self, handed: Handed) -> Outcome<bool> {
         let image = self.image.as_ref().map_or(Ok(0), Image::done)?;
         Ok(handed.image <= image && handed.script <= self.machine.script_done()?)
@@ -254,8 +254,8 @@ impl<'a> Target<'a> {
         self.machine.sync_script()
     }
 
-    /// An error if another target has taken the journal over; and where `all` is wanted, if another program has changed
-    /// the files otherwise.
+    /// An error if another target has taken the journal over, and with `all` also if another program has changed the
+    /// files.
     pub fn check_files(&self, all: bool) -> Outcome<()> {
         if all {
             self.image.as_ref().map_or(Ok(()), Image::check)?;

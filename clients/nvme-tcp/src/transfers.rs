@@ -1,11 +1,12 @@
-//! Commands whose data a host sends when it is asked to, by R2T.
+//! Commands whose data a host sends in answer to R2T.
 
 use crate::bytes::u16_at;
 use crate::nvme::ENTRY;
 use crate::pdu::{Fatal, OUT_OF_RANGE};
 use std::collections::VecDeque;
 
-/// How many commands of a connection have memory for their data at a time: 1 MiB at most. The others are asked later.
+/// The most commands of a connection that have memory for their data at a time, in all 1 MiB. The others get their R2T
+/// later.
 const MOST_ACTIVE: usize = 8;
 
 /// A command whose data are on their way.
@@ -67,12 +68,12 @@ impl Transfers {
         self.active.iter().flatten().map(|it| &it.entry).chain(waiting).any(|entry| u16_at(entry, 2) == cid)
     }
 
-    /// Takes a command that wants so many bytes.
+    /// Takes a command that expects `length` bytes.
     pub fn begin(&mut self, entry: [u8; ENTRY], length: usize) {
         self.waiting.push_back((entry, length));
     }
 
-    /// The next command that is to be asked for, where there is memory.
+    /// The next command to request data for, if there is memory.
     pub fn next_request(&mut self) -> Option<Request> {
         let free = self.active.iter().position(Option::is_none)?;
         let (entry, length) = self.waiting.pop_front()?;
@@ -81,8 +82,8 @@ impl Transfers {
         Some(Request { cid: u16_at(&entry, 2), tag: free as u16, length })
     }
 
-    /// Takes data, which come in their order; the command, where it has all of them now. Where they have come in one
-    /// part they are not copied, and stay in that.
+    /// Takes data, which come in order; the command, if it has all of them now. Data that have come in one part are not
+    /// copied.
     pub fn take(&mut self, part: &Part<'_>) -> Result<Option<Transfer>, Fatal> {
         let slot = self.active.get_mut(usize::from(part.tag)).ok_or(OUT_OF_RANGE)?;
         let transfer = slot.as_mut().ok_or(OUT_OF_RANGE)?;

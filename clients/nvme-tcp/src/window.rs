@@ -1,8 +1,8 @@
-//! Where things lie in the memory of 4 MiB that the target, in the place of a host, shares with a controller.
+//! The layout of the 4 MiB of memory that the target, acting as a host, shares with a controller.
 //!
-//! Submission queue q lies at page 2q + 1, completion queue q at page 2q + 2, the PRP list at page 16. Data end where
-//! the memory ends. So a command that moves more bytes than its host gave room for meets an address that is not there,
-//! and the subsystem answers Data Transfer Error.
+//! Submission queue q is at page 2q + 1, completion queue q at page 2q + 2, the PRP list at page 16. Data end at the
+//! end of the memory. So a command that moves more bytes than its host's buffer has meets an address that does not
+//! exist, and the subsystem answers Data Transfer Error.
 
 /// The size of the memory.
 pub const BYTES: u64 = 4 << 20;
@@ -12,7 +12,7 @@ pub const PAGE: u64 = 4096;
 pub const MOST_DATA: usize = 128 << 10;
 /// The most bytes of data of a command that is held between its fetch and its execution.
 pub const MOST_HELD_DATA: usize = 2 * PAGE as usize;
-/// How many commands of a controller are held at most.
+/// The most held commands of a controller.
 pub const MOST_HELD: usize = 16;
 
 const MOST_PAGES: u64 = MOST_DATA as u64 / PAGE;
@@ -20,18 +20,18 @@ const LIST: u64 = 16 * PAGE;
 /// No address of the memory.
 const NOWHERE: u64 = BYTES;
 
-/// Where a submission queue lies.
+/// Address of a submission queue.
 pub fn submission_queue(qid: u16) -> u64 {
     (2 * u64::from(qid) + 1) * PAGE
 }
 
-/// Where a completion queue lies.
+/// Address of a completion queue.
 pub fn completion_queue(qid: u16) -> u64 {
     (2 * u64::from(qid) + 2) * PAGE
 }
 
-/// The place of the PRP list, and its entries: the pages of the longest data behind the first, and then an address that
-/// is not there. The list of shorter data is its end.
+/// Address of the PRP list, and its entries: the pages of the longest data after the first, and then an address that
+/// does not exist. The list of shorter data is its end.
 pub fn prp_list() -> (u64, Vec<u8>) {
     let entries = (0..MOST_PAGES).rev().flat_map(|behind| (BYTES - PAGE * behind).to_le_bytes());
     (LIST, entries.collect())
@@ -52,12 +52,12 @@ impl Room {
         Room { end: BYTES - (MOST_DATA + n * MOST_HELD_DATA) as u64 }
     }
 
-    /// Where data of so many bytes begin. PRPs want it to be a multiple of 4.
+    /// Address of data of `length` bytes, a multiple of 4 as PRPs require.
     pub fn start(self, length: usize) -> u64 {
         (self.end - length as u64) & !3
     }
 
-    /// PRP1 and PRP2 of data of so many bytes.
+    /// PRP1 and PRP2 of data of `length` bytes.
     pub fn pointers(self, length: usize) -> (u64, u64) {
         let pages = (length as u64 + PAGE - 1) / PAGE;
         match pages {

@@ -1,12 +1,11 @@
-// Tells which calls of the system the target makes for its files, into which it is loaded by LD_PRELOAD.
+// Loaded into the target by LD_PRELOAD, it logs the system calls on the target's files.
 //
-// CALLS_TOLD names a file that gets a line for each: `writes PLACE COUNT` before a pwrite and `wrote PLACE COUNT` behind
-// it, `syncs` before an fdatasync and `synced` behind it, `reserves MODE PLACE COUNT` before an fallocate.
-// CALLS_GATE may name a pipe. A pwrite, or a write of 16 KiB, waits there until it gets a byte. So does an fdatasync at
-// CALLS_SYNC_GATE.
-// CALLS_REFUSAL may be an errno, by which each fallocate is refused.
-// Where there is CALLS_PART, a writev takes a part of the bytes, or is interrupted; `puts COUNT FIRST SECOND` is how many
-// of which. A long write takes a while then, so that there are next bytes behind it.
+// CALLS_TOLD names a file that gets a line for each: `writes PLACE COUNT` before a pwrite and `wrote PLACE COUNT` after
+// it, `syncs` before an fdatasync and `synced` after it, `reserves MODE PLACE COUNT` before an fallocate. CALLS_GATE
+// may name a pipe. A pwrite, or a write of 16 KiB, waits there until it gets a byte. So does an fdatasync at
+// CALLS_SYNC_GATE. CALLS_REFUSAL may be an errno, by which each fallocate is refused. With CALLS_PART, a
+// writev takes a part of the bytes, or is interrupted; `puts COUNT FIRST SECOND` is how many of which. A long write
+// then takes a while, so that more bytes are queued after it.
 #define _GNU_SOURCE
 #include <dlfcn.h>
 #include <errno.h>

@@ -10,7 +10,7 @@ from typing import NamedTuple, Optional, Sequence, Tuple
 from tests.host import SUBSYSTEM, Completion, Queue
 
 SEND, RECEIVE = 5, 6
-# SPSP0, SPSP1 and SECP, behind a reserved byte.
+# SPSP0, SPSP1 and SECP, after a reserved byte.
 PROTOCOL = b"\0\1\1\xe9"
 HASHES = {1: "sha256", 2: "sha384", 3: "sha512"}
 GROUP_NAMES = ("null", "ffdhe2048", "ffdhe3072", "ffdhe4096", "ffdhe6144", "ffdhe8192")
@@ -132,7 +132,7 @@ class Refused(Exception):
 
 
 class ChapQueue(Queue):
-    """A queue whose host proves who it is."""
+    """A queue whose host authenticates itself."""
 
     transaction = 0
 

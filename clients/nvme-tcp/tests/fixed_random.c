@@ -1,4 +1,4 @@
-/* In the place of libcrypto's random numbers: some that are the same in each run, so that what was recorded can be played
+/* Instead of libcrypto's random numbers: some that are the same in each run, so that what was recorded can be played
  * again. For tests alone, by LD_PRELOAD. */
 int RAND_bytes(unsigned char *bytes, int count);
 

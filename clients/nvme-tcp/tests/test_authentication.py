@@ -71,7 +71,7 @@ class Proofs(KeysTest):
             for queue in (admin, io):
                 queue.prove(names_of(0xa1), SECRETS[0xa1], CONTROLLER)
                 self.assertEqual(self.read(io), 0)
-        # While it goes on, commands are carried out.
+        # While it continues, commands are executed.
         challenge = io.begin()
         self.assertEqual(self.read(io), 0)
         io.finish(reply_to(challenge, names_of(0xa1), SECRETS[0xa1]))
@@ -151,7 +151,8 @@ class Proofs(KeysTest):
                 self.assertNotIn(it, told)
 
     def test_its_memory_is_nobody_elses(self) -> None:
-        """A process with keys makes no core dump, nor may others of its user trace it: its files in /proc are root's."""
+        """A process with keys makes no core dump, nor may others of its user trace it: its files in /proc are
+        root's."""
         user = os.geteuid() or 65534
         if os.geteuid() == 0:
             self.folder.chmod(0o755)

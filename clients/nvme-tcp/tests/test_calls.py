@@ -1,4 +1,4 @@
-"""What a target has the system do with its files: a Flush is answered when all blocks before it are synced, and a kept
+"""The system calls of a target on its files: a Flush is answered when all blocks before it are synced, and a kept
 script has room ahead of it, which is given back."""
 import errno
 import os
@@ -18,13 +18,13 @@ from tests.targets import BLOCKS, Target, TargetTest
 
 FORCE_UNIT_ACCESS = 1 << 30
 MEBIBYTE = 1 << 20
-# A file may have so many bytes on the disk that are not of its content.
+# The most bytes that a file may have on the disk beyond its content.
 SLACK = 128 << 10
 
 
 @unittest.skipUnless(shutil.which("cc"), "there is no cc")
 class CallsTest(TargetTest):
-    """A target that tells which calls it makes: see calls.c."""
+    """A target that reports which calls it makes: see calls.c."""
 
     def setUp(self) -> None:
         room = tempfile.TemporaryDirectory()
@@ -65,7 +65,7 @@ class Gate(CallsTest):
         self.assertEqual([queue.completion().status for _ in range(3)], [0] * 3)
 
     def pdu(self, queue: Queue, opcode: int, cid: int, slba: int = 0, count: int = 0, flags: int = 0) -> bytes:
-        """A command with so many blocks in its capsule."""
+        """A command with `count` blocks in its capsule."""
         data, words = bytes(BLOCK * count), struct.pack("<QI", slba, (count - 1) & 0xffff | flags)
         return queue.pdu(CAPSULE, entry_of(opcode, cid, 1, words, len(data), IN_CAPSULE), data)
 
@@ -167,7 +167,7 @@ class Rooms(CallsTest):
         super().setUp()
 
     def write(self, host: Host, count: int) -> None:
-        """Writes so many times 128 KiB, of which the script has twice as many bytes."""
+        """Writes `count` times 128 KiB, of which the script has twice as many bytes."""
         for it in range(count):
             self.assertEqual(host.write(256 * (it % 8), bytes([it + 1]) * 256 * BLOCK), 0)
 
@@ -176,7 +176,7 @@ class Rooms(CallsTest):
         return self.script.stat().st_blocks * 512 - self.script.stat().st_size
 
     def reserved(self) -> list:
-        """Where room was reserved, and how much, each time in such a way that the file's length stays."""
+        """Positions and lengths of reserved space; each reservation keeps the file's length."""
         told = [words for words in self.told() if words[0] == "reserves"]
         self.assertTrue(all(words[1] == "1" for words in told))
         return [(int(place), int(count)) for _, _, place, count in told]
@@ -210,7 +210,7 @@ class Rooms(CallsTest):
         self.target.start()
 
     def other(self, **environment: str) -> list:
-        """Writes the same to a target over whose calls these words say more: the files are the same. What is told of
+        """Writes the same to a target over whose calls these words say more: the files are the same. What it writes
         them."""
         self.write(self.host(), 10)
         with tempfile.TemporaryDirectory() as room:

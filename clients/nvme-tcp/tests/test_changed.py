@@ -83,7 +83,7 @@ class Image(ChangedTest):
 
 
 class Frozen(ChangedTest):
-    """A target is stopped, another takes its state folder over, as on another machine, and the first goes on."""
+    """A target is stopped, another takes its state folder over, as on another machine, and the first continues."""
 
     def setUp(self) -> None:
         kept = tempfile.TemporaryDirectory()
@@ -143,7 +143,7 @@ class Frozen(ChangedTest):
         self.ends("the journal: another target has taken its folder over: it began epoch 2, this one 1")
 
     def test_a_record_of_an_older_epoch(self) -> None:
-        """It was written behind the start of another target, so nobody was told of it."""
+        """It was written after the start of another target, so it was never answered."""
         journal = self.state / "journal"
         a = self.host()
         self.assertEqual(a.register(0, 0xa), 0)

@@ -9,12 +9,12 @@ from pathlib import Path
 from tests.host import BLOCK, Ended, Host
 from tests.targets import BLOCKS, PROGRAM, TWO_HOSTS
 
-# No file may become longer than this, or be written behind it.
+# No file may become longer than this, or be written after it.
 LIMIT = 100 * BLOCK
 
 
 def limited(limit: int) -> None:
-    """Of the target's process: a write behind the limit fails, and does not kill it."""
+    """Set in the target's process: a write past the limit fails without killing it."""
     signal.signal(signal.SIGXFSZ, signal.SIG_IGN)
     resource.setrlimit(resource.RLIMIT_FSIZE, (limit, limit))
 

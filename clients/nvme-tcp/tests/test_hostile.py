@@ -10,7 +10,7 @@ from tests.host import CAPSULE, HOST_DATA, SUBSYSTEM, Connection, digest_of, ent
 from tests.targets import TargetTest
 
 MUTATIONS = int(os.environ.get("MUTATIONS", "100000"))
-# So many PDUs go over a connection, unless it ends before.
+# The number of PDUs over a connection, unless it ends before.
 FOR_EACH = 40
 
 
@@ -55,9 +55,9 @@ def connect(made: Connection, qid: int) -> bytes:
 
 
 def changed(rng: random.Random, unit: bytes, digests: int) -> bytes:
-    """A PDU with some bytes changed, or cut, or with bytes behind it. The digest of its header is mostly made right."""
+    """A PDU with some bytes changed, or cut, or with bytes after it. The digest of its header is mostly made right."""
     out = bytearray(unit)
-    # Most changes leave the eight bytes alone that all PDUs have, so that the connection goes on.
+    # Most changes leave the eight bytes alone that all PDUs have, so that the connection continues.
     first = 0 if rng.random() < 0.04 else 8
     for _ in range(rng.choice((0, 1, 1, 1, 2, 3, 8))):
         at = rng.randrange(first, min(len(out), rng.choice((24, 76, len(out)))))
@@ -110,7 +110,7 @@ class Hostile(TargetTest):
             sent.append(changed(rng, rng.choice(units.commands if rng.random() < 0.98 else units.others), digests))
         try:
             connection.socket.sendall(b"".join(sent))
-            # Where it closes at once, what it has sent may be lost; else the target takes it all.
+            # If it closes at once, what it has sent may be lost; else the target takes it all.
             if rng.random() < 0.9:
                 connection.socket.shutdown(socket.SHUT_WR)
                 while connection.socket.recv(1 << 18):

@@ -1,4 +1,4 @@
-"""An image: it follows the commands, also where the target is killed at any moment; and the script of a run."""
+"""An image: it follows the commands, also if the target is killed at any moment; and the script of a run."""
 import os
 import random
 import socket
@@ -32,7 +32,7 @@ class Images(TargetTest):
                              host.read(slba, blocks).data)
 
     def test_many_at_once(self) -> None:
-        """Two hosts send many commands together, whose blocks are neighbours, overlap, or lie apart."""
+        """Two hosts send many commands together, whose blocks are neighbours, overlap, or are apart."""
         rng, queues = random.Random(9), [self.host().queues[0], self.host(0xb2).queues[0]]
         wanted = bytearray(BLOCK * BLOCKS)
         for _ in range(20):
@@ -105,7 +105,7 @@ class Killed(TargetTest):
 
     def one(self, turn: int, rng: random.Random) -> None:
         hosts = [Host(self.target.port, 0xa1), Host(self.target.port, 0xb2)]
-        # Of each host: what was answered for each of its blocks, and what was asked behind that.
+        # Of each host: what was answered for each of its blocks, and what was asked after that.
         told, fenced = [{}, {}], threading.Event()
         hosts[1].register(0, 0xb), hosts[1].reserve(0x11, 1 | 3 << 8, 0xb, 0xa), hosts[1].reserve(0x15, 1, 0xb)
         self.assertEqual([hosts[0].register(0, 0xa), hosts[0].acquire(0xa, kind=3), hosts[1].register(0, 0xb)], [0] * 3)
@@ -295,7 +295,7 @@ class Lasts(TargetTest):
         self.assertIn(text, ran.stderr)
 
     def test_a_journal_that_is_not_whole(self) -> None:
-        """In a folder that was used it is refused, and not begun anew without the reservations."""
+        """In a used folder it is refused instead of begun anew without the reservations."""
         self.host().register(0, 0xa)
         self.target.kill()
         whole = self.journal.read_bytes()
@@ -310,7 +310,7 @@ class Lasts(TargetTest):
         self.target.start()
 
     def test_a_target_that_was_killed_at_its_first_start(self) -> None:
-        """No host was told anything, and the folder does not say that it was used."""
+        """No host was answered, and the folder does not say that it was used."""
         self.target.kill()
         head = self.journal.read_bytes()[:-1]
         (self.journal.parent / "identity").unlink()
@@ -353,7 +353,7 @@ class Lasts(TargetTest):
         self.target.start()
 
     def test_a_journal_of_the_first_version(self) -> None:
-        """Its records have no epoch, and no start is among them. It is read, and goes on."""
+        """Its records have no epoch, and no start is among them. It is read and continued."""
         a, b = self.host(), self.host(0xb2)
         a.register(0, 0xa), a.acquire(0xa)
         self.target.kill()
@@ -375,7 +375,7 @@ class Lasts(TargetTest):
 
     def test_a_restart_is_a_power_cycle(self) -> None:
         """Hosts that ask at random are answered the same by a target that is started again and again, and by one in
-        which power is lost in place of that."""
+        which power is lost instead of that."""
         with tempfile.TemporaryDirectory() as room:
             other = Target(Path(room), self.config, 64)
             rng = random.Random(7)

@@ -17,7 +17,7 @@ from tests.targets import PROGRAM, TWO_HOSTS, Target, has_keys
 
 
 class Thieves(KeysTest):
-    """Whoever knows all names, and no secret."""
+    """A host that knows all names, but no secret."""
 
     def test_an_unproved_connect_holds_no_controller(self) -> None:
         thieves = [self.queue() for _ in range(5)]
@@ -25,7 +25,7 @@ class Thieves(KeysTest):
             thief.begin()
         admin = self.enabled()
         self.assertEqual([it["controller"] for it in self.target.hosts()], [1])
-        # One that proves itself later finds it taken, and a new Connect is told so.
+        # One that proves itself later finds it taken, and a new Connect is refused so.
         self.assertEqual(thieves[0].send_message(negotiate(1)), 0)
         challenge = Challenge.read(thieves[0].message())
         self.assert_refused(thieves[0], reply_to(challenge, names_of(0xa1), SECRETS[0xa1]).message, FAILED)
@@ -102,7 +102,7 @@ class Waits(KeysTest):
     options = ["--dhchap", "sha512,ffdhe8192"]
 
     def test_the_loop_never_waits(self) -> None:
-        """Commands of a host are carried out while numbers of other hosts' exchanges are computed."""
+        """Commands of a host are executed while numbers of other hosts' exchanges are computed."""
         admin = self.enabled()
         io = self.proved(qid=1, cntlid=admin.cntlid)
         others = [self.queue(0xb2) for _ in range(30)]
@@ -139,7 +139,8 @@ class ReadAgain(KeysTest):
         admin = self.enabled()
         io = self.proved(qid=1, cntlid=admin.cntlid)
         self.read_again(line(0xa1, NOBODYS) + line(0xb2, SECRETS[0xb2]), "the keys are those of")
-        # Who is there stays, and a queue of its association needs the new secret, as it does when it proves itself again.
+        # Who is there stays, and a queue of its association needs the new secret, as it does when it proves itself
+        # again.
         self.assertEqual(self.read(io), 0)
         old = self.queue(qid=2, cntlid=admin.cntlid)
         self.assert_refused(old, reply_to(old.begin(), names_of(0xa1), SECRETS[0xa1]).message, FAILED)

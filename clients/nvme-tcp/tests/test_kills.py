@@ -13,8 +13,8 @@ from pathlib import Path
 from tests.host import BLOCK, Ended, Host
 from tests.targets import BLOCKS, LIVE, TargetTest
 
-# Each host writes so many regions of so many blocks at a time. They are neighbours, which an image gets together; and
-# their lines are several pieces of a script.
+# Number of regions that each host writes at a time, and their blocks. They are neighbours, which an image gets
+# together; and their lines are several pieces of a script.
 REGIONS, REGION = 6, 100
 
 
@@ -29,7 +29,7 @@ class Kills(TargetTest):
         for turn in range(8):
             before = self.content()
             hosts = [Host(self.target.port, 0xa1), Host(self.target.port, 0xb2)]
-            # Of each place what may stand there.
+            # The possible bytes of each position.
             may = {place: [before[BLOCK * place:BLOCK * (place + REGION)]]
                    for place in (1024 * which + REGION * it for which in range(2) for it in range(REGIONS))}
             first = {place: pieces[0] for place, pieces in may.items()}

@@ -1,4 +1,4 @@
-"""What Linux said, played again: the target answers the same bytes."""
+"""Recorded bytes of Linux are replayed: the target answers the same bytes."""
 import contextlib
 import socket
 import tempfile
@@ -21,7 +21,7 @@ class Recorded(unittest.TestCase):
             with self.subTest(path.name), tempfile.TemporaryDirectory() as room, contextlib.ExitStack() as stack:
                 target = Target(Path(room), TWO_HOSTS, BLOCKS, ["--state", f"{room}/state"])
                 stack.callback(target.close)
-                # The identity is that of the target which was recorded.
+                # The identity of the recorded target.
                 target.kill()
                 Path(room, "state/identity").write_text(IDENTITY)
                 target.start()
@@ -29,7 +29,8 @@ class Recorded(unittest.TestCase):
 
     @unittest.skipUnless(has_keys(), "the program was built without libcrypto")
     def test_linux_proves_who_it_is(self) -> None:
-        """In one direction and in both, on each queue; and with a wrong secret. The target draws the same numbers."""
+        """Authentication in one direction and in both, on each queue, and with a wrong secret. The target uses the
+        recorded random numbers."""
         for path in sorted(DATA.glob("proofs/*.txt")):
             with self.subTest(path.name), tempfile.TemporaryDirectory() as room, contextlib.ExitStack() as stack:
                 keys = Path(room, "keys")

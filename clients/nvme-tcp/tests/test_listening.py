@@ -1,4 +1,4 @@
-"""Listening: at several addresses, without descriptors, and beside someone who reads lines of control slowly."""
+"""Listening: at several addresses, without descriptors, and with a client that reads answers of control slowly."""
 import os
 import resource
 import socket
@@ -46,7 +46,7 @@ class Addresses(unittest.TestCase):
         return made
 
     def discovered(self, place) -> tuple:
-        """The family, the address and the port that discovery tells there."""
+        """The family, the address and the port that discovery returns there."""
         queue = Queue(place)
         self.addCleanup(queue.close)
         queue.connect(0, 0xdead, name=DISCOVERY)
@@ -65,7 +65,8 @@ class Addresses(unittest.TestCase):
             self.assertEqual(self.discovered(place), (family, *place))
 
     def test_ipv4_by_ipv6(self) -> None:
-        """A host that comes by IPv4 to [::] has its own address, which --allow names, and hears of one that it knows."""
+        """A host that comes by IPv4 to [::] has its own address, which --allow names, and hears of one that it
+        knows."""
         allows = [it for host in ("a1", "b2") for it in ("--allow", f"{host}000000-0000-0000-0000-000000000000=127.0.0.1")]
         port = self.start("--listen", "[::]:0", *allows)[0][1]
         self.assertEqual(self.host(("127.0.0.1", port)).read(0, 1).status, 0)
@@ -104,7 +105,7 @@ class Addresses(unittest.TestCase):
                 self.assertIn(f"nvmetcp: 127.0.0.1:{place[1]}: ", ran.stderr)
 
     def test_no_descriptors(self) -> None:
-        """It says so once, waits without work, and goes on when there are some."""
+        """It says so once, waits without work, and continues when there are some."""
         place = self.start("--listen", "127.0.0.1:0", preexec_fn=lambda: resource.setrlimit(
             resource.RLIMIT_NOFILE, (DESCRIPTORS, DESCRIPTORS)))[0]
         host = self.host(place)
@@ -144,7 +145,7 @@ class Paths(TargetTest):
 
 class Consoles(TargetTest):
     def asking(self, line: str, count: int) -> socket.socket:
-        """Someone who asks a line so often."""
+        """A client that asks a line `count` times."""
         asking = socket.socket(socket.AF_UNIX)
         self.addCleanup(asking.close)
         asking.connect(str(self.folder / "control/socket"))

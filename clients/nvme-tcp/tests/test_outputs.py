@@ -1,4 +1,4 @@
-"""Files that the target writes: none that is there is replaced without being told to, and none is another one."""
+"""Files that the target writes: none replaces an existing one without --force, and no two are the same."""
 import os
 import socket
 import subprocess

@@ -1,4 +1,4 @@
-"""The sources: what is unsafe stands in three short files, numbers of the standard in one, and the crate's tests pass."""
+"""The sources: what is unsafe is in three short files, numbers of the standard in one, and the crate's tests pass."""
 import os
 import re
 import shutil

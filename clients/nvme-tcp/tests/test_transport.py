@@ -81,7 +81,7 @@ class Units(TargetTest):
         self.wait_until_free()
 
     def wait_until_free(self) -> None:
-        """The end of a connection is noticed before the next one is accepted, but for one that comes at once."""
+        """The end of a connection is noticed before the next one is accepted, except for one that comes at once."""
         self.wait_for(lambda: self.target.ask("hosts") == "[]")
 
     def test_a_connection_that_stops_at_any_byte(self) -> None:

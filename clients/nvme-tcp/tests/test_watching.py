@@ -20,7 +20,7 @@ LINE = re.compile(r"(\d{4}-\d\d-\d\dT\d\d:\d\d:\d\d\.\d{3}Z) nvmetcp: ([a-z-]+)"
 
 def samples_of(text: str) -> Dict[str, int]:
     """The samples of a text, by name and labels, as Prometheus' tools want them: each metric is described once, before
-    its samples, which stand together; a counter's name ends in _total; no sample is there twice."""
+    its samples, which are together; a counter's name ends in _total; no sample is there twice."""
     kinds, samples, current = {}, {}, ""
     lines = text.split("\n")
     assert lines.pop() == "# EOF", text
@@ -181,7 +181,7 @@ class Logs(LogTest):
                 ("this host has no such controller", "1:82", {"host": 0xb2, "cntlid": 1}),
                 ("the name of the host is wrong", "1:82", {"host": 0xb2, "host_name": "n" * 256}),
                 ("a parameter of Connect is wrong", "1:82", {"host": 0xb2, "size": 1}),
-                ("the command can't be carried out", "0:0c", {"host": 0xa1, "qid": 1, "cntlid": a.cntlid})):
+                ("the command can't be executed", "0:0c", {"host": 0xa1, "qid": 1, "cntlid": a.cntlid})):
             queue = Queue(self.target.port)
             queue.connect(**{"qid": 0, **how})
             host = f"{how['host']:02x}000000-0000-0000-0000-000000000000"

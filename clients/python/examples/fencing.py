@@ -52,7 +52,7 @@ class Agent:
 
     @property
     def has_quorum(self) -> bool:
-        """Whether it sees more than half of the nodes. Of two, whoever preempts first goes on."""
+        """Whether it sees more than half of the nodes. Of two, whoever preempts first continues."""
         return 2 * len(self.sees) > self.nodes or self.nodes == 2
 
     @property

@@ -11,7 +11,7 @@ from __future__ import annotations
 from nvmesim import AdminOpcode, IoOpcode, LibraryHost, Subsystem
 from nvmesim.library import Submitted
 
-# Where things stand in the memory of each host: queues of the admin and of one I/O pair, and a page of data.
+# The layout of each host's memory: queues of the admin and of one I/O pair, and a page of data.
 ADMIN_SQ, ADMIN_CQ, IO_SQ, IO_CQ, DATA = 0x0000, 0x1000, 0x2000, 0x3000, 0x10000
 LAST = 15
 # Offsets of registers.

@@ -31,7 +31,7 @@ _OF_WRITES = (errno.ENOSPC, errno.EDQUOT, errno.EFBIG, errno.EIO, errno.EBADF)
 
 
 def main(given: Optional[Sequence[str]] = None) -> int:
-    """Carries a command out; its exit status: 0, or 1 if a check fails, 2 if it can't be carried out, 130 if Ctrl-C
+    """Executes a command; its exit status: 0, or 1 if a check fails, 2 if it can't be executed, 130 if Ctrl-C
     ended it."""
     words = _parser().parse_args(given)
     read_with(words.program)
@@ -63,11 +63,11 @@ def _leave_output() -> None:
 
 
 def _sentence(fault: OSError) -> str:
-    """What a call of the system did not do. All files but the standard ones are named where they are used."""
+    """Reports a system call that failed. Files other than the standard ones are named where they are used."""
     why = fault.strerror or str(fault)
     if fault.filename is not None:
         return f"can't use {os.fsdecode(fault.filename)}: {why}"
-    return f"can't write standard output: {why}" if fault.errno in _OF_WRITES else f"a call of the system fails: {why}"
+    return f"can't write standard output: {why}" if fault.errno in _OF_WRITES else f"a system call failed: {why}"
 
 
 class _Parser(argparse.ArgumentParser):

@@ -14,7 +14,7 @@ BLOCK_BYTES = 512
 
 @dataclass(frozen=True)
 class Up:
-    """`up C ..`: what came of bringing the driver up; `status` stands where a command of it was refused."""
+    """`up C ..`: the result of bringing the driver up; `status` is set if one of its commands was refused."""
 
     controller: int
     outcome: UpOutcome
@@ -39,7 +39,7 @@ class Refused:
 
 @dataclass(frozen=True)
 class Rung:
-    """`rung C`: the driver told the controller of all that was placed; or it was not up."""
+    """`rung C`: the driver wrote the doorbells for everything that was placed; or it was not up."""
 
     controller: int
     is_up: bool
@@ -56,7 +56,7 @@ class Fetched:
 
 @dataclass(frozen=True)
 class Executed:
-    """`execute C I ..`: status and rule stand where a completion was posted."""
+    """`execute C I ..`: status and rule are set if a completion was posted."""
 
     controller: int
     place: int
@@ -90,7 +90,7 @@ class Reset:
 
 @dataclass(frozen=True)
 class Stored:
-    """`stored C`, or `outside C` where the bytes don't lie in the window, and nothing was stored."""
+    """`stored C`, or `outside C` if the bytes are outside the window and nothing was stored."""
 
     controller: int
     is_inside: bool
@@ -126,7 +126,7 @@ _HEX = re.compile(r"(?:[0-9a-f]{2})+\Z")
 def number_in(word: str) -> int:
     """A decimal number without a sign. Raises `ProtocolError` for anything else."""
     if not _NUMBER.match(word):
-        raise ProtocolError(f"a number was wanted, and not {word!r}")
+        raise ProtocolError(f"a number was expected, not {word!r}")
     return int(word)
 
 
@@ -134,10 +134,10 @@ def data_in(length: str, digits: str) -> bytes:
     """Bytes as answers spell them: their number, and hexadecimal digits without the zero bytes at the end, or `-`."""
     size = number_in(length)
     if digits != "-" and not _HEX.match(digits):
-        raise ProtocolError(f"hexadecimal digits were wanted, and not {digits!r}")
+        raise ProtocolError(f"hexadecimal digits were expected, not {digits!r}")
     spelled = b"" if digits == "-" else bytes.fromhex(digits)
     if len(spelled) > size:
-        raise ProtocolError(f"{len(spelled)} bytes are spelled where {size} were told")
+        raise ProtocolError(f"{len(spelled)} bytes came instead of {size}")
     return spelled + bytes(size - len(spelled))
 
 

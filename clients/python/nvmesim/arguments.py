@@ -1,4 +1,4 @@
-"""Checks of what calls are given: an argument that no line can spell is refused by its name, with what is wanted."""
+"""Checks of arguments: one that no line can express is refused by name, with what is expected."""
 from __future__ import annotations
 
 import operator
@@ -11,7 +11,7 @@ _MOST_SHOWN = 60
 
 
 def whole(name: str, value: Any, bits: int, least: int = 0) -> int:
-    """A whole number that fits in so many bits.
+    """A whole number of at most `bits` bits.
 
     Raises:
         ArgumentError: it is none, or out of this range.

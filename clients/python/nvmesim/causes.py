@@ -1,7 +1,7 @@
 """Why a command was denied by rule 6 or 11: which field has which value, and what it met.
 
 The program says that a command is denied, by which rule and with which status. These rows say what for: the first that
-holds, and has that status. A denied command changes nothing, so that what it met can be looked at behind it.
+holds, and has that status. A denied command changes nothing, so that what it met can be looked at after it.
 """
 from __future__ import annotations
 
@@ -119,7 +119,7 @@ def _asked_raw(command: Command, entry: Entry, host: int, look: Look) -> Optiona
 
 
 def _read_data(asked: _Asked) -> None:
-    """The keys, or the list of controllers, that lie in the window of a raw host."""
+    """The keys, or the list of controllers, that are in the window of a raw host."""
     place = asked["PRP1"]
     if asked.verb == "attachment":
         asked.verb = "detach" if asked["SEL"] else "attach"
@@ -248,7 +248,7 @@ def _create_fields(asked: _Asked) -> Iterator[Row]:
     kind = "submission" if is_submission else "completion"
     qid, entries, prp1 = asked["QID"], asked["QSIZE"] + 1, asked["PRP1"]
     if not asked["PC"]:
-        yield _FIELD, "PC is 0, and queues lie in one piece"
+        yield _FIELD, "PC is 0, but queues must be contiguous"
     if not 1 <= qid <= _MOST_QUEUE:
         yield Status.INVALID_QUEUE_IDENTIFIER, f"QID is {qid}, and I/O queues are 1 to {_MOST_QUEUE}"
     if qid in _there(asked, is_submission):
@@ -346,7 +346,7 @@ def _list_rows(asked: _Asked) -> Iterator[Row]:
         yield Status.CONTROLLER_LIST_INVALID, "the list of controllers is empty"
     for before, number in zip([0, *listed], listed):
         if number <= before and before:
-            yield Status.CONTROLLER_LIST_INVALID, f"controller {number} comes behind controller {before} in the list"
+            yield Status.CONTROLLER_LIST_INVALID, f"controller {number} comes after controller {before} in the list"
         if not _is_there(asked, number):
             yield Status.CONTROLLER_LIST_INVALID, f"controller {number} is not configured"
     shared = {it.number: it.is_shared for it in looks.namespaces(asked.look("?namespaces"))}

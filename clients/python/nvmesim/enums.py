@@ -55,7 +55,7 @@ class Status(enum.Enum):
 
     @property
     def is_success(self) -> bool:
-        """Whether the command was carried out without a failure."""
+        """Whether the command was executed without a failure."""
         return self is Status.SUCCESSFUL_COMPLETION
 
 

@@ -51,7 +51,7 @@ class SessionError(NvmesimError):
 
     Attributes:
         line: the last line that was sent, or an empty text.
-        told: what stood on the program's standard error.
+        told: what was on the program's standard error.
     """
 
     def __init__(self, what: str, line: str = "", told: str = "") -> None:

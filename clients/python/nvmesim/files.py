@@ -72,7 +72,8 @@ class Output:
         return stat.S_ISFIFO(found.st_mode) or stat.S_ISCHR(found.st_mode) or stat.S_ISSOCK(found.st_mode)
 
     def write(self, content: Union[str, bytes]) -> None:
-        """Writes the whole file: beside it first, then in its place. A second call replaces what the first wrote."""
+        """Writes a temporary file next to it, then moves that to its place. A second call replaces what the first
+        wrote."""
         data = content.encode("utf-8") if isinstance(content, str) else content
         self._check()
         with doing("write", self.name):

@@ -94,7 +94,7 @@ class Follower:
         return self._side(controller).outstanding.get(ticket)
 
     def unanswered(self) -> List[Command]:
-        """The requests whose answers were not delivered, those of each controller in turn, the oldest first."""
+        """The undelivered requests, by controller, the oldest first."""
         return [it for controller in sorted(self._sides) for it in self._sides[controller].outstanding.values()]
 
     def place_of(self, command: Command) -> Optional[int]:

@@ -1,4 +1,4 @@
-"""The library libnvmesim by ctypes, in place of the program: raw hosts without a process between, some ten times as
+"""The library libnvmesim by ctypes, instead of the program: raw hosts without a process between, some ten times as
 quick. `Subsystem(backend="library")` uses it.
 
 What a script's line could not say is an `ArgumentError`: numbers that are negative or too large for their field."""
@@ -29,7 +29,7 @@ VERSION = 2
 # The numbers of answers, as nvmesim.h has them.
 STORED, WROTE, VALUE, TOOK, IDLE, POSTED, NO_SUCH, CQ_FULL, CYCLED = range(1, 10)
 OK, CLOSED, NO_CONTROLLER, OUTSIDE, NO_QUEUE = 0, 16, 17, 18, 28
-_REASONS = {OUTSIDE: "not all of it lies inside", NO_QUEUE: "there is no such queue", 29: "the controller does not run",
+_REASONS = {OUTSIDE: "some of it is outside", NO_QUEUE: "there is no such queue", 29: "the controller does not run",
             30: "something waits at the queue", 31: "there is no such namespace"}
 _FAULTS = {21: "BadVersion", 23: "BadId", 24: "BadSize", 25: "TooMany", 26: "DoesNotFit", 27: "NoMemory"}
 _STATUSES = {(int(it.code[0], 16), int(it.code[2:], 16)): it for it in Status}
@@ -124,7 +124,7 @@ class Submitted:
 
 
 def find_library() -> str:
-    """The shared object: the one that the environment names, that is installed beside this package or in one of the
+    """The shared object: the one that the environment names, that is installed with this package or in one of the
     usual places, or that the system knows.
 
     Raises:

@@ -42,7 +42,7 @@ def controller(number: int, host: int, raw: bool = False) -> str:
 
 
 def namespace(number: int, blocks: int, shared: bool = True) -> str:
-    """Namespace `number`, 1 to 8, has so many blocks."""
+    """Namespace `number`, 1 to 8, has `blocks` blocks."""
     kind = "shared" if flag("shared", shared) else "private"
     return f"namespace {_decimal('number', number, 32)} blocks {_decimal('blocks', blocks, 64)} {kind}"
 
@@ -58,7 +58,7 @@ def up(controller: int) -> str:
 
 
 def ring(controller: int) -> str:
-    """The driver tells the controller of everything that was placed."""
+    """The driver writes the doorbells for everything that was placed."""
     return _line("ring", controller)
 
 

@@ -55,7 +55,7 @@ class DriverState:
 
 @dataclass(frozen=True)
 class Queue:
-    """A queue: its number, where it lies in the window, its entries, its head and tail.
+    """A queue: its number, where it is in the window, its entries, its head and tail.
 
     Attributes:
         is_submission: whether commands wait in it; completions otherwise.
@@ -137,7 +137,7 @@ class _Words:
         return ProtocolError(f"not understood: {self._text!r}")
 
     def word(self, label: str = "") -> str:
-        """The next word, behind its label where it has one."""
+        """The next word, after its label where it has one."""
         if label and self.word() != label or not self._words:
             raise self.fault()
         return self._words.pop(0)
@@ -147,7 +147,7 @@ class _Words:
         return number_in(self.word(label))
 
     def hexadecimal(self, label: str = "") -> int:
-        """The next word as a number behind `0x`."""
+        """The next word as a number after `0x`."""
         return hexadecimal_in(self.word(label))
 
     def flag(self, label: str) -> bool:
@@ -172,14 +172,14 @@ class _Words:
 
 
 def hexadecimal_in(word: str) -> int:
-    """A number behind `0x`, in lower case. Raises `ProtocolError` for anything else."""
+    """A number after `0x`, in lower case. Raises `ProtocolError` for anything else."""
     if not _HEX_NUMBER.match(word):
-        raise ProtocolError(f"a number behind 0x was wanted, and not {word!r}")
+        raise ProtocolError(f"a number after 0x was expected, not {word!r}")
     return int(word, 16)
 
 
 def window(text: str, controller: int, address: int, length: int) -> bytes:
-    """The bytes that `?window` tells."""
+    """The bytes of `?window`."""
     words = _Words(text, f"window {controller} {address} {length}")
     data = data_in(str(length), words.word())
     words.end()
@@ -187,7 +187,7 @@ def window(text: str, controller: int, address: int, length: int) -> bytes:
 
 
 def blocks(text: str, nsid: int, slba: int, count: int) -> bytes:
-    """The bytes that `?blocks` tells, 512 for each block."""
+    """The bytes of `?blocks`, 512 for each block."""
     words = _Words(text, f"blocks {nsid} {slba} {count}")
     data = data_in(str(BLOCK_BYTES * count), words.word())
     words.end()
@@ -195,7 +195,7 @@ def blocks(text: str, nsid: int, slba: int, count: int) -> bytes:
 
 
 def register(text: str, controller: int, offset: int) -> int:
-    """The 32 bits that `?register` tells."""
+    """The 32 bits of `?register`."""
     words = _Words(text, f"register {controller} {offset}")
     value = words.hexadecimal()
     words.end()
@@ -213,7 +213,7 @@ def registers(text: str, controller: int) -> Dict[str, int]:
 
 
 def queues(text: str, controller: int) -> List[Queue]:
-    """The queues that `?queues` tells."""
+    """The queues of `?queues`."""
     words = _Words(text, f"queues {controller}")
     found: List[Queue] = []
     while not words.is_done:
@@ -227,7 +227,7 @@ def queues(text: str, controller: int) -> List[Queue]:
 
 
 def fetched(text: str, controller: int) -> List[FetchedCommand]:
-    """The commands that `?fetched` tells, by their places."""
+    """The commands of `?fetched`, by their places."""
     words = _Words(text, f"fetched {controller}")
     found: List[FetchedCommand] = []
     while not words.is_done:
@@ -238,7 +238,7 @@ def fetched(text: str, controller: int) -> List[FetchedCommand]:
 
 
 def driver(text: str, controller: int) -> DriverState:
-    """What `?driver` tells."""
+    """The answer to `?driver`."""
     words = _Words(text, f"driver {controller}")
     state = words.one_of("state", "down", "up", "failed")
     following = words.word("next")
@@ -251,7 +251,7 @@ def driver(text: str, controller: int) -> DriverState:
 
 
 def namespaces(text: str) -> List[NamespaceState]:
-    """What `?namespaces` tells."""
+    """The answer to `?namespaces`."""
     words = _Words(text, "namespaces")
     found: List[NamespaceState] = []
     while not words.is_done:
@@ -261,7 +261,7 @@ def namespaces(text: str) -> List[NamespaceState]:
 
 
 def reservation(text: str, nsid: int) -> ReservationState:
-    """What `?reservation` tells."""
+    """The answer to `?reservation`."""
     words = _Words(text, f"reservation {nsid}")
     try:
         rtype = ReservationType(words.number("type"))
@@ -278,7 +278,7 @@ def reservation(text: str, nsid: int) -> ReservationState:
 
 
 def attached(text: str) -> List[Tuple[int, int]]:
-    """The attachments that `?attached` tells, each a controller and a namespace."""
+    """The attachments of `?attached`, each a controller and a namespace."""
     words = _Words(text, "attached")
     found: List[Tuple[int, int]] = []
     while not words.is_done:

@@ -20,7 +20,7 @@ VARIABLE = "NVMELIVE"
 """The variable of the environment that names the program."""
 
 INSTALLED = "lib/nvmesim"
-"""Where `scripts/install` puts the programs, under its PREFIX."""
+"""The folder of the installed programs under the PREFIX of `scripts/install`."""
 
 _PIECE = 1 << 16
 _MOST_TOLD = 1 << 16
@@ -28,7 +28,7 @@ _MOST_TOLD = 1 << 16
 
 def find_program(given: Optional[PathLike] = None, name: str = "nvmelive", variable: str = VARIABLE) -> Path:
     """The program: the one that is given, that the environment names, that the repository of this package builds, that
-    is installed beside this package, that is on the path, or that is installed in one of the usual places.
+    is installed with this package, that is on the path, or that is installed in one of the usual places.
 
     Args:
         given: the program, if the caller knows it.
@@ -62,7 +62,7 @@ def _beside(name: str) -> Optional[str]:
 
 
 def _prefixes() -> List[Path]:
-    """Where programs are installed: with this Python, for this user, for all."""
+    """The prefixes of installed programs: this Python's, the user's, the system's."""
     return list(dict.fromkeys((Path(sys.prefix), Path.home() / ".local", Path("/usr/local"), Path("/usr"))))
 
 
@@ -82,7 +82,7 @@ def built_program(script: Path) -> Path:
 
 
 class Process:
-    """One run of the program. Its standard error is read beside its answers, so that it never waits for us."""
+    """One run of the program. A thread reads its standard error, so that it never waits for us."""
 
     def __init__(self, command: Sequence[PathLike], seconds: float) -> None:
         """Starts a command.
@@ -121,7 +121,7 @@ class Process:
 
     @property
     def told(self) -> str:
-        """What stood on standard error so far; of much, the last part."""
+        """The last part of standard error so far."""
         return self._told.decode("utf-8", "replace")
 
     def exchange(self, lines: Sequence[str]) -> List[str]:
@@ -138,12 +138,12 @@ class Process:
         return self._talk(lines, len(lines))
 
     def receive(self, count: int) -> List[str]:
-        """Reads so many lines that answer none of ours, as the transcript of a script that the program runs first.
+        """Reads `count` lines that answer none of ours: the transcript of a script that the program runs first.
         Raises as `exchange` does."""
         return self._talk([], count)
 
     def _talk(self, lines: Sequence[str], count: int) -> List[str]:
-        """Writes lines, and reads so many."""
+        """Writes lines, and reads as many."""
         if self._is_closed:
             raise SessionClosed("the session is closed")
         unsent = memoryview("".join(f"{it}\n" for it in lines).encode("utf-8"))
@@ -183,7 +183,7 @@ class Process:
         return unsent
 
     def _drain(self, selector: Optional[selectors.BaseSelector] = None) -> None:
-        """Takes what stands on standard error."""
+        """Reads standard error."""
         try:
             piece = os.read(self._errors.fileno(), _PIECE)
         except BlockingIOError:

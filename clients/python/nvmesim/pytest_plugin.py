@@ -1,6 +1,6 @@
 """A plugin for pytest: the fixture `subsystem`, and scripts with expectations as tests.
 
-pytest finds it where the package is installed. Where it is only on the path: `pytest -p nvmesim.pytest_plugin`.
+pytest finds it if the package is installed. If it is only on the path: `pytest -p nvmesim.pytest_plugin`.
 """
 from __future__ import annotations
 
@@ -91,7 +91,7 @@ class ScriptItem(pytest.Item):
             raise ExpectationsFailed(trial)
 
     def repr_failure(self, excinfo: Any, style: Optional[str] = None) -> Any:
-        """What was wanted beside what came, in place of a trace."""
+        """What was expected next to what came, instead of a trace."""
         if isinstance(excinfo.value, ExpectationsFailed):
             return "\n".join(trial_lines(excinfo.value.trial))
         if isinstance(excinfo.value, NvmesimError):  # no script, or no program

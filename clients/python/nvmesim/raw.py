@@ -99,7 +99,7 @@ class RawQueues:
         return Entry(number, bytes(self._window[begin:begin + ENTRY_BYTES]).ljust(ENTRY_BYTES, b"\0"))
 
     def succeed(self, entry: Entry) -> None:
-        """The controller carried the command out; queues come and go by that."""
+        """The controller has executed the command, which may create or delete queues."""
         number = entry.field(40, 2)
         if entry.opcode is AdminOpcode.CREATE_IO_SUBMISSION_QUEUE:
             self._queues[number] = _Queue(entry.field(24, 8), entry.field(42, 2) + 1)

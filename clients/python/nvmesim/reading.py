@@ -25,7 +25,7 @@ def read_with(program: Optional[PathLike]) -> None:
 
 
 def words_of(texts: Sequence[str], numbers: Sequence[int], program: Optional[PathLike] = None) -> List[Tuple[str, ...]]:
-    """The words of lines in one form: numbers in decimal digits, a host behind `0x`, data and bytes as `hex:` without
+    """The words of lines in one form: numbers in decimal digits, a host after `0x`, data and bytes as `hex:` without
     the zeros at the end of data; none of a line that says nothing.
 
     Args:

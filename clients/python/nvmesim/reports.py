@@ -34,7 +34,7 @@ class ReportedController:
 
 @dataclass(frozen=True)
 class ReservationReport:
-    """What a Reservation Report tells of a namespace.
+    """The content of a Reservation Report on a namespace.
 
     Attributes:
         generation: how often registrants have changed (GEN).

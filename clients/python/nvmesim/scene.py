@@ -7,7 +7,7 @@ from .errors import ScriptError
 from .script import LineKind, ScriptLine, configuration_of, read_lines
 
 MOST = 20_000
-"""So many states a scene has at least, if it is cut where it is too large."""
+"""The least number of states of a scene that is cut since it is too large."""
 
 
 def scene(kept: str, begin: int = 0, most: int = MOST, apart: Collection[int] = ()) -> str:
@@ -17,12 +17,12 @@ def scene(kept: str, begin: int = 0, most: int = MOST, apart: Collection[int] = 
         kept: the lines that a session was sent, or a script. Looking lines and comments are left out.
         begin: the line of them from which on events come in any order; 0 to choose it, so that no command is under way
             there and the scene is not too large.
-        most: so many states at least such a scene may have.
-        apart: controllers whose fetches and executions are a part of their own, beside their drivers' events: then a
-            driver goes on before its controller has done what it was told of.
+        most: the limit of states of such a scene.
+        apart: controllers whose fetches and executions are a part of their own, apart from their drivers' events: then
+            a driver may continue before its controller has acted.
 
     Raises:
-        ScriptError: it is no script, or has no events behind the line.
+        ScriptError: it is no script, or has no events after the line.
     """
     text = "".join("\n" if line.startswith("?") else f"{line}\n" for line in kept.splitlines())
     lines = [it for it in read_lines(text) if it.kind not in (LineKind.COMMENT, LineKind.BLANK)]

@@ -38,7 +38,7 @@ class ScriptLine:
 
     Attributes:
         number: its place, from 1.
-        text: the line as it stands, without its line feed.
+        text: the line as it is, without its line feed.
         kind: what it is.
         words: its words in the one form of `reading.words_of`, none for a comment.
     """
@@ -89,7 +89,7 @@ class ScriptLine:
         return 0 if self.verb in ADMIN_VERBS else 1
 
     def numbers(self) -> List[int]:
-        """The numbers behind the verb, in order; data are left out."""
+        """The numbers after the verb, in order; data are left out."""
         return list(self._numbers)
 
     @cached_property
@@ -112,7 +112,7 @@ def read_lines(text: str, is_started: bool = False, program: Optional[PathLike] 
 
     Args:
         text: the script.
-        is_started: whether the text goes on behind `start`.
+        is_started: whether the text continues after `start`.
         program: the program `nvmelive`; None for the one of `reading.read_with`.
 
     Raises:
@@ -153,7 +153,7 @@ def _kind_of(number: int, verb: str, is_started: bool) -> LineKind:
     """What a line with this verb is; refuses what can't be there."""
     is_event = verb in EVENT_VERBS
     if is_event != is_started:
-        raise ScriptError(number, f"{verb} can't stand {'behind' if is_started else 'before'} start")
+        raise ScriptError(number, f"{verb} is not allowed {'after' if is_started else 'before'} start")
     if is_event:
         return LineKind.EVENT
     return LineKind.START if verb == "start" else LineKind.CONFIGURATION

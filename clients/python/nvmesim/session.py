@@ -17,7 +17,7 @@ SECONDS = 10.0
 class Session:
     """A session, line by line. Use it in a `with`, or close it.
 
-    Lines that set up come first, then `start`, then events. Looking lines, behind `start`, change nothing.
+    Lines that set up come first, then `start`, then events. Looking lines, after `start`, change nothing.
     """
 
     def __init__(self, image: Optional[PathLike] = None, program: Optional[PathLike] = None,
@@ -77,7 +77,7 @@ class Session:
         return self._follower
 
     def ask(self, line: str) -> str:
-        """The answer of a line as it stands.
+        """The answer to a line, unparsed.
 
         Raises:
             LineError: the program did not take the line; nothing changed.

@@ -18,7 +18,7 @@ from .session import SECONDS, Session
 class Subsystem:
     """A subsystem over one run of `nvmelive`. Use it in a `with`, or close it.
 
-    First describe it: `controller`, `raw_controller`, `namespace`, `attach`. After `start` its hosts can act.
+    Describe it by `controller`, `raw_controller`, `namespace` and `attach`, then call `start`; then its hosts can act.
 
     Attributes:
         session: the lines that were sent, and their answers.

@@ -42,7 +42,7 @@ _RANGED = (IoOpcode.READ, IoOpcode.WRITE, IoOpcode.COMPARE, IoOpcode.WRITE_ZEROE
 
 
 def shortened(text: str, width: int) -> str:
-    """A text of at most so many columns; one that is longer ends with two points."""
+    """A text of at most `width` columns; a longer one ends with two points."""
     return text if len(text) <= width else text[:max(0, width - 2)] + ".."
 
 
@@ -214,7 +214,7 @@ def verdict_words(command: Command) -> str:
     if command.is_denied:
         return f"denied with {status_words(command.status)} by {rule_words(command)}"
     if command.status.is_success:
-        return "carried out"
+        return "done"
     return f"failed with {status_words(command.status)}"
 
 
@@ -246,7 +246,7 @@ def meaning(event: Event, configuration: Configuration) -> str:
 
 
 def short_meaning(event: Event) -> str:
-    """What an event means, without who does it: for a text beside its line."""
+    """What an event means, without who does it: for a text next to its line."""
     answer = event.answer
     if isinstance(answer, NotThere):
         return _MISSES[answer.why]
@@ -293,7 +293,7 @@ def _driver_words(event: Event, answer: Answer) -> str:
         if not answer.is_up:
             return "is not up: nothing happens"
         told = tickets_words(event.commands) if event.commands else "nothing new"
-        return f"tells controller {number} of {told}"
+        return f"notifies controller {number} of {told}"
     if isinstance(answer, Reset):
         met = f", and {tickets_words(event.commands)} will be delivered as aborted" if event.commands else ""
         return f"resets controller {number}; both are down{met}"
@@ -342,7 +342,7 @@ def _poll_words(event: Event, answer: Polled) -> str:
 
 
 def report_words(report: ReservationReport) -> str:
-    """What a Reservation Report tells."""
+    """The content of a Reservation Report."""
     held = "no reservation" if report.rtype is ReservationType.NONE else report.rtype.text
     words = f"generation {report.generation}, {held}{', persists' if report.persists else ''}, "
     words += f"{report.count} registered controller{'' if report.count == 1 else 's'}"

@@ -1,7 +1,7 @@
-"""Builds the package for pip and its like, with nothing beside Python: so `pip install` needs no network.
+"""Builds the package for pip and the like by Python alone: so `pip install` needs no network.
 
 It is the build backend that `pyproject.toml` names, by PEP 517 and PEP 660. Every other one would have to be fetched
-first. The table `[project]` is the only place of what is said of the package, but for its version, which stands in
+first. The table `[project]` is the only place of what is said of the package, except for its version, which is in
 `nvmesim/__init__.py`.
 """
 from __future__ import annotations
@@ -31,7 +31,7 @@ def build_wheel(wheel_directory: str, config_settings: Settings = None,
 
 def build_editable(wheel_directory: str, config_settings: Settings = None,
                    metadata_directory: Optional[str] = None) -> str:
-    """Writes a wheel that leads to the package where it stands; its name."""
+    """Writes a wheel that leads to the package where it is; its name."""
     return _write_wheel(Path(wheel_directory), {f"{PACKAGE}.pth": f"{TOP}\n".encode()})
 
 
@@ -49,7 +49,7 @@ def build_sdist(sdist_directory: str, config_settings: Settings = None) -> str:
 
 
 def version() -> str:
-    """The version, which stands in the package, and nowhere else of its folder."""
+    """The version, which is in the package, and nowhere else of its folder."""
     text = (TOP / PACKAGE / "__init__.py").read_text(encoding="utf-8")
     found = re.search(r'^__version__ = "([^"]+)"$', text, re.MULTILINE)
     if found is None:
@@ -58,7 +58,7 @@ def version() -> str:
 
 
 def tables(text: str) -> Dict[str, Table]:
-    """The tables of a `pyproject.toml` whose values stand on a line each and are texts, numbers, truths and lists."""
+    """The tables of a `pyproject.toml` whose values are on a line each and are texts, numbers, truths and lists."""
     found: Dict[str, Table] = {}
     table: Table = {}
     for line in text.splitlines():

@@ -19,7 +19,7 @@ Ask = Callable[[Sequence[str]], List[str]]
 
 
 class InProcess:
-    """Branches that are stand-ins, which are copied. Where `can_fork` is false, none is."""
+    """Branches that are stand-ins, which are copied. If `can_fork` is false, none is."""
 
     def __init__(self, plan: Plan, can_fork: bool = True) -> None:
         self.plan, self.can_fork, self.live = plan, can_fork, 0
@@ -44,7 +44,7 @@ class InProcess:
         return self.opened(io.BytesIO(branch.world.image.getvalue()))
 
     def wait(self, asked: Collection[Branch]) -> List[Tuple[Branch, List[str]]]:
-        """The first that was asked, so that of several some go on for longer."""
+        """The first of them, so that some of several stay longer."""
         it = next(iter(asked))
         assert isinstance(it, Copied)
         return [(it, it.answers)]

@@ -21,7 +21,7 @@ ADMIN = ("protect", "protection")
 READERS, WRITERS = ("read", "compare"), ("write", "zeroes", "flush")
 
 
-# The words of each line behind its verb, with the bits of their numbers.
+# The words of each line after its verb, with the bits of their numbers.
 FORMS = {
     "controller": "N16 =host H128", "namespace": "N32 =blocks N64 =shared|private", "attached": "N16 N32", "start": "",
     "up": "N16", "ring": "N16", "poll": "N16", "reset": "N16", "fetch": "N16 N16", "execute": "N16 N16",

@@ -30,7 +30,8 @@ if LIVE is None:
 
 
 def heed_interrupts() -> None:
-    """For a child that is interrupted, as its preexec_fn: a shell starts what it runs in the background without SIGINT."""
+    """For a child that is interrupted, as its preexec_fn: a shell starts what it runs in the background without
+    SIGINT."""
     signal.signal(signal.SIGINT, signal.SIG_DFL)
 
 
@@ -66,7 +67,7 @@ class FolderCase(unittest.TestCase):
         self.folder = Path(room.name)
 
     def program(self, body: str) -> Path:
-        """A program of these lines of Python, which stands in for nvmelive."""
+        """A program of these lines of Python, that replaces nvmelive."""
         path = self.folder / "program"
         path.write_text(f"#!{sys.executable}\nimport sys, time\n{body}", encoding="utf-8")
         path.chmod(0o755)

@@ -33,7 +33,7 @@ BAD_REQUESTS = [
     ("attach 1 1" + " 1" * 2048, "the list has 2,048 controllers, and 2,047 are the most"),
 ]
 
-# A request, and why it is denied; None where it is carried out.
+# A request, and why it is denied; None where it is executed.
 REQUESTS: List[Tuple[str, Optional[str]]] = [
     ("register 1 1 3 0 0 0 0x11", "RREGA (ACTION) is 3, and 2 is the most"),
     ("register 1 1 3 0 1 0 0x11", "RREGA (ACTION) is 3, and 2 is the most"),
@@ -72,8 +72,8 @@ REQUESTS: List[Tuple[str, Optional[str]]] = [
     ("attach 1 1", "the list of controllers is empty"),
     ("attach 1 1 5", "controller 5 is not configured"),
     ("attach 1 1 0", "controller 0 is not configured"),
-    ("detach 1 1 2 1", "controller 1 comes behind controller 2 in the list"),
-    ("attach 1 1 1 1", "controller 1 comes behind controller 1 in the list"),
+    ("detach 1 1 2 1", "controller 1 comes after controller 2 in the list"),
+    ("attach 1 1 1 1", "controller 1 comes after controller 1 in the list"),
     ("attach 1 1 2", "controller 2 is attached to namespace 1 already"),
     ("attach 1 2 2", "namespace 2 is private, and controller 1 has it"),
     ("detach 1 2 2", "controller 2 is not attached to namespace 2"),
@@ -103,10 +103,10 @@ ENTRIES: List[Tuple[bool, bytes, bytes, Optional[str]]] = [
     (True, entry(0x06, 1, 0x13), b"", "CNS is 19, and 2 is the most"),
     (True, entry(0x15, 1, 2), b"", "SEL is 2, and 1 is the most"),
     (True, entry(0x15, 5, 0), b"", "NSID is 5, and no such namespace is configured"),
-    (True, entry(0x15, 2, 0), struct.pack("<3H", 2, 3, 1), "controller 1 comes behind controller 3 in the list"),
+    (True, entry(0x15, 2, 0), struct.pack("<3H", 2, 3, 1), "controller 1 comes after controller 3 in the list"),
     (True, entry(0x15, 2, 1), struct.pack("<2H", 1, 3), "controller 3 is not attached to namespace 2"),
     (True, entry(0x15, 2, 0), struct.pack("<2H", 1, 3), "namespace 2 is private, and controller 1 has it"),
-    (True, entry(0x05, 0, 7 << 16 | 1, 0), b"", "PC is 0, and queues lie in one piece"),
+    (True, entry(0x05, 0, 7 << 16 | 1, 0), b"", "PC is 0, but queues must be contiguous"),
     (True, entry(0x05, 0, 7 << 16 | 5, 1), b"", "QID is 5, and I/O queues are 1 to 4"),
     (True, entry(0x05, 0, 1, 1), b"", "QSIZE is 0, 1 entries, and 2 to 64 are taken"),
     (True, entry(0x05, 0, 64 << 16 | 1, 1), b"", "QSIZE is 64, 65 entries, and 2 to 64 are taken"),
@@ -202,7 +202,7 @@ class CausesTest(FolderCase):
         told = "\n".join(explain(script, transcript, 400, causes=causes))
         self.assertIn("the command does not take: CNS is 9, and 2 is the most", told)
         self.assertEqual(causes_of(script, transcript, LIVE), causes)
-        # Of a transcript that is not what the program prints, and without a program, none is told.
+        # With a transcript that the program does not print, and without a program, there is none.
         self.assertEqual(causes_of(script, transcript.replace("0:02 6", "0:0b 4"), LIVE), {})
         self.assertEqual(causes_of(script, transcript, self.folder / "absent"), {})
         self.assertEqual(causes_of(script, transcript, STANDIN), {})

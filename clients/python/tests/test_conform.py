@@ -1,5 +1,5 @@
-"""A device beside the model, without a device: scenes, and what a step is for either side. The lab's trials have the
-rest."""
+"""A device compared with the model, without a device: scenes, and what a step is for either side. The lab's trials have
+the rest."""
 from __future__ import annotations
 
 import argparse
@@ -128,7 +128,7 @@ class StepTest(unittest.TestCase):
             self.assertEqual(stream.getvalue(), told)
 
     def test_a_device_that_goes_away_behind_a_difference(self) -> None:
-        """The difference is told as it was found, and the search ends there."""
+        """The difference is printed as it was found, and the search ends there."""
         class Gone(Zeros):
             most = 0
 
@@ -151,7 +151,7 @@ class StepTest(unittest.TestCase):
         self.assertEqual(wrong.getvalue().count("it can't be made shorter: the system refuses it; it was "), 1)
 
     def test_what_the_system_refuses(self) -> None:
-        """A device that something else has open for itself, one that is none, and a command that is not carried out."""
+        """A device that something else has open for itself, one that is none, and a command that is not executed."""
         def busy(path: str, flags: int) -> int:
             self.assertTrue(flags & os.O_EXCL, path)
             raise OSError(errno.EBUSY, os.strerror(errno.EBUSY), path)

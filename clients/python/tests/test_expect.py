@@ -1,4 +1,4 @@
-"""Scripts as tests: which comments are expectations, which are refused, and what is told of those that do not hold."""
+"""Scripts as tests: which comments are expectations, which are refused, and the report of those that do not hold."""
 from __future__ import annotations
 
 import contextlib
@@ -18,7 +18,7 @@ FENCING = PACKAGE / "examples" / "fencing-test.nvme"
 HEAD = "controller 1 host 0xa1\nnamespace 1 blocks 8 shared\nattached 1 1\nstart\n"
 WRITE = "up 1\nwrite 1 1 0 1 hex:48656c6c6f\nring 1\nfetch 1 1\nexecute 1 0\n"
 
-# A comment behind `up 1`, and what is said of it.
+# A comment after `up 1`, and what is said of it.
 REFUSED = {
     "# expect": "names no answer",
     "#expect up 1 ok": "nearly is an expectation; did you mean '# expect ..'",
@@ -44,7 +44,7 @@ REFUSED = {
     "# expect * *": "holds of every answer",
     "# expect up *": "holds of every answer",
     "# expect up 1 *": "holds of every answer",
-    "# expect * 1": "the number 1 behind a '*'",
+    "# expect * 1": "the number 1 after a '*'",
     "# expect * okk": "did you mean 'ok'?",
     "# expect * took": "no answer of 'up 1' has the word 'took'",
     "# expect * 0:84": "no answer of 'up 1' has the word '0:84'",
@@ -62,7 +62,7 @@ REFUSED = {
 }
 OTHER = ("# except this", "# the host is expected to come up", "# inspect", "#", "# exp", "# e x p e c t")
 
-# Whether these hold behind the last event of a Write that succeeds.
+# Whether these hold after the last event of a Write that succeeds.
 HOLDS = {
     "execute 1 0 posted 0:00 0": True, "  execute \t1 0  posted 0:00 0 \r": True, "* 0:00": True,
     "* posted 0:00 0": True,
@@ -117,10 +117,10 @@ class ExpectTest(FolderCase):
         for text in ("# expect up 1 ok\n" + HEAD, HEAD + "# expect up 1 ok\nup 1\n"):
             with self.assertRaises(ScriptError) as caught:
                 read_test("script", text)
-            self.assertIn("stands behind no event", str(caught.exception))
+            self.assertIn("follows no event", str(caught.exception))
         with self.assertRaises(ScriptError) as caught:
             read_test("script", "# expect-blocks 1 0 1 -\n" + HEAD)
-        self.assertIn("stands before start", str(caught.exception))
+        self.assertIn("is before start", str(caught.exception))
         with self.assertRaises(ScriptError) as caught:
             read_test("script", HEAD + "up 1 # expect up 1 ok\n")
         self.assertIn("a comment has a line of its own", str(caught.exception))
@@ -146,7 +146,7 @@ class ExpectTest(FolderCase):
             self.assertEqual(told[:14], [
                 f"{script}:10: FAILED", "    event    execute 1 0", "    wanted   * 0:83",
                 "    came     execute 1 0 posted 0:00 0",
-                "    that is  controller 1 executes ticket 1 (Write): carried out",
+                "    that is  controller 1 executes ticket 1 (Write): done",
                 f"{script}:11: FAILED", "    event    execute 1 0", "    blocks   2 of namespace 1 from 0 on",
                 "    wanted   48656c6c70", "    came     48656c6c6f",
                 "    that is  byte 4 of block 0 is the first that differs",

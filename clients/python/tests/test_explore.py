@@ -287,7 +287,7 @@ class ProgramTest(FolderCase):
 
     def test_parts_as_a_cluster_runs_them(self) -> None:
         class Cluster:
-            """Stands in for a client of Dask."""
+            """Replaces a client of Dask."""
 
             def map(self, call: object, given: Sequence[object]) -> List[object]:
                 return [call(it) for it in given]  # type: ignore[operator]
@@ -344,7 +344,7 @@ class ProgramTest(FolderCase):
 
     @unittest.skipUnless(LIVE, "NVMELIVE does not name the program")
     def test_924_orders_take_few_runs(self) -> None:
-        """How long they take is told, and not judged: other work of the machine has a part in it."""
+        """Times are printed but not judged, since they depend on other work of the machine."""
         assert LIVE is not None
         text = RACE_TEXT.replace("poll 1\n# host b", "poll 1\npoll 1\n# host b")
         text = text.replace("poll 2\n# then", "poll 2\npoll 2\n# then")

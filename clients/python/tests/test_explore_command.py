@@ -40,9 +40,9 @@ class CommandTest(FolderCase):
                 (["explore", str(RACE), "--bogus"], "unrecognized arguments: --bogus"),
                 (["explore", str(RACE), "--jobs", "x"], "invalid int value: 'x'"),
                 (["explore", str(RACE), "--jobs", "0"], "--jobs and --shards are 1 at least"),
-                (["explore", str(RACE), "--shard", "9/8"], "'9/8' is no part: K/N was wanted, such as 1/8"),
+                (["explore", str(RACE), "--shard", "9/8"], "'9/8' is no part; use K/N, such as 1/8"),
                 (["explore"], "explore wants a SCRIPT, or --merge and files"),
-                (["explore", "--merge", str(text), "--image", str(text)], "--image stands where parts are explored"),
+                (["explore", "--merge", str(text), "--image", str(text)], "--image belongs to the parts"),
                 (["timeline", str(RACE), "--format", "png"], "a PNG file needs a name: -o FILE"),
                 (["timeline", str(RACE), "-o", "a.pdf"], "a.pdf ends with .pdf, which is no format that is written "
                  "here: .html or .svg or .png, or no ending"),
@@ -103,7 +103,7 @@ class CommandTest(FolderCase):
         counts = [sum(int(it.split(" ")[1]) for it in told.splitlines() if "orders, such as" in it)
                   for told in (few, many)]
         self.assertEqual(*counts)
-        power = self.folder / "power.nvme"  # whether a driver comes up is no trifle
+        power = self.folder / "power.nvme"  # an outcome depends on whether a driver comes up
         power.write_text(HEAD + "# host a\nreset 1\npoll 1\n# host b\nup 1\n# host c\nread 1 1 0 1\n", encoding="utf-8")
         self.assertIn("c.read1  refused NotReady\n   b.up1    AlreadyUp", self.explored(str(power))[1])
 
@@ -167,7 +167,7 @@ class CommandTest(FolderCase):
             self.assertEqual(re.findall(r"\b3,?432\b", text), ["3432"] * times)
 
     def test_the_red_reasons_of_a_page_are_whole(self) -> None:
-        """They are not cut short, lie within their pictures by bold letters of 8 pixels, and these within the page."""
+        """Texts are not cut, and fit into their pictures with bold letters of 8 pixels, and these into the page."""
         page = self.folder / "page.html"
         self.explored(str(RACE), "--page", str(page), "--never", "a.write1.rule == 1")
         text = page.read_text(encoding="utf-8")

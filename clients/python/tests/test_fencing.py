@@ -22,7 +22,7 @@ BAD = "hb2.write1 == 'Successful Completion' and reservation(1).holder == 0xb2 a
 
 class FencingTest(FolderCase):
     def run_example(self, *words: str) -> Tuple[List[str], str]:
-        """What the cluster tells, and the scene of what it sent."""
+        """The output of the cluster, and the scene of what it sent."""
         kept = self.folder / "kept"
         environment = {**os.environ, "PYTHONPATH": str(PACKAGE), "NVMELIVE": str(PROGRAMS[-1])}
         done = subprocess.run([sys.executable, str(EXAMPLE), "--kept", str(kept), "--force", *words],

@@ -36,7 +36,7 @@ os.read(0, 9)
 os.write(1, b"x" * 100000)
 os.write(1, b"end\n")
 """
-# So many orders that an exploration does not end while a test looks on.
+# More orders than an exploration finishes during a test.
 LONG = SHARED.split("# host a")[0] + "".join(
     f"# host {part}\n" + f"write 1 1 {n} 1 hex:a{n}\nring 1\nfetch 1 1\nexecute 1 0\npoll 1\n" * 3
     for n, part in enumerate("abcd"))
@@ -52,7 +52,7 @@ def session_of(pid: int) -> Optional[int]:
 
 
 def begun_by(pid: int) -> Set[int]:
-    """The sessions that a process has begun for its programs."""
+    """The process sessions that a process has started for its programs."""
     found: Set[int] = set()
     for task in Path(f"/proc/{pid}/task").glob("*/children"):
         with contextlib.suppress(OSError):

@@ -134,7 +134,7 @@ class ExplainTest(unittest.TestCase):
                       "7",
                       "host a1h's driver places ticket 3: Reservation Acquire, namespace 1, preempts key 22h and "
                       "aborts, with key 11h, Exclusive Access",
-                      "host b2h's driver tells controller 2 of tickets 2, 3 and 4"):
+                      "host b2h's driver notifies controller 2 of tickets 2, 3 and 4"):
             self.assertIn(words, told)
 
 

@@ -192,7 +192,7 @@ class ImagesTest(FolderCase):
 
     def test_parts_on_a_cluster(self) -> None:
         class Cluster:
-            """Stands in for a client of Dask, whose workers see the file of this name."""
+            """Replaces a client of Dask, whose workers see the file of this name."""
 
             def map(self, call: object, given: List[object]) -> List[object]:
                 return [call(it) for it in given]  # type: ignore[operator]

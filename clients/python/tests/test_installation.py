@@ -1,4 +1,4 @@
-"""The package as pip installs it, without a network: what stands in it, what runs there, and which version it is."""
+"""The package as pip installs it, without a network: what is in it, what runs there, and which version it is."""
 from __future__ import annotations
 
 import hashlib
@@ -23,7 +23,7 @@ ABOUT = ("METADATA", "WHEEL", "RECORD", "entry_points.txt")
 
 
 def backend_of(package: Path) -> ModuleType:
-    """The build backend that stands in a package."""
+    """The build backend that is in a package."""
     spec = util.spec_from_file_location("wheels", package / "packaging" / "wheels.py")
     assert spec is not None and spec.loader is not None
     module = util.module_from_spec(spec)
@@ -68,7 +68,7 @@ class InstallationTest(FolderCase):
             self.assertIn("rule 7", self.run_python(["-m", "nvmesim", *command], **where))
 
     def test_an_installed_package_finds_installed_programs(self) -> None:
-        """Beside itself before all; else on the path, and then under the user's prefix."""
+        """With itself before all; else on the path, and then under the user's prefix."""
         prefix, home, path = (self.folder / it for it in ("prefix", "home", "path"))
         package = prefix / "lib" / "nvmesim" / "python"
         shutil.copytree(PACKAGE / "nvmesim", package / "nvmesim", ignore=shutil.ignore_patterns("__pycache__"))

@@ -73,7 +73,7 @@ class FullTest(FolderCase):
         with mock.patch("nvmesim.__main__.text_of", side_effect=OSError(24, "Too many open files")):
             with contextlib.redirect_stderr(wrong):
                 self.assertEqual(main(["scene", str(RACE)]), 2)
-        self.assertEqual(wrong.getvalue(), "nvmesim: a call of the system fails: Too many open files\n")
+        self.assertEqual(wrong.getvalue(), "nvmesim: a system call failed: Too many open files\n")
 
     def test_a_copy_of_an_image(self) -> None:
         image = self.folder / "image"

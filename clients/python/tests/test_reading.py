@@ -57,8 +57,8 @@ class ReadingTest(FolderCase):
         self.assertEqual((lines[-1].data(), lines[-1].numbers(), lines[-1].text), (b"\0", [1, 0], "store 1 0x0 hex:00"))
         (line,) = read_lines("write 1 1 0 0x101 hex:ab", True, PROGRAMS[-1])
         self.assertEqual((line.words, line.numbers()), (("write", "1", "1", "0", "257", "hex:00"), [1, 1, 0, 257]))
-        for text, number, why in (("start\nnamespace 1 blocks 8 shared", 2, "namespace can't stand behind start"),
-                                  ("up 1", 1, "up can't stand before start"),
+        for text, number, why in (("start\nnamespace 1 blocks 8 shared", 2, "namespace is not allowed after start"),
+                                  ("up 1", 1, "up is not allowed before start"),
                                   ("start\n\nup 1 # c\n", 3, "a comment has a line of its own")):
             with self.assertRaises(ScriptError) as caught:
                 list(read_lines(text, program=PROGRAMS[-1]))

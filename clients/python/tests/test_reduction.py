@@ -17,7 +17,7 @@ from .support import LIVE, RACE, examples
 from .test_explore import HEAD, POWER, RAW, SHARED, SMALL, random_script
 
 SCENES = 200
-# So many events at the end of an example come in every order: its states are some hundreds then.
+# The number of events at the end of an example that come in every order: it then has hundreds of states.
 _LAST = 12
 _MOST_POSITIONS = 120
 # What the stand-in does not know; the program takes these.

@@ -1,4 +1,4 @@
-"""Sessions: what users do, what is refused, and programs that hang, die or talk nonsense."""
+"""Sessions: usual calls, refusals, and programs that hang, die or print nonsense."""
 from __future__ import annotations
 
 import pickle

@@ -47,7 +47,7 @@ class ShellTest(FolderCase):
         return done.returncode, done.stdout.splitlines(), done.stderr
 
     def answers(self, lines: Sequence[str], image: str = "-") -> List[str]:
-        """What is printed for lines behind the set up and the reservation."""
+        """What is printed for lines after the set up and the reservation."""
         before = [*SETUP, *RESERVED]
         status, told, errors = self.typed([*before, *lines], image)
         self.assertEqual((status, errors), (0, ""))
@@ -68,7 +68,7 @@ class ShellTest(FolderCase):
         self.assertEqual(told[-6:-1], ["read C N SLBA BLOCKS", "?blocks N SLBA COUNT", "?identify C CNS [NSID]",
                                        "quit               end the session, as Ctrl-D does",
                                        "! there is no line 'no': help names all"])
-        self.assertEqual(told[-1], "! quit stands alone")
+        self.assertEqual(told[-1], "! quit takes no words")
 
     def test_looks_that_decode(self) -> None:
         image = self.image()
@@ -102,7 +102,7 @@ class ShellTest(FolderCase):
             "?identify 1": "! ?identify C CNS [NSID] is how it is written", "?report 5": "! there is no such namespace",
             "?report": "! ?report N is how it is written", "?controllers 1": "! ?controllers is how it is written",
             "?status": "! ?status TYPE:CODE, such as ?status 0:83 is how it is written",
-            "?read32 1": "! ?read32 C OFF is how it is written", "list now": "! list stands alone",
+            "?read32 1": "! ?read32 C OFF is how it is written", "list now": "! list takes no words",
             "drop 1": "! the session is started, and its lines can't be changed any more",
             "save": "! save FILE is how it is written", "save image": "! image exists, and save replaces no file",
         }
@@ -120,20 +120,20 @@ class ShellTest(FolderCase):
                  "change 2 namespace 1 blocks 8 shared", "start", "up 1", "why"]
         status, told, errors = self.typed(lines)
         self.assertEqual((status, errors), (0, ""))
-        kept = "what was typed is kept: list shows it, change K LINE and drop K mend it, and start tries it again"
+        kept = "the lines are kept: list shows them, change K LINE and drop K fix them, and start tries again"
         self.assertEqual(told[5:11], [
             "refused line 5: BadId; line 4: controller 1 is attached to namespace 1 twice", kept,
             "  1  controller 1 host 1", "  2  namespace 1 blocks 70000 shared", "  3  attached 1 1",
             "  4  attached 1 1"])
         self.assertTrue(told[11].startswith("! line 2 word 1: namespace takes 5 words"), told[11])
-        self.assertEqual(told[12], "! start stands alone")
+        self.assertEqual(told[12], "! start takes no words")
         self.assertTrue(told[13].startswith("! line 2 word 1: "), told[13])
         self.assertEqual(told[14:], [
             "ok", "refused line 4: BadSize; line 2: namespace 1 has 70000 blocks, and 65536 is the most", kept,
             "ok", "started", "up 1 ok", "host 1h's driver comes up, and controller 1 with it"])
 
     def test_blocks_that_do_not_fit(self) -> None:
-        """In memory it is said how to get more; over an image there is none to be had so."""
+        """In memory the message says how to get more blocks; over an image there is no such way."""
         lines = ["controller 1 host 1", "namespace 1 blocks 65536 shared", "start"]
         more = "for more blocks than the 1,024 in memory: truncate -s 32M disk.img, and ./nvmelive disk.img"
         status, told, _ = self.typed(lines)
@@ -196,7 +196,7 @@ class ShellTest(FolderCase):
 
 def at_terminal(command: Sequence[str], keys: Sequence[Tuple[bytes, bytes]]) -> Tuple[int, str]:
     """Runs a command at a terminal, and types keys, each after something that is waited for; its status, and all that
-    it shows. A key that comes before the prompt is the terminal's to read, and not the command's."""
+    it shows. A key that comes before the prompt belongs to the terminal."""
     child, terminal = pty.fork()
     if child == 0:
         os.execvpe(command[0], list(command), {**environment(), "TERM": "xterm"})

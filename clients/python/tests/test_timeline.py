@@ -1,4 +1,4 @@
-"""Pictures: one page that needs nothing beside it, with each event, each command and each denial."""
+"""Pictures: one self-contained page, with each event, each command and each denial."""
 from __future__ import annotations
 
 import base64

@@ -4,7 +4,7 @@ use nvmesim::{Attachment, Completion, Config, Controller, Executed, Namespace, R
 
 type Outcome<T> = Result<T, Box<dyn std::error::Error>>;
 
-// Where things stand in the memory of each host: queues of the admin and of one I/O pair, and a page of data.
+// The layout of each host's memory: queues of the admin and of one I/O pair, and a page of data.
 const SQ: [u64; 2] = [0x0000, 0x2000];
 const CQ: [u64; 2] = [0x1000, 0x3000];
 const DATA: u64 = 0x10000;
@@ -38,7 +38,7 @@ impl Host {
         Ok(host)
     }
 
-    /// Submits a command to queue 0 or 1, has it fetched and executed, and takes its completion.
+    /// Submits a command to queue 0 or 1, fetches and executes it, and takes its completion.
     fn submit(&mut self, subsystem: &mut Subsystem<'_>, qid: u16, entry: [u8; 64]) -> Outcome<Completion> {
         let tail = &mut self.tails[usize::from(qid)];
         let at = SQ[usize::from(qid)] + 64 * u64::from(*tail);

@@ -1,4 +1,4 @@
-//! The structs of `nvmesim.h`, as they lie in memory.
+//! The structs of `nvmesim.h`, with their layout in memory.
 
 use crate::{Attachment, Controller, Namespace};
 use std::os::raw::c_void;
@@ -103,7 +103,7 @@ pub struct Read {
 /// A configuration, as the calls take it.
 pub type Parts<'p> = (&'p [Controller], &'p [Namespace], &'p [Attachment]);
 
-/// Where the subsystem's blocks come from.
+/// The origin of the subsystem's blocks.
 pub enum Blocks<'b, 'a> {
     Copied(&'b [u8]),
     Lent(&'a mut [u8]),

@@ -18,7 +18,7 @@
 //! # Ok::<(), Box<dyn std::error::Error>>(())
 //! ```
 //!
-//! Bytes may also be lent, for as long as the subsystem is there; what a Write leaves stands in them:
+//! Bytes may also be borrowed, for as long as the subsystem exists; a Write changes them in place:
 //!
 //! ```
 //! # use nvmesim::{Config, Subsystem};
@@ -62,7 +62,7 @@
 //! # Ok::<(), nvmesim::ConfigError>(())
 //! ```
 //!
-//! Two threads share one behind a lock, and not otherwise:
+//! Two threads share one only by a lock:
 //!
 //! ```compile_fail,E0277
 //! # use nvmesim::{Config, Subsystem};
@@ -99,7 +99,7 @@ pub struct Controller {
     host_low: u64,
     host_high: u64,
     cntlid: u16,
-    /// Whether its line of a script says `raw`. Opening does not ask: each host is raw here.
+    /// Whether its line of a script says `raw`. Opening ignores it: each host is raw here.
     pub raw: bool,
 }
 
@@ -148,7 +148,7 @@ pub struct Attachment {
 pub struct Config {
     /// The controllers, in the order of their identifiers.
     pub controllers: Vec<Controller>,
-    /// The namespaces. They lie on the blocks one after the other.
+    /// The namespaces, which occupy the blocks one after the other.
     pub namespaces: Vec<Namespace>,
     /// The attachments.
     pub attached: Vec<Attachment>,
@@ -178,7 +178,7 @@ pub enum OpenError {
 pub enum Refusal {
     /// There is no such controller.
     NoController,
-    /// Not all the bytes lie in the memory of the host, or not all the blocks in such a namespace.
+    /// Some of the bytes are outside the host's memory, or some of the blocks outside the namespace.
     Outside,
     /// The bytes are no whole number of blocks.
     NotWhole,
@@ -212,7 +212,7 @@ pub struct Completion {
     pub sc: u8,
     /// Double word 0.
     pub dw0: u32,
-    /// The number of the rule that denied the command, where one did.
+    /// The number of the rule that denied the command, if one did.
     pub denied_by: Option<u8>,
 }
 
@@ -235,7 +235,7 @@ pub enum Executed {
     Posted(Completion),
     /// There is no such command.
     NoSuch,
-    /// The completion queue has no room; the command waits.
+    /// The completion queue is full; the command waits.
     CqFull,
 }
 
@@ -252,14 +252,14 @@ impl Subsystem<'static> {
 }
 
 impl<'a> Subsystem<'a> {
-    /// Opens a subsystem over these bytes themselves. What a Write leaves stands in them at once; where they are those
-    /// of a file, sync it when a Flush was executed, before its completion is handed on.
+    /// Opens a subsystem over these bytes themselves. A Write changes them at once; if they are a file's, sync it when
+    /// a Flush was executed, before you return its completion.
     pub fn open_lent(config: &Config, bytes: &'a mut [u8]) -> Result<Self, OpenError> {
         opened(config, Blocks::Lent(bytes))
     }
 
-    /// A hint, which changes nothing: a command will soon write so many of the lent bytes, from a place on. The processor
-    /// fetches them while it does other work. Where no bytes are lent, or not so many, there are none to fetch.
+    /// A hint, which changes nothing: a command will soon write `count` of the borrowed bytes, from `place` on. The
+    /// processor fetches them meanwhile.
     pub fn prefetch(&self, place: usize, count: usize) {
         self.handle.prefetch(place, count);
     }
@@ -399,7 +399,7 @@ impl fmt::Display for Refusal {
     fn fmt(&self, f: &mut fmt::Formatter<'_>) -> fmt::Result {
         f.write_str(match self {
             Refusal::NoController => "there is no such controller",
-            Refusal::Outside => "not all of it lies inside",
+            Refusal::Outside => "some of it is outside",
             Refusal::NotWhole => "the bytes are no whole number of blocks",
             Refusal::MediumFault => "the medium failed",
             Refusal::NoQueue => "the controller has no such queue",

@@ -1,4 +1,4 @@
-//! Configurations, events and answers as the lines of scripts and transcripts, and lines that look, as in sessions.
+//! Configurations, events and answers as the lines of scripts and transcripts, and query lines, as in sessions.
 
 use crate::layout::{self, Answer, Written};
 use crate::{raw, Attachment, Config, Controller, Executed, Fetched, Namespace, Subsystem};
@@ -9,7 +9,7 @@ use std::fmt;
 #[derive(Clone, Copy, Debug, PartialEq, Eq)]
 #[non_exhaustive]
 pub enum ConfigFault {
-    /// A line is no line of a script, or may not stand where it does.
+    /// A line is no line of a script, or is not allowed at its place.
     BadLine,
     /// An identifier is wrong: of a controller, host or namespace, or of an attachment.
     BadId,
@@ -36,7 +36,7 @@ pub struct ConfigError {
     pub name: ConfigFault,
     /// The line that is at fault, from 1; 0 where memory was refused.
     pub line: usize,
-    /// Where in the line, in bytes from 1; 0 where memory was refused.
+    /// Column in the line, in bytes from 1; 0 if memory was refused.
     pub column: usize,
     /// What the programs print after the name of the file and a colon: line, column and reason.
     pub reason: String,
@@ -89,18 +89,18 @@ pub enum Event<'b> {
     PowerCycle,
 }
 
-/// What an event gave.
+/// The result of an event.
 #[derive(Clone, Copy, Debug, PartialEq, Eq)]
 pub enum Answered {
     /// The bytes are stored.
     Stored,
-    /// Not all the bytes lie in the memory.
+    /// Some of the bytes are outside the memory.
     Outside,
     /// The register is written.
     Wrote32,
     /// What came of a fetch.
     Fetched(Fetched),
-    /// What came of an execution.
+    /// The result of an execution.
     Executed(Executed),
     /// Power was lost, and came back.
     PowerCycled,
@@ -114,7 +114,7 @@ pub enum Answered {
 pub enum LineError {
     /// The buffer is too short.
     NoRoom,
-    /// No line says this event, the event never gives this answer, or the line does not begin with `?`.
+    /// No line expresses this event, the event never has this answer, or the line does not begin with `?`.
     NoLine,
     /// Memory was refused.
     NoMemory,
@@ -132,15 +132,15 @@ impl fmt::Display for LineError {
 
 impl std::error::Error for LineError {}
 
-/// How many controllers, namespaces and attachments a configuration has at most.
+/// The most controllers, namespaces and attachments of a configuration.
 const MOST: (usize, usize, usize) = (16, 8, 128);
-/// The most bytes of a reason, and some more.
+/// More than the longest reason.
 const REASON: usize = 1024;
-/// The most bytes of an answer.
+/// The longest answer.
 const ANSWER: usize = 262_240;
 
-/// Reads a configuration, the lines of a script before its `start`, and judges it for a medium of so many blocks.
-/// `start` may be missing, and nothing but blank lines and comments may follow it.
+/// Parses a configuration, the lines of a script before its `start`, and checks it for a medium of `blocks` blocks.
+/// `start` may be missing, and only blank lines and comments may follow it.
 pub fn read_configuration(text: &[u8], blocks: u64) -> Result<Config, ConfigError> {
     let mut controllers = vec![Controller::new(0, 0); MOST.0];
     let mut namespaces = vec![Namespace { blocks: 0, nsid: 0, shared: false }; MOST.1];
@@ -159,8 +159,8 @@ pub fn read_configuration(text: &[u8], blocks: u64) -> Result<Config, ConfigErro
 }
 
 impl Config {
-    /// The lines of a script that describe the configuration, each with its line feed, without `start`. Read, they give
-    /// the same.
+    /// The lines of a script that describe the configuration, each with its line feed, without `start`. Parsed again,
+    /// they give the same configuration.
     pub fn lines(&self) -> Result<String, LineError> {
         let most = 96 * self.controllers.len() + 64 * self.namespaces.len() + 32 * self.attached.len();
         let mut lines = vec![0; most];
@@ -171,8 +171,8 @@ impl Config {
     }
 }
 
-/// Puts the line of a script that says an event, and its line feed, at the front of a buffer: its length. A line has at
-/// most 64 bytes, and two more for each byte that is stored. `NoLine` for a store of no bytes, and for a place above
+/// Writes the script line of an event, with its line feed, to the front of a buffer, and returns its length. A line has
+/// at most 64 bytes, and two more for each byte that is stored. `NoLine` for a store of no bytes, and for a place above
 /// 65,535.
 #[inline]
 pub fn event_line(event: &Event<'_>, line: &mut [u8]) -> Result<usize, LineError> {
@@ -180,17 +180,17 @@ pub fn event_line(event: &Event<'_>, line: &mut [u8]) -> Result<usize, LineError
     written(&raw::event_line(&event.plain(), bytes, line))
 }
 
-/// Puts the line of a transcript that tells what an event gave, and its line feed, at the front of a buffer: its length,
-/// which is at most 64. `NoLine` where the event never gives this answer.
+/// Writes the transcript line of an event's result, with its line feed, to the front of a buffer, and returns its
+/// length, at most 64. `NoLine` if the event never has this answer.
 #[inline]
 pub fn answer_line(event: &Event<'_>, answer: &Answered, line: &mut [u8]) -> Result<usize, LineError> {
     written(&raw::answer_line(&event.plain(), &answer.plain(), line))
 }
 
 impl Subsystem<'_> {
-    /// Answers a line that looks, such as `?queues 1`, as a session of `nvmelive` over the same subsystem does, without
-    /// the line feed. No host has a driver here. A refusal is an answer as well, which names the line by its number.
-    /// `NoLine` for a line that does not begin with `?`.
+    /// Answers a query line, such as `?queues 1`, as a session of `nvmelive` over the same subsystem does, without the
+    /// line feed. No host has a driver here. A refusal is an answer too, and names the line by its number. `NoLine` for
+    /// a line that does not begin with `?`.
     pub fn look(&mut self, number: u64, line: &str) -> Result<String, LineError> {
         let mut answer = vec![0; ANSWER];
         let length = written(&self.handle.look(number, line.as_bytes(), &mut answer))?;
@@ -237,7 +237,7 @@ impl Event<'_> {
 }
 
 impl Answered {
-    /// As the library gives it.
+    /// As the library returns it.
     fn plain(&self) -> Answer {
         let of = |what| Answer { what, ..Answer::default() };
         match *self {

@@ -12,9 +12,9 @@ pub struct Queue {
     pub size: u16,
     /// The slot of the next command to fetch, or of the first completion that the host has not consumed.
     pub head: u16,
-    /// The slot behind the last command, or that of the next completion.
+    /// The slot after the last command, or that of the next completion.
     pub tail: u16,
-    /// The completion queue: itself, or where the completions of a submission queue go.
+    /// The completion queue: itself, or that of a submission queue's completions.
     pub cqid: u16,
     /// Of a completion queue, the phase tag of the next completion.
     pub phase: bool,
@@ -117,7 +117,7 @@ impl Subsystem<'_> {
     }
 
     /// What the `i`-th of these commands, from 0, needs of the medium, if it is executed now, or `None` if there is no
-    /// such command. Its execution makes no other calls; what it is answered says which of these were made.
+    /// such command. Its execution makes no other calls; its completion says which of these were made.
     pub fn need(&mut self, cntlid: u16, i: usize) -> Result<Option<Need>, Refusal> {
         let needed = self.handle.needs(cntlid, i);
         if needed.what == NO_SUCH {
@@ -127,7 +127,7 @@ impl Subsystem<'_> {
         Ok(Some(need(needed)))
     }
 
-    /// Whether a controller is attached to a namespace. It is not where there is no such controller or namespace.
+    /// Whether a controller is attached to a namespace; false if either does not exist.
     pub fn is_attached(&mut self, cntlid: u16, nsid: u32) -> bool {
         self.handle.is_attached(cntlid, nsid).value == 1
     }

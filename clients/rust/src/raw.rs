@@ -1,7 +1,7 @@
 //! The calls of libnvmesim, and all that is unsafe.
 //!
-//! What the header asks of its caller is kept here: a [`Handle`] begins closed, is neither copied nor shared, and is
-//! closed when it is dropped; references and slices are never null, and are for as many values as they say.
+//! Keeps what the header asks of its caller: a [`Handle`] begins closed, is neither copied nor shared, and is closed
+//! when it is dropped; references and slices are never null, and have as many values as they say.
 
 use crate::foreign::{
     nvmesim_answer_line, nvmesim_close, nvmesim_configuration_lines, nvmesim_event_line, nvmesim_load, nvmesim_look,
@@ -50,7 +50,7 @@ plain_calls! {
 /// A subsystem that is open.
 pub struct Handle<'a> {
     sim: Sim,
-    /// Where its lent bytes are, and how many.
+    /// Address and length of its borrowed bytes.
     lent: (*const u8, usize),
     life: PhantomData<&'a mut [u8]>,
 }
@@ -96,7 +96,7 @@ impl<'a> Handle<'a> {
         unsafe { nvmesim_look(&mut self.sim, number, line.0, line.1, answer.0, answer.1) }
     }
 
-    /// Has the processor fetch lent bytes, where it can. That is no access, and may be done at any address.
+    /// Prefetches borrowed bytes, if the processor can. That is no access, and may be done at any address.
     #[cfg_attr(not(target_arch = "x86_64"), allow(unused_variables))]
     pub fn prefetch(&self, place: usize, count: usize) {
         let (at, end) = (self.lent.0, place.saturating_add(count).min(self.lent.1));
@@ -142,7 +142,7 @@ pub fn event_line(event: &Event, bytes: &[u8], line: &mut [u8]) -> Written {
     unsafe { nvmesim_event_line(event, bytes.as_ptr(), bytes.len(), line.as_mut_ptr(), line.len()) }
 }
 
-/// The line of what an event gave.
+/// The line of an event's result.
 pub fn answer_line(event: &Event, answer: &Answer, line: &mut [u8]) -> Written {
     unsafe { nvmesim_answer_line(event, answer, line.as_mut_ptr(), line.len()) }
 }

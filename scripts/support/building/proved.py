@@ -18,7 +18,7 @@ class NotProved(Exception):
 
 
 def keep(top: Path, sources: str, how: str) -> None:
-    """Keeps the programs that stand in crates/*/out as proved of these sources."""
+    """Keeps the programs that are in crates/*/out as proved of these sources."""
     store = Store(top)
     folder = store.proved(sources)
     fields = {"sources": sources, "proved": how, "toolchain": toolchain.ask("version")}
@@ -76,7 +76,7 @@ def prove(top: Path, tell: Tell) -> None:
     with held, open(store.folder / "prove.log", "a", encoding="utf-8") as log:
         sources = digest(top)
         tell("proving and building the programs, 15 to 30 minutes in a fresh clone; what is proved stays, so that a "
-             "proof that is stopped goes on where it was")
+             "proof that is stopped continues where it was")
         store.write(store.proving, f"{os.getpid()}\nbegun at {time.strftime('%H:%M')}\n")
         try:
             status = relay(top, tell, log)
@@ -93,7 +93,7 @@ def prove(top: Path, tell: Tell) -> None:
 
 
 def follow(top: Path, tell: Tell) -> None:
-    """Tells how far the proof of another process is, until it has ended."""
+    """Reports how far the proof of another process is, until it has ended."""
     store = Store(top)
     tell(f"process {store.holder('proving')} is proving the programs: following it")
     last = ""
@@ -109,7 +109,7 @@ def follow(top: Path, tell: Tell) -> None:
 
 
 def prove_in_background(top: Path, tell: Tell) -> None:
-    """Begins a proof in a process of its own, which goes on when this one has ended."""
+    """Begins a proof in a process of its own, which continues when this one has ended."""
     store = Store(top)
     if is_kept(top, digest(top)):
         tell("the programs are proved already, of the sources as they are")

@@ -25,7 +25,7 @@ def cone(top: Path) -> List[str]:
 
 
 def files(top: Path) -> Iterator[Path]:
-    """The sources, in the order of their names: crates.txt, and what lies in src, specs and proofs of each crate."""
+    """The sources, in the order of their names: crates.txt, and what is in src, specs and proofs of each crate."""
     found = [top / "crates.txt"]
     for name in cone(top):
         found += [it for part in PARTS for it in (top / "crates" / name / part).rglob("*") if it.is_file()]
@@ -39,7 +39,7 @@ def listing(top: Path) -> Iterator[str]:
 
 
 def digest(top: Path) -> str:
-    """The SHA-256 of that list. It is kept, so that it is computed again only where a source is newer."""
+    """The SHA-256 of that list. It is kept, so that it is computed again only if a source is newer."""
     begun = time.time() - 1
     found = hashlib.sha256("".join(listing(top)).encode()).hexdigest()
     store = Store(top)

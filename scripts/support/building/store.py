@@ -1,4 +1,4 @@
-"""Where builds are kept: in out/ at the top, by the digest of their sources."""
+"""The folder of builds, out/ at the top, by the digest of their sources."""
 import fcntl
 import hashlib
 import os
@@ -10,7 +10,7 @@ from typing import IO, Dict, List, Optional
 
 # How many builds of other sources stay.
 OTHERS = 3
-# For so many seconds a lock is tried that others may only look at.
+# Seconds to try for a lock that others hold only to look at it.
 PATIENCE = 0.2
 
 
@@ -25,11 +25,11 @@ class Store:
         self.proving = self.folder / "proving"
 
     def unproved(self, digest: str) -> Path:
-        """Where the programs are that were built without their proofs."""
+        """The folder of programs that were built without their proofs."""
         return self.folder / "unproved" / digest
 
     def proved(self, digest: str) -> Path:
-        """Where the proved programs are, with a record of how they were proved."""
+        """The folder of proved programs, with a record of how they were proved."""
         return self.folder / "proved" / digest
 
     def gate(self, digest: str) -> Path:
@@ -55,7 +55,7 @@ class Store:
         os.replace(name, place)
 
     def forget_others(self, folder: Path) -> None:
-        """Removes builds of other sources, but for the newest."""
+        """Removes builds of other sources, except for the newest."""
         others = sorted((it for it in folder.parent.iterdir() if it != folder), key=lambda it: it.stat().st_mtime)
         for it in others[:-OTHERS]:
             shutil.rmtree(it, ignore_errors=True)

@@ -21,9 +21,9 @@ places. They must all take a configuration, or all refuse it with the same line,
 don't is printed whole. The same SEED makes the same configurations. The status is 1 where two programs differ."""
 # How many configurations are tried at a time.
 PIECE = 500
-# Of so many configurations that are taken one is tried whole: its lines, as the lab hands them on, in a session.
+# One of this many accepted configurations is tried as a whole: its lines, as the lab hands them on, in a session.
 THOROUGH = 8
-# By so many configurations a wrong reader is found.
+# Number of configurations that find a wrong reader.
 SELF_TEST = 4000
 
 # Wrong readers: how each changes a text before it is read.
@@ -31,7 +31,7 @@ WRONG: Dict[str, Callable[[bytes], bytes]] = {
     "VT and FF separate words": lambda text: text.replace(b"\x0b", b" ").replace(b"\x0c", b" "),
     "EM SPACE separates words": lambda text: text.replace(b"\xe2\x80\x83", b" "),
     "a carriage return ends a line": lambda text: text.replace(b"\r", b"\n"),
-    "what is behind start is not read": lambda text: text.partition(b"\nstart\n")[0],
+    "what follows start is not read": lambda text: text.partition(b"\nstart\n")[0],
     "a comment may begin late": lambda text: text.replace(b"# late", b""),
     "comments are UTF-8": lambda text: text.decode("utf-8", "ignore").encode(),
     "digits may be grouped": lambda text: text.replace(b"1_0", b"10"),
@@ -82,7 +82,7 @@ def pieces(cases: int) -> Iterator["tuple[int, int]"]:
 
 
 def search(words: argparse.Namespace, cases: int, wrong: Optional[str]) -> Optional[int]:
-    """The first of so many configurations which two programs judge differently."""
+    """The first of `cases` configurations that two programs judge differently."""
     with ProcessPoolExecutor(words.workers, initializer=begin, initargs=(words, wrong)) as pool:
         found = (it for it in pool.map(first_difference, *zip(*pieces(cases))) if it is not None)
         number = next(found, None)

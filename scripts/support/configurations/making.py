@@ -11,7 +11,7 @@ NUMBERS = (b"0", b"1", b"2", b"3", b"8", b"9", b"16", b"17", b"128", b"255", b"2
            b"-1", b"1_0", b"1.", b"a1", b"ff", b"0b1", b"1e3", b"\xef\xbc\x91", b"00000000000000000000000000000000001",
            b"0x0000000000000000000000000000000000000001", b"9" * 60, b"0" * 300,
            b"00000000-0000-0000-0000-0000000000a1")
-# Bytes that separate words somewhere, and nowhere in a script but for the first three.
+# Bytes that separate words somewhere, and nowhere in a script except for the first three.
 BLANKS = (b" ", b"\t", b"\r", b"\x0b", b"\x0c", b"\xa0", b"\xc2\xa0", b"\xe2\x80\x83", b"\x00", b"\x1c", b"\x85", b"\x7f",
           b"\xe3\x80\x80", b"  \t ")
 COMMENTS = (b"#", b"# words", b"#\xff\xfe\x80 no UTF-8", b"# \xc3", b"#start", b"#\x00\x0b", b" # late", b"\t#")

@@ -17,7 +17,7 @@ TAKEN = "taken"
 EVENT = "this line is an event, and a configuration has none"
 EMPTY = "1:1: there is no controller; add a line 'controller 1 host 1'"
 START = re.compile(rb"^[ \t\r]*start[ \t\r]*$", re.M)
-# The beginning of a reason that a line may not stand where it does.
+# The beginning of a reason that a line is not allowed at its place.
 PLACE = re.compile(r"\w+ (needs a 'start'|stands before 'start'|stands in a script once)")
 # What nvmetcp adds where a host is written as a UUID, which scripts don't know.
 UUID_HINT = re.compile(r"; the host with this HOSTID is 0x[0-9a-f]{32}$")
@@ -66,7 +66,7 @@ class Programs:
         return Ended(status, *(it.read_bytes() for it in shown))
 
     def placed(self, ended: Ended, program: str) -> str:
-        """The reason of a refusal, behind the name of the script."""
+        """The reason of a refusal, after the name of the script."""
         told = ended.errors.decode("utf-8", "replace").splitlines()
         front = f"{self.script}:"
         last = (told or [""])[-1].removeprefix(f"{program}: ")
@@ -76,7 +76,7 @@ class Programs:
 
     def by_nvmesim(self, text: bytes) -> Judged:
         """The reason of nvmesim. A configuration is a script without events that has a controller: where the script is
-        run, its transcript tells both."""
+        run, its transcript reports both."""
         started = text if START.search(text) else text + b"\nstart"
         self.script.write_bytes(started + b"\n" + PROBE)
         ended = self.run(self.sim, str(self.medium), str(self.script))
@@ -143,7 +143,7 @@ def differences(programs: Programs, text: bytes, is_thorough: bool) -> Dict[str,
 
 def by_session(programs: Programs, text: bytes, sim: Judged) -> str:
     """The reason of nvmesim, if the answers of nvmelive to single lines agree with it: the first line that is not
-    understood is the same, for the same reason. Where a line may stand, and what it sets up, they don't say."""
+    understood is the same, for the same reason. If a line may be, and what it sets up, they don't say."""
     answers = programs.session.ask([f"?line {it.decode('ascii', 'surrogateescape')}" for it in text.split(b"\n")])
     first = next((n for n, it in enumerate(answers, 1) if it.startswith("! ")), None)
     if not sim.is_of_line:

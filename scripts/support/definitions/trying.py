@@ -48,7 +48,7 @@ class Laboratory:
         shutil.rmtree(self.room, ignore_errors=True)
 
     def check(self, name):
-        """One check of a crate there, and of what lies between it and the wrong definition."""
+        """One check of a crate there, and of what is between it and the wrong definition."""
         return run(["rt", "check", "--jobs", "1"], self.room / "crates" / name)
 
 

@@ -1,4 +1,5 @@
-"""The lists of what may take memory: outside.txt has the names that never do, memory.txt the functions that have others."""
+"""The lists of what may take memory: outside.txt has the names that never do, memory.txt the functions that have
+others."""
 from collections import Counter
 from dataclasses import dataclass, field
 from pathlib import Path
@@ -38,7 +39,7 @@ class Lists:
     wrong: List[Finding] = field(default_factory=list)
 
     def takers(self, crate: str, below: Set[str], hidden: Set[Tuple[str, str]]) -> Takers:
-        """The functions that take memory and that a crate may call: its own, and those of the crates that it stands on
+        """The functions that take memory and that a crate may call: its own, and those of the crates that it depends on
         which are not hidden from it."""
         found = Takers()
         for (path, function), row in self.rows.items():

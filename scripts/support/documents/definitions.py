@@ -1,4 +1,4 @@
-"""The definitions of crates/*/specs and the types of crates/*/src: where each stands, and which it is made of."""
+"""The definitions of crates/*/specs and the types of crates/*/src: where each is, and which it is made of."""
 import re
 from dataclasses import dataclass, field
 from pathlib import Path
@@ -106,7 +106,7 @@ def read_code(name: str, text: str) -> Module:
 
 
 class Library:
-    """All modules of the crates, and what stands where."""
+    """All modules of the crates, and what is where."""
 
     def __init__(self, top: Path):
         self.modules: Dict[str, Module] = {}
@@ -137,7 +137,7 @@ class Library:
         return self.found(again) if again and again != key else None
 
     def is_ours(self, key: Key) -> bool:
-        """Whether a place is in a crate of this repository, and not of the toolchain."""
+        """Whether a place is in a crate of this repository instead of the toolchain."""
         return key[0].split("/")[1] in self.crates
 
     def types_of(self, module: Module, name: str) -> List[Key]:
@@ -163,7 +163,7 @@ class Library:
                 yield found
 
     def cone(self, begin: List[Definition]) -> Dict[Key, Definition]:
-        """The definitions and all that they are made of, each behind what it is made of."""
+        """The definitions and all that they are made of, each after what it is made of."""
         found: Dict[Key, Definition] = {}
         seen = set()
 

@@ -1,4 +1,4 @@
-"""Excerpts of code in documents: each names its file, and is what stands there."""
+"""Excerpts of code in documents: each names its file, and is what is there."""
 import re
 from pathlib import Path
 from typing import Iterator, List, Tuple
@@ -29,7 +29,7 @@ def holds(fence: Fence, line: int) -> bool:
 
 
 def faults_of(top: Path, fence: Fence) -> Iterator[Tuple[int, str]]:
-    """The lines of a marked fence where it is not what its files have. Each part of it, between blank lines, stands in
+    """The lines of a marked fence where it is not what its files have. Each part of it, between blank lines, is in
     one of the files; the parts of one file in its order."""
     sources = {}
     for name in fence.files or []:
@@ -66,8 +66,8 @@ def lines_of(name: str, text: str) -> List[str]:
 
 
 def end_of(lines: List[str], part: List[str], begin: int) -> int:
-    """Where a part ends that stands at or behind a line; 0 where it stands nowhere. Its lines follow one another but
-    for an elision, and behind the last of them the source does not go on."""
+    """The end of the first occurrence of a part at or after a line; 0 if there is none. Its lines follow one another
+    except for an elision, and after the last of them the source does not continue."""
     for at in range(begin, len(lines)):
         if lines[at].strip() == part[0].strip():
             end = match(lines, part, at)
@@ -77,7 +77,7 @@ def end_of(lines: List[str], part: List[str], begin: int) -> int:
 
 
 def match(lines: List[str], part: List[str], at: int) -> int:
-    """The line behind the part, if it stands at this line; else 0."""
+    """The line after the part, if it is at this line; else 0."""
     is_elided = False
     for line in part:
         if line.strip() == ELISION:
@@ -92,7 +92,7 @@ def match(lines: List[str], part: List[str], at: int) -> int:
 
 
 def goes_on(lines: List[str], part: List[str], at: int) -> bool:
-    """Whether the source goes on with what the part ends in: with an indented line, or a clause of the same name."""
+    """Whether the source continues with what the part ends in: with an indented line, or a clause of the same name."""
     clauses = [line.split()[0] for line in part if line[:1].strip()]
     following = lines[at] if at < len(lines) else ""
     return following.startswith(" ") or bool(clauses and following.startswith(clauses[-1] + " "))

@@ -7,7 +7,7 @@ from support.documents.texts import Document, Finding, texts
 
 BLANKS = re.compile(r"[ \t\r]+$")
 MACHINE = re.compile(r"(?<![\w.}*/)-])/(?:work|home|opt|root|tmp|Users|mnt)\b")
-# README's tables are to be read at a glance: so many words a cell.
+# README's tables are read at a glance: the most words of a cell.
 MOST_WORDS = 40
 COLUMNS = 120
 # README is one page, which shows what it is about.
@@ -34,7 +34,7 @@ def check_prose(document: Document) -> Iterator[Finding]:
 
 
 def check_front(document: Document) -> Iterator[Finding]:
-    """README has so many lines at most, and shows the hosts and a timeline."""
+    """README has at most `MOST_LINES` lines, and shows the hosts and a timeline."""
     lines = document.text.rstrip("\n").split("\n")
     if len(lines) > MOST_LINES:
         yield Finding(document.path, MOST_LINES + 1, f"{len(lines)} lines, where {MOST_LINES} are the most")

@@ -1,4 +1,4 @@
-"""The manual pages' lists of options: each is made of its program's --help, and stands between two marks."""
+"""The manual pages' lists of options: each is made of its program's --help, and is between two marks."""
 import re
 import subprocess
 import sys

@@ -10,8 +10,8 @@ from support.documents.texts import Document, Finding, crates
 
 TABLE = "docs/ARCHITECTURE.md"
 HEADING = "Memory"
-# A function that anyone may call, with its indentation, up to its parameters' end; the type or trait that it belongs to;
-# and an allocator, or a runtime that has one: what a module has for its crate alone may have another that gives it.
+# A function that anyone may call, with its indentation, up to its parameters' end; the type or trait that it belongs
+# to; and an allocator, or a runtime that has one: what a module has for its crate alone may have another that gives it.
 CALL = re.compile(r"^( *)pub fn (\w+)[^({]*(?:<[^(]*>)?\(([^)]*)\)", re.M)
 OWNER = re.compile(r"^(?:pub )?(?:impl(?:<.*?>)? (?:[\w:<>, ]+ for )?|trait )(\w+)", re.M)
 GIVEN = re.compile(r"\balloc: |\brt: &")

@@ -1,4 +1,4 @@
-"""What documents name stands in the repository: paths, crates, definitions, links; the picture has the crates, and the
+"""What documents name is in the repository: paths, crates, definitions, links; the picture has the crates, and the
 manual pages the lines of scripts and of sessions."""
 import re
 import xml.etree.ElementTree as xml
@@ -16,7 +16,7 @@ CRATE = re.compile(r"(?:nvme|script|part|fleet|controller)_[a-z0-9_]+$")
 WORD = re.compile(r"[A-Za-z_]\w*")
 # Modules of definitions that a table need not name.
 ASIDE = re.compile(r"^(?:Lib|Example\w*|\w+(?:Examples|Laws))$")
-# What a reader is told to save under a name: the mark before its fence.
+# The mark before a file that the reader is asked to save.
 SAVED = re.compile(r"^<!-- file: (\S+) -->$", re.M)
 CARRIED = re.compile(r"Carried by ((?:`[\w:]+`(?:,| and)? ?)+)")
 # The documents that cite definitions, and the picture.
@@ -26,7 +26,7 @@ PICTURE = "docs/pictures/layers.svg"
 # The timeline in README, and the script that it shows.
 TIMELINE = "docs/pictures/timeline.svg"
 TIMED = "crates/nvme_examples/data/fenced.nvme"
-# Where each crate, each module of definitions, and what is proved of each crate are.
+# The documents that have each crate, each module of definitions, and what is proved of each crate.
 CRATES = "docs/ARCHITECTURE.md"
 CONTRACTS = "docs/PROVED.md"
 SECTION = "Crate by crate"
@@ -37,7 +37,7 @@ MANUALS = (("man/nvmesim.1", USING, "Lines after `start`", re.compile(r"\| `([a-
 
 
 def globs(text: str) -> List[str]:
-    """The patterns of a path: NAME and other placeholders stand for anything, {a,b} for one of them."""
+    """The patterns of a path: NAME and other placeholders represent anything, {a,b} for one of them."""
     found = re.search(r"\{([\w,]+)\}", text)
     if found:
         return [it for one in found[1].split(",") for it in globs(text.replace(found[0], one, 1))]
@@ -45,7 +45,7 @@ def globs(text: str) -> List[str]:
 
 
 def is_there(top: Path, text: str) -> bool:
-    """Whether a path of a document stands in the repository: from the top, from crates, or in a crate."""
+    """Whether a path of a document is in the repository: from the top, from crates, or in a crate."""
     for pattern in globs(text.rstrip("/")):
         tries = [f"{begin}{pattern}{end}" for begin in ("", "crates/", "crates/*/") for end in ("", ".antt", ".rt")]
         if not any(any(top.glob(it)) for it in tries):
@@ -59,7 +59,7 @@ def is_made(text: str) -> bool:
 
 
 def check_paths(top: Path, document: Document) -> Iterator[Finding]:
-    """Each path or file that a code span begins with exists, or is one that the reader is told to save."""
+    """Each path or file that a code span begins with exists, or is one that the reader is asked to save."""
     saved = SAVED.findall(document.text)
     for n, span in document.spans:
         word = span.split()[0] if span.split() else ""
@@ -77,7 +77,7 @@ def check_paths(top: Path, document: Document) -> Iterator[Finding]:
 
 
 def named(top: Path, name: str) -> Iterator[Path]:
-    """The files of this name, but for what a build makes."""
+    """The files of this name, except for what a build makes."""
     for pattern in ("", "crates/*/", *(f"crates/*/{it}/**/" for it in PARTS), *(f"{it}/**/" for it in FOLDERS[1:])):
         yield from top.glob(pattern + name)
 
@@ -100,7 +100,7 @@ def check_crates(top: Path, found: List[Document]) -> Iterator[Finding]:
 
 
 def check_modules(top: Path, found: List[Document]) -> Iterator[Finding]:
-    """A table has each module of definitions, but for those of examples and of laws."""
+    """A table has each module of definitions, except for those of examples and of laws."""
     modules = {it.stem for it in (top / "crates/nvme_spec/specs").glob("*.antt")}
     for document in found:
         if document.path != CONTRACTS:
@@ -216,7 +216,7 @@ def check_timeline(top: Path) -> Iterator[Finding]:
 
 
 def check_picture(top: Path) -> Iterator[Finding]:
-    """The picture has each crate once, above or to the left of what it stands on; and a title and a description."""
+    """The picture has each crate once, above or to the left of what it depends on; and a title and a description."""
     root = xml.parse(top / PICTURE).getroot()
     space = "{http://www.w3.org/2000/svg}"
     if any(root.find(space + it) is None for it in ("title", "desc")):
@@ -226,10 +226,10 @@ def check_picture(top: Path) -> Iterator[Finding]:
         if text.get("class") == "crate":
             name = text.text or ""
             if name in places or name not in crates(top):
-                yield Finding(PICTURE, 1, f"{name} stands there twice, or is no crate")
+                yield Finding(PICTURE, 1, f"{name} is there twice, or is no crate")
             place = (int(text.get("y", 0)), int(text.get("x", 0)))
             if place in places.values():
-                yield Finding(PICTURE, 1, f"{name} lies over another crate")
+                yield Finding(PICTURE, 1, f"{name} covers another crate")
             places[name] = place
     for name, below in uses(top):
         if name not in places:
@@ -237,4 +237,4 @@ def check_picture(top: Path) -> Iterator[Finding]:
             continue
         for other in below:
             if other in places and places[other] <= places[name]:
-                yield Finding(PICTURE, 1, f"{name} stands on {other}, which is above it or to its left")
+                yield Finding(PICTURE, 1, f"{name} depends on {other}, which is above it or to its left")

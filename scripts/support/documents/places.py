@@ -19,7 +19,7 @@ BY_CHOICE = re.compile(r"/(?:examples|laws|tests)(?:/|\.rt$)|_examples\.rt$|crat
 
 
 def files_with(top: Path, word: str) -> Iterator[Path]:
-    """The files of code and of definitions that name a word, beside their imports."""
+    """The files of code and of definitions that name a word outside their imports."""
     for part, ending in (("src", "rt"), ("specs", "antt")):
         for path in sorted(top.glob(f"crates/*/{part}/**/*.{ending}")):
             text = IMPORT.sub("", code_of(path.read_text(encoding="utf-8")))
@@ -28,7 +28,7 @@ def files_with(top: Path, word: str) -> Iterator[Path]:
 
 
 def check(top: Path, found: List[Document]) -> Iterator[Finding]:
-    """Each file with a word that is looked for stands in the lists: one may send its reader to another."""
+    """Each file with a word that is looked for is in the lists: one may send its reader to another."""
     document = next(it for it in found if it.path == LISTS)
     sections = [(first, end) for heading, first, end in document.sections() if HEADING.match(heading)]
     named = {word for n, span in document.spans if any(first < n < end for first, end in sections)

@@ -1,7 +1,7 @@
 """What a source does when it runs, of its tokens: the names in it, in which functions they are.
 
-Contracts, ghost members and attributes do nothing then, and are left out. What can't be read is told, so nothing is left
-out because it was written otherwise.
+Contracts, ghost members and attributes do nothing then, and are left out. What can't be read is reported, so nothing is
+left out because it was written otherwise.
 """
 import re
 from dataclasses import dataclass, field
@@ -29,7 +29,7 @@ class Named:
     """A name that the code uses: how, with what is before it; in which function, of which type; and on which line.
 
     The way is `.name` of a method, `Type::name` of a path, `name!` of a macro, `name(` of a call by one name, `name()`
-    of a name that stands alone, as a function does that is handed on, and `Type{` of a value that is taken apart."""
+    of a name that is alone, as a function does that is handed on, and `Type{` of a value that is taken apart."""
     key: str
     function: str
     line: int
@@ -63,7 +63,7 @@ def is_at(found: List[Token], at: int, sign: str) -> bool:
 
 
 def behind_braces(found: List[Token], at: int) -> Optional[int]:
-    """The place behind the braces here and those of a `by`, or nothing where there are none."""
+    """The place after the braces here and those of a `by`, or nothing where there are none."""
     if not is_at(found, at, "{"):
         return None
     at = closing(found, at) + 1
@@ -73,7 +73,7 @@ def behind_braces(found: List[Token], at: int) -> Optional[int]:
 
 
 def behind_ghost(found: List[Token], at: int) -> Optional[int]:
-    """The place behind a clause or what is ghost, or nothing where it has no form of these."""
+    """The place after a clause or what is ghost, or nothing where it has no form of these."""
     word, at = found[at].text, at + 1
     if word == "ghost" and found[at].is_name("use"):
         while at < len(found) and not found[at].is_sign(";"):
@@ -120,7 +120,7 @@ def read(text: str) -> Source:
 
 
 def unclear(found: List[Token], is_ghost: bool) -> Iterator[Tuple[str, int]]:
-    """What the toolchain might read otherwise than this does, so that code could hide behind it."""
+    """What the toolchain might read otherwise than this does, so that code could hide after it."""
     for it, after in zip(found, [*found[1:], Token("sign", "", 0)]):
         if is_ghost and it.is_sign("-") and after.is_sign("-"):
             yield "two hyphens in what is ghost, which may begin a comment", it.line
@@ -167,7 +167,7 @@ def outside_angles(code: List[Token]) -> List[Token]:
 
 
 def is_item(code: List[Token], at: int, word: str) -> bool:
-    """Whether an item begins here with this word, and not the type of a function or of what has a trait."""
+    """Whether an item begins here with this word, rather than the type of a function or of what has a trait."""
     if not code[at].is_name(word):
         return False
     before = code[at - 1] if at else None
@@ -194,7 +194,7 @@ def impls(code: List[Token]) -> Iterator[Tuple[str, str, int]]:
 
 
 def functions(code: List[Token]) -> Iterator[Tuple[int, int, str, bool]]:
-    """Each function: its first and its last place, its name behind that of its type or trait, and whether only its own
+    """Each function: its first and its last place, its name after that of its type or trait, and whether only its own
     crate can call it, since it is neither public nor of a trait."""
     owners: List[Tuple[int, str, bool]] = []
     for at in range(len(code)):
@@ -211,14 +211,14 @@ def functions(code: List[Token]) -> Iterator[Tuple[int, int, str, bool]]:
 
 
 def is_public(code: List[Token], at: int) -> bool:
-    """Whether `pub` is before the function here, and not for its crate alone."""
+    """Whether `pub` without a limit to its crate precedes the function here."""
     while at and (code[at - 1].is_name("const", "unsafe", "extern", "final") or code[at - 1].kind == "text"):
         at -= 1
     return at > 0 and code[at - 1].is_name("pub")
 
 
 def use_places(code: List[Token]) -> Iterator[Tuple[int, int]]:
-    """Where each `use` begins and ends."""
+    """Beginning and end of each `use`."""
     for at, it in enumerate(code):
         if it.is_name("use"):
             yield at, next((n for n in range(at, len(code)) if code[n].is_sign(";")), len(code))

@@ -55,7 +55,7 @@ def theorems(top: Path, document: Document, library: Library) -> Iterator[Tuple[
 
 
 def order_of(top: Path, cone: Dict[Key, Definition], library: Library) -> List[str]:
-    """The modules of a list, each behind those that its definitions are made of; crates lowest first where that is all
+    """The modules of a list, each after those that its definitions are made of; crates lowest first where that is all
     the same."""
     rank = {name: at for at, name in enumerate(crates(top))}
     below: Dict[str, Set[str]] = {key[0]: set() for key in cone}

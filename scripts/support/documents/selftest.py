@@ -86,9 +86,16 @@ CHANGED = (
     # A word that has a better form; wording.py has a sentence for each.
     ("bench/FIGURES.md", "the gate does not measure them", "the gate\ndoes not look behind them",
      "FIGURES.md:4: 'behind': write after"),
-    (PICTURE, ">nvme_ring<", ">nvme_rings<", "nvme_rings stands there twice, or is no crate"),
+    # Comments of each language: a docstring, whole lines of a script, of Rust and of C.
+    ("clients/python/nvmesim/looks.py", "The next word, after its label", "The next word, behind its label",
+     "looks.py:140: 'behind': write after"),
+    ("scripts/closed-streams", "# ", "# It stands\n# on others. ", "closed-streams:2: 'stands': write is"),
+    ("clients/nvme-tcp/src/output.rs", "/// Number of bytes sent.", "/// So many bytes were sent.",
+     "output.rs:22: 'So many': write the quantity's name"),
+    ("clients/c/nvmesim.h", "Borrowed bytes are yours again", "Lent bytes are yours again", "'Lent': write borrowed"),
+    (PICTURE, ">nvme_ring<", ">nvme_rings<", "nvme_rings is there twice, or is no crate"),
     (PICTURE, 'x="438" y="120">controller_tests', 'x="316" y="120">controller_tests',
-     "controller_tests lies over another crate"),
+     "controller_tests covers another crate"),
     ("man/nvmesim.1", "\nfetch C Q\n", "\nfetch C\n", "no line fetch C Q"),
     ("man/nvmelive.1", "\n?queues C\n", "\n?queue C\n", "no line ?queues C"),
     ("nvmesim", "print the path of the program", "show the path of the program", "man/nvmesim.1:1: its options are not"),

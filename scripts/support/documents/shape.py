@@ -11,8 +11,8 @@ MOST_BODY = 39
 MOST_PARAMETERS = 6
 SUFFIXES = ("*.rt", "*.py", "*.c", "*.h", "*.rs")
 FOLDERS = ("crates", "clients", "scripts", "bench")
-# Files that have more lines, and functions whose bodies have, or that have more parameters: so many, and why. These lists
-# only become shorter, and their numbers smaller.
+# Files that have more lines, and functions whose bodies have, or that have more parameters: their numbers, and why.
+# These lists only become shorter, and their numbers smaller.
 LONG_FILES: Dict[str, Tuple[int, str]] = {}
 TABLE = "a table, of a line or two for each case"
 LONG_BODIES: Dict[Tuple[str, str], Tuple[int, str]] = {
@@ -64,7 +64,7 @@ def parameters_of(head: str) -> int:
 
 
 def end_of_name(head: str) -> int:
-    """Where the name of a function ends, and the types that it is generic in."""
+    """The end of a function's name and of its generic parameters."""
     at, depth = NAME.search(head).end(), 0
     while head[at] == "<" or depth:
         depth += (head[at] == "<") - (head[at] == ">")

@@ -20,7 +20,7 @@ from support.documents.tokens import Token, closing
 
 # Crates that are tests or measurements.
 TESTS = re.compile(r".*_(?:tests|bench|examples|refusals)$")
-# Methods of lists, texts and files that take memory. The repository may have one of the same name, and no token tells
+# Methods of lists, texts and files that take memory. The repository may have one of the same name, and no token reports
 # which of them is called.
 TAKING = set("""append clone clone_from collect concat create default drain entry extend extend_from_slice
     extend_from_within extend_one from_iter get_or_insert_with insert insert_str into_owned join lines make_mut open
@@ -44,7 +44,7 @@ class Owned:
     items: Set[str] = field(default_factory=set)
     types: Set[str] = field(default_factory=set)
     traits: Set[str] = field(default_factory=set)
-    # Of each crate those that it stands on, and what they stand on.
+    # Of each crate those that it depends on, and their dependencies.
     below: Dict[str, Set[str]] = field(default_factory=dict)
     # The functions that only their own crate can call, by their files.
     hidden: Set[Tuple[str, str]] = field(default_factory=set)
@@ -143,7 +143,7 @@ def compared(path: str, source: Source, owned: Owned, given: Lists) -> Iterator[
 
 
 def lacking_rows(top: Path) -> Iterator[str]:
-    """The rows as they would have to be, of each function whose row is not so: the kind and the reason are to be given."""
+    """The missing rows, of each function whose row is not so; add the kind and the reason."""
     given, found = lists(), sources(top)
     owned = owned_by(top, found)
     for path, source in found.items():
@@ -201,7 +201,7 @@ def forms(path: str, source: Source, owned: Owned, given: Lists) -> Iterator[Fin
             yield Finding(path, it.line, f"{code[at + 1].text} is a name of another crate")
 
 
-# The rules; those behind the first are for what is no test.
+# The rules; those after the first are for what is no test.
 RULES = (endings, forms, imported, compared)
 
 
@@ -240,4 +240,4 @@ def check(top: Path) -> Iterator[Finding]:
             yield Finding(HERE, row.line, f"{path} is not there")
     for name, others in uses(top):
         for other in () if TESTS.match(name) else filter(TESTS.match, others):
-            yield Finding("crates.txt", 1, f"{name} stands on {other}, which is a test and may take memory")
+            yield Finding("crates.txt", 1, f"{name} depends on {other}, which is a test and may take memory")

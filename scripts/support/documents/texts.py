@@ -55,13 +55,13 @@ class Document:
 
     @cached_property
     def prose(self) -> List[Tuple[int, str]]:
-        """The lines outside fences and indented blocks, with their numbers; what lies between is left out."""
+        """The lines outside fences and indented blocks, with their numbers; what is between is left out."""
         inside = {n for it in self.fences for n in range(it.line, it.line + len(it.lines) + 2)}
         return [(n, line) for n, line in enumerate(self.lines, 1) if n not in inside and not line.startswith("    ")]
 
     @property
     def spans(self) -> Iterator[Tuple[int, str]]:
-        """Each code span of the prose with its line; one may go on in the next line."""
+        """Each code span of the prose with its line; one may continue in the next line."""
         for first, paragraph in self.paragraphs():
             for found in SPAN.finditer(paragraph):
                 yield first + paragraph.count("\n", 0, found.start()), found[1].replace("\n", " ")
@@ -153,8 +153,8 @@ def crates(top: Path) -> List[str]:
 
 
 def uses(top: Path) -> List[Tuple[str, List[str]]]:
-    """Each crate of crates.txt with the names behind it."""
+    """Each crate of crates.txt with the names after it."""
     lines = (top / "crates.txt").read_text(encoding="utf-8").split("\n")
     parts = [line.partition(":") for line in lines if line and not line.startswith("#")]
-    # A name may have its kind behind it, as in `nvme_library staticlib:`.
+    # A name may have its kind after it, as in `nvme_library staticlib:`.
     return [(name.split()[0], rest.split()) for name, _, rest in parts]

@@ -1,6 +1,6 @@
 """The tokens of a source, without its comments.
 
-Texts, characters and lifetimes are tokens of their own, so a word in one is no name. A comment may lie within a comment,
+Texts, characters and lifetimes are tokens of their own, so a word in one is no name. A comment may be within a comment,
 and a text that is raw may have quotation marks. What the checks read of a source are these tokens: neither blanks nor
 comments, nor where a line ends, can hide a name from them.
 """
@@ -42,7 +42,7 @@ class Token(NamedTuple):
 
 
 def behind_comment(text: str, at: int) -> int:
-    """The place behind the comment between stars that begins here: those within it end first."""
+    """The place after the comment between stars that begins here: those within it end first."""
     depth = 0
     for found in BORDER.finditer(text, at):
         depth += 1 if found[0] == "/*" else -1

@@ -1,4 +1,5 @@
-"""Words of the documents that have a better form: private words, and turns of phrase that an engineer stumbles over.
+"""Words of documents and comments that have a better form: private words, and turns of phrase that an engineer stumbles
+over.
 
 A rule has a pattern, the better form, and a sentence that it must find. Text in code spans and fences is exempt.
 """
@@ -7,7 +8,7 @@ from dataclasses import dataclass
 from pathlib import Path
 from typing import Iterator, List, Tuple
 
-from support.documents import manual
+from support.documents import comments, manual
 from support.documents.texts import SPAN, Document, Finding
 
 # The texts that are checked. Add each document once it is rewritten; a manual page may be here too.
@@ -119,11 +120,11 @@ def faults_of(piece: str) -> Iterator[Tuple[int, str]]:
 
 
 def check(top: Path) -> Iterator[Finding]:
-    """The texts that are checked have none of these words."""
-    for path in CHECKED:
-        for first, piece in pieces_of(top, path):
-            for line, what in faults_of(piece):
-                yield Finding(path, first + line, what)
+    """The texts that are checked, and the comments of clients and scripts, have none of these words."""
+    documents = ((path, first, piece) for path in CHECKED for first, piece in pieces_of(top, path))
+    for path, first, piece in (*documents, *comments.pieces(top)):
+        for line, what in faults_of(piece):
+            yield Finding(path, first + line, what)
 
 
 def missed() -> List[str]:

@@ -13,7 +13,7 @@ from typing import Any, Callable, Dict, Iterable, Iterator, List, Optional, Sequ
 
 # The kinds of calls that the library counts, in its order.
 KINDS = ("alloc", "open", "stat", "read", "write", "pread", "pwrite", "sync", "lock")
-# What it counts beside these: the requests for memory since the last read, how often memory was given back, and how
+# What else it counts: the requests for memory since the last read, how often memory was given back, and how
 # often since the last read.
 SINCE_READ, FREED, FREED_SINCE_READ = OTHERS = ("since read", "freed", "freed since read")
 # How many seconds a run may take; it takes a few hundredths.
@@ -29,7 +29,7 @@ class Wrong(Exception):
 
 @dataclass(frozen=True)
 class Plan:
-    """Which calls fail: the one of a kind with a number, from 1, and perhaps all behind it; and how."""
+    """Which calls fail: the one of a kind with a number, from 1, and perhaps all after it; and how."""
     kind: str
     at: int
     how: str
@@ -70,7 +70,7 @@ class Bench:
         return room
 
     def orders(self, room: Path, plan: Optional[Plan], image: str = "image") -> Dict[str, str]:
-        """What the environment of a run has beside the caller's: without a plan and a lie nothing."""
+        """The additions to a run's environment: none without a plan and a planted fault."""
         if not plan and not self.lie:
             return {}
         return {"LD_PRELOAD": str(self.library), "FAULTS_LIE": self.lie, "FAULTS_PLAN": str(plan or ""),
@@ -86,11 +86,11 @@ class Bench:
         return subprocess.Popen([str(self.program), *words], cwd=room, env=self.environment(room, plan), **streams)
 
     def live(self) -> Path:
-        """The built nvmelive, which is beside the program or in the folder of its own crate."""
+        """The built nvmelive, which is next to the program or in the folder of its own crate."""
         places = [self.origin.with_name("nvmelive"), self.origin.parents[2] / "nvmelive/out/nvmelive"]
         found = next((it for it in places if it.is_file()), None)
         if not found:
-            raise Wrong(f"there is no nvmelive beside {self.origin}, nor at {places[1]}")
+            raise Wrong(f"there is no nvmelive next to {self.origin}, nor at {places[1]}")
         return found
 
     def run(self, script: bytes, image: Optional[bytes] = None, plan: Optional[Plan] = None,
@@ -108,7 +108,8 @@ class Bench:
         return shown
 
     def finish(self, room: Path, started: subprocess.Popen, lines: Optional[bytes] = None) -> Shown:
-        """Waits for a run, which is given these lines by a pipe if there are any, and gathers what it showed and left."""
+        """Waits for a run, which is given these lines by a pipe if there are any, and gathers what it showed and
+        left."""
         try:
             output, errors = started.communicate(lines, timeout=WITHIN)
         except subprocess.TimeoutExpired:
@@ -170,17 +171,17 @@ def clip(bytes_shown: Optional[bytes]) -> str:
 
 
 def difference(found: Optional[bytes], wanted: Optional[bytes]) -> str:
-    """Where bytes differ from those that are wanted, for a message."""
+    """The first difference of bytes from the expected ones, for a message."""
     if found is None or wanted is None:
         return f"{clip(found)}, and not {clip(wanted)}"
     at = next((i for i, (a, b) in enumerate(zip(found, wanted)) if a != b), min(len(found), len(wanted)))
     start = max(0, at - 60)
-    return (f"{len(found)} bytes where {len(wanted)} are wanted, and from byte {at} on not the same: .."
+    return (f"{len(found)} bytes instead of {len(wanted)}, and from byte {at} on not the same: .."
             f"{clip(found[start:at + 60])}, and not ..{clip(wanted[start:at + 60])}")
 
 
 def tells(errors: bytes, text: bytes) -> bool:
-    """Whether standard error is a text of one line, or none, and at most a line with the reason behind it."""
+    """Whether standard error is a text of one line, or none, and at most a line with the reason after it."""
     if errors == text or not text:
         return errors == text
     return errors.startswith(text) and REASON.fullmatch(errors[len(text):]) is not None

@@ -1,7 +1,7 @@
 """Each request for memory refused in turn to a program that makes each call which takes memory.
 
 Its calls say themselves whether all is as it was where they are refused: a medium that is handed back, events that have
-not happened, and a run that goes on behind the replies that it added. An image is opened without a request of the
+not happened, and a run that continues after the replies that it added. An image is opened without a request of the
 program's own; there the system has no memory.
 """
 import os

@@ -26,7 +26,7 @@ GROUPS: Dict[str, Dict[str, Check]] = {
     "mounts": mounts.CHECKS, "cuts": cuts.CHECKS, "killed": killed.CHECKS, "moments": moments.CHECKS,
 }
 # What the program is made to do wrong in the self-test, and the checks that must not let it pass, group by group;
-# refuse.c says what each lie is.
+# refuse.c describes each planted fault.
 LIES: Dict[str, Dict[str, str]] = {
     "unharmed": {"memory": "turns onward", "calls": "each", "device": "reads writes syncs onward unkept",
                  "commands": "blocks raw", "script": "reads", "transcript": "writes", "files": "opening",
@@ -82,7 +82,7 @@ def try_groups(bench: Bench, top: Path, names: List[str]) -> int:
 
 
 def is_found(bench: Bench, top: Path, name: str, check: Check) -> bool:
-    """Whether a check finds the lie of its bench."""
+    """Whether a check finds the planted fault of its bench."""
     try:
         check(bench, top)
     except Wrong as wrong:
@@ -93,7 +93,8 @@ def is_found(bench: Bench, top: Path, name: str, check: Check) -> bool:
 
 
 def self_test(folder: Path, program: Path, top: Path, names: List[str]) -> int:
-    """The status of the self-test: each lie must be found by each check that can see it, and each check finds one."""
+    """The status of the self-test: each planted fault must be found by each check that can see it, and each check finds
+    one."""
     missed, seen = 0, set()
     for lie, groups in LIES.items():
         bench = Bench(folder, program, lie)
@@ -103,10 +104,10 @@ def self_test(folder: Path, program: Path, top: Path, names: List[str]) -> int:
                 missed += not is_found(bench, top, f"{group} {name}", GROUPS[group][name])
     for group, name in ((group, name) for group in names for name in GROUPS[group]):
         if (group, name) not in seen:
-            print(f"faults: {group} {name}: no lie tries it", file=sys.stderr)
+            print(f"faults: {group} {name}: no planted fault tries it", file=sys.stderr)
             missed += 1
     print(f"faults: self-test: {missed} not as they must be" if missed else
-          f"faults: self-test: each lie was found, and each of {len(seen)} checks found one")
+          f"faults: self-test: each planted fault was found, and each of {len(seen)} checks found one")
     return 1 if missed else 0
 
 

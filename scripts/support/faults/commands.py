@@ -18,7 +18,7 @@ CASES: Tuple[Tuple[str, str, Tuple[str, ...]], ...] = (
     ("flush 1 1", "sync", ("2:80 0", "0:00 0")),
 )
 # A raw host makes an I/O queue, fills 1,536 bytes at 5000h, has three blocks from block 0 on read there, and then has
-# these bytes written to blocks 8 to 10: so the image tells what stood in its memory.
+# these bytes written to blocks 8 to 10: so the image reports what was in its memory.
 RAW = """write32 1 0x24 0x1f0007
 write32 1 0x30 0x1000
 write32 1 0x14 0x460001
@@ -55,7 +55,7 @@ def executed(output: bytes) -> List[str]:
 
 
 def left_by(request: str, before: bytes, failing: int) -> bytes:
-    """The image behind a command: the blocks before the one whose write fails are written, and no others."""
+    """The image after a command: the blocks before the one whose write fails are written, and no others."""
     if not request.startswith(("write", "zeroes")):
         return before
     new = bytes.fromhex(NEW) if request.startswith("write") else bytes(1536)
@@ -90,7 +90,7 @@ def try_raw(bench: Bench, top: Path) -> str:
         must_be(what, shown, 0, None, b"", before[:4096] + memory + before[5632:])
         if executed(shown.output) != ["0:00 0", "0:00 0", read, "0:00 0"]:
             raise Wrong(f"{what}: the executions posted {executed(shown.output)}")
-    return "host memory behind a Read that failed: 4 runs, as it must be"
+    return "host memory after a Read that failed: 4 runs, as it must be"
 
 
 def try_commands(bench: Bench, top: Path) -> str:

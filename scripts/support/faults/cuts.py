@@ -9,7 +9,7 @@ from support.faults.model import pattern
 
 LONGEST = 4194304
 NUMBER = r"(\d+|0x[0-9a-f]+)"
-# The lines of the example, by the grammar; what stands behind `start` prints a line.
+# The lines of the example, by the grammar; what is after `start` prints a line.
 DESCRIBING = re.compile(rf"controller( {NUMBER}){{1}} host {NUMBER}( raw)?|namespace {NUMBER} blocks {NUMBER} "
                         rf"(shared|private)|attached {NUMBER} {NUMBER}|start")
 EVENT = re.compile(rf"(up|ring|poll) {NUMBER}|(fetch|execute) {NUMBER} {NUMBER}|read( {NUMBER}){{4}}|"
@@ -31,7 +31,7 @@ def events_in(text: str) -> Optional[int]:
 
 
 def image_behind(before: bytes, lines: bytes) -> bytes:
-    """The image behind these lines: the example's first execution writes `Hello` to block 0, and its fourth fills
+    """The image after these lines: the example's first execution writes `Hello` to block 0, and its fourth fills
     blocks 0 and 1 with zeros."""
     executed = sum(line.startswith(b"execute") for line in lines.splitlines())
     if executed == 0:

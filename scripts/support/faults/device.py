@@ -1,8 +1,8 @@
 """Each call on the image failing in turn: with an error, with nothing moved, with a part moved, and from one call on.
 
-What a script must come to is computed, call by call: a call that fails is told by its own command, 2:80 or 2:81, and
-by no other line but those of commands that read a block whose write was lost; the exit status is 0; the image has what
-those events leave; and no other call is made of it. A Read that goes on after its fault shows in its calls
+What a script must come to is computed, call by call: a call that fails is reported by its own command, 2:80 or 2:81,
+and by no other line but those of commands that read a block whose write was lost; the exit status is 0; the image has
+what those events leave; and no other call is made of it. A Read that continues after its fault shows in its calls
 alone, since nobody sees the blocks that it reads. A call that moves fewer bytes is followed by one for the rest, and
 nobody notices.
 """
@@ -40,7 +40,7 @@ def beyond_the_cache() -> List[Command]:
 
 
 def places(commands: List[Command], before: bytes, hows: dict, is_onward: bool) -> Iterator[Tuple[str, int, str, bool]]:
-    """Each call that the commands make, in each way; and behind the last of a kind one that must not be made."""
+    """Each call that the commands make, in each way; and after the last of a kind one that must not be made."""
     counts = told_of(commands, Disk(before)).disk.counts
     for kind, ways in hows.items():
         for how in ways:
@@ -54,11 +54,11 @@ def try_place(bench: Bench, commands: List[Command], before: bytes, place: Tuple
     kind, at, how, is_onward = place
     blocks = len(before) // 512
     told: Told = told_of(commands, Disk(before, kind, at, how, is_onward))
-    what = f"{NAMES[kind]} {at}{' and all behind it' if is_onward else ''} of the image: {how}"
+    what = f"{NAMES[kind]} {at}{' and all after it' if is_onward else ''} of the image: {how}"
     shown = bench.run(script_of(commands, blocks), before, plan(kind, at, how, is_onward))
     must_be(what, shown, 0, told.transcript(), b"", told.image())
     if shown.image[512 * blocks:] != before[512 * blocks:]:
-        raise Wrong(f"{what}: what stands behind the last block was changed")
+        raise Wrong(f"{what}: bytes after the last block were changed")
     made = {it: shown.counts[it] for it in NAMES}
     wanted = {it: told.disk.counts[it] for it in NAMES}
     if (kind, how) not in UNNOTICED and made != wanted:

@@ -16,7 +16,7 @@ NOBODY = 65534
 
 
 def try_sizes(bench: Bench) -> None:
-    """An image of 5,000 bytes has nine blocks, and what stands behind them stays."""
+    """An image of 5,000 bytes has nine blocks, and what is after them stays."""
     before = pattern(9, 9, 392)
     commands = [Command("write", 8, 1, b"the last block"), Command("read", 7, 2)]
     shown = bench.run(script_of(commands, 10), before)
@@ -30,7 +30,7 @@ def try_sizes(bench: Bench) -> None:
 
 def run_meeting(bench: Bench, script: bytes, before: bytes, change: Callable[[Path], None]) -> Shown:
     """A run whose image is changed by someone else once the program has opened it, and before it reads its script: the
-    script comes through a pipe with a name, which is opened behind the image."""
+    script comes through a pipe with a name, which is opened after the image."""
     room = bench.room()
     (room / "image").write_bytes(before)
     os.mkfifo(room / "script")
@@ -59,7 +59,7 @@ def try_shortened(bench: Bench) -> None:
 
 
 def try_removed(bench: Bench) -> None:
-    """Someone else removes the image, or puts another in its place: the program goes on with the one it opened."""
+    """Someone else removes the image, or puts another in its place: the program continues with the one it opened."""
     before, other = pattern(11, 4), pattern(12, 4)
     commands = [Command("write", 1, 1, b"gone"), Command("read", 0, 2)]
     told = told_of(commands, Disk(before))
@@ -158,7 +158,7 @@ def try_opening(bench: Bench) -> int:
 
 
 def try_limit(bench: Bench) -> None:
-    """A limit on how long files may be. With its signal ignored, writes behind it fail like those to a full disk; else
+    """A limit on how long files may be. With its signal ignored, writes after it fail like those to a full disk; else
     the signal stops the program at the first of them."""
     before = pattern(16, 8)
     commands = [Command("write", 1, 1, b"within"), Command("write", 3, 3, b"two of three" * 60), Command("read", 0, 8)]

@@ -40,7 +40,7 @@ def try_held(bench: Bench, top: Path) -> str:
             must_be("a second program over an image", shown, 2, b"", FAULT, before)
             reason = b"nvmesim: 'image' is in use: process %d (nvmesim) holds its lock; --wait waits for it\n" % first.pid
             if shown.errors != FAULT + reason:
-                raise Wrong(f"a second program over an image: it tells {shown.errors!r}, and not {reason!r}")
+                raise Wrong(f"a second program over an image: it prints {shown.errors!r} instead of {reason!r}")
             if is_killed:
                 first.kill()
             else:
@@ -63,7 +63,7 @@ def try_refused(bench: Bench, top: Path) -> str:
         shown = bench.run(script_of(COMMANDS, 4), before, plan("lock", 1, how))
         must_be(f"a lock that fails with {how}", shown, status, b"", None, before)
         if shown.errors != errors or shown.hits != 1:
-            raise Wrong(f"a lock that fails with {how}: {shown.hits} calls failed; it tells {shown.errors!r}, and not "
+            raise Wrong(f"a lock that fails with {how}: {shown.hits} calls failed; it prints {shown.errors!r} instead of "
                         f"{errors!r}")
     return "a lock that the system refuses: 3 runs, as they must be"
 

@@ -1,7 +1,7 @@
 """Each request for memory refused in turn, in a run over zeros in memory and in one over an image.
 
 What is refused before the first event ends the program: status 4, one line on standard error, no transcript, and the
-image as it was. Behind the first event only the cache of an image asks for memory, and its refusal changes nothing.
+image as it was. After the first event only the cache of an image asks for memory, and its refusal changes nothing.
 """
 from dataclasses import dataclass
 from pathlib import Path
@@ -26,7 +26,7 @@ class Case:
 
 
 def is_refused(case: Case, what: str, shown: Shown) -> bool:
-    """Whether a run ended before its first event for want of memory; it must have, or be whole."""
+    """Whether a run ended before its first event without memory; it must have, or be whole."""
     if shown.status == 0:
         must_be(what, shown, 0, case.transcript, b"", case.after)
         return False
@@ -38,11 +38,11 @@ def refuse_each(bench: Bench, case: Case, is_onward: bool) -> str:
     """Refuses each request of a run in turn, or from one on, until none is refused."""
     ended = 0
     for number in range(1, MOST):
-        what = f"{case.name}, memory refused at request {number}{' and behind' if is_onward else ''}"
+        what = f"{case.name}, memory refused at request {number}{' and after' if is_onward else ''}"
         shown = bench.run(case.script, case.before, plan("alloc", number, "ENOMEM", is_onward))
         refused = is_refused(case, what, shown)
         if refused and ended != number - 1:
-            raise Wrong(f"{what}: refused behind one that was not")
+            raise Wrong(f"{what}: refused after one that was not")
         ended += refused
         if shown.hits == 0:
             return tally(case, number - 1, ended)
@@ -52,7 +52,7 @@ def refuse_each(bench: Bench, case: Case, is_onward: bool) -> str:
 
 
 def tally(case: Case, requests: int, ended: int) -> str:
-    """How many requests were refused, of which so many ended the run."""
+    """The number of refused requests, of which `ended` ended the run."""
     if ended < 5:
         raise Wrong(f"{case.name}: {ended} requests for memory ended the run, which is too few")
     if case.before is not None and requests == ended:

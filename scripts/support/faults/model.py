@@ -1,8 +1,8 @@
 """What scripts of one host answer over an image whose calls fail, as the documents promise it.
 
-A script's commands go through the driver one after the other, each in five events. The image is blocks behind a cache
+A script's commands go through the driver one after the other, each in five events. The image is blocks after a cache
 of the 256 that were used last; a transfer makes one call a block that is not kept, in rising order, and stops at the
-first that fails; and what stands behind the last whole block stays.
+first that fails; and what is after the last whole block stays.
 """
 from collections import Counter, OrderedDict
 from dataclasses import dataclass
@@ -12,7 +12,7 @@ from support.faults.bench import Plan
 
 BLOCK = 512
 KEPT = 256
-# A sync that a signal interrupts is made again, and a transfer of fewer bytes goes on: nobody notices either.
+# A sync that a signal interrupts is made again, and a transfer of fewer bytes continues: nobody notices either.
 UNNOTICED = {("sync", "EINTR"), ("pread", "fewer"), ("pwrite", "fewer")}
 ERRNOS = {"EINTR": "4", "EIO": "5", "EAGAIN": "11", "ENOMEM": "12", "EACCES": "13", "EFBIG": "27", "ENOSPC": "28",
           "EROFS": "30", "EPIPE": "32"}
@@ -28,7 +28,7 @@ class Fault(Exception):
 
 
 class Disk:
-    """An image behind its cache, and the calls that fail."""
+    """An image after its cache, and the calls that fail."""
 
     def __init__(self, image: bytes, kind: str = "", at: int = 0, how: str = "", is_onward: bool = False) -> None:
         self.whole = len(image) // BLOCK
@@ -94,7 +94,7 @@ class Command:
         return f"{self.name} 1 1 {self.first} {self.count}{data}"
 
     def blocks(self) -> List[bytes]:
-        """The data by block, with zeros behind them."""
+        """The data by block, with zeros after them."""
         data = self.data.ljust(BLOCK * self.count, b"\0")
         return [data[BLOCK * j:BLOCK * (j + 1)] for j in range(self.count)]
 
@@ -134,14 +134,14 @@ def lines_of(ticket: int, answer: Tuple[str, int, bytes]) -> List[str]:
 
 
 def script_of(commands: List[Command], blocks: int) -> bytes:
-    """The script of these commands, on a namespace of so many blocks."""
+    """The script of these commands, on a namespace of `blocks` blocks."""
     head = f"controller 1 host 0xa1\nnamespace 1 blocks {blocks} shared\nattached 1 1\nstart\nup 1\n"
     return (head + "".join(f"{it.line()}\nring 1\nfetch 1 1\nexecute 1 0\npoll 1\n" for it in commands)).encode()
 
 
 @dataclass
 class Told:
-    """What a script must come to: its lines, the image that it leaves, and the image behind each command."""
+    """What a script must come to: its lines, the image that it leaves, and the image after each command."""
     lines: List[str]
     disk: Disk
     images: List[bytes]
@@ -155,7 +155,7 @@ class Told:
         return bytes(self.disk.bytes)
 
     def image_behind(self, events: int) -> bytes:
-        """The image after so many events: the driver comes up, and the fourth of each command's five executes it."""
+        """The image after `events` events: the driver comes up, and the fourth of each command's five executes it."""
         return self.images[events // 5]
 
 
@@ -176,8 +176,8 @@ def pattern(seed: int, blocks: int, tail: int = 0) -> bytes:
 
 @dataclass(frozen=True)
 class Flush:
-    """A write of the transcript: the event, counted from 1, in which it is made, or None at the end; and the first event
-    whose line it writes."""
+    """A write of the transcript: the event, counted from 1, in which it is made, or None at the end; and the first
+    event whose line it writes."""
     event: Optional[int]
     first: int
 

@@ -43,7 +43,7 @@ class Case:
 
 
 def prefixes(before: bytes, image: bytes, writes: List[Tuple[int, bytes]]) -> Iterator[int]:
-    """For which counts of first writes the image is what they leave, but for the block of the next."""
+    """For which counts of first writes the image is what they leave, except for the block of the next."""
     now = [before[at:at + BLOCK] for at in range(0, len(before) // BLOCK * BLOCK, BLOCK)]
     wrong = {i for i, block in enumerate(now) if block != image[BLOCK * i:BLOCK * (i + 1)]}
     for count in range(len(writes) + 1):
@@ -63,7 +63,7 @@ def judge(what: str, case: Case, shown: Shown) -> int:
         raise Wrong(f"{what}: what was printed is no beginning of the transcript")
     image, tail = shown.image, len(case.before) // BLOCK * BLOCK
     if len(image) != len(case.before) or image[tail:] != case.before[tail:]:
-        raise Wrong(f"{what}: the image has another length, or other bytes behind its last block")
+        raise Wrong(f"{what}: the image has another length, or other bytes after its last block")
     found = list(prefixes(case.before, image, case.told.disk.writes))
     if not found:
         raise Wrong(f"{what}: the image is not what some first writes leave, with one block half written")
@@ -75,7 +75,7 @@ def judge(what: str, case: Case, shown: Shown) -> int:
 
 
 def one_run(bench: Bench, case: Case, seconds: float = 0) -> Tuple[Shown, float]:
-    """A run with its transcript in a file, killed after so many seconds if any; and what it took."""
+    """A run with its transcript in a file, killed after `seconds` seconds if given; and its time."""
     room = bench.room()
     (room / "script").write_bytes(case.script)
     (room / "image").write_bytes(case.before)

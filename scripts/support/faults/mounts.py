@@ -1,6 +1,6 @@
 """File systems of a run's own: one that can only be read, and one without room.
 
-They are mounted where the machine allows it, in a namespace that nobody else sees and that ends with the run. Where it
+They are mounted where the machine allows it, in a namespace that nobody else sees and that ends with the run. If it
 does not, calls fail as they would there. What is printed says which it was.
 """
 import subprocess

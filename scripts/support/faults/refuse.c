@@ -1,6 +1,6 @@
 // Makes calls of the C library fail in the program that it is loaded into by LD_PRELOAD.
 //
-// FAULTS_PLAN says which: KIND:N:HOW, the N-th call of a kind, from 1, or KIND:N+:HOW, that one and all behind it.
+// FAULTS_PLAN says which: KIND:N:HOW, the N-th call of a kind, from 1, or KIND:N+:HOW, that one and all after it.
 // KIND is alloc (every request for memory), open, stat, read, write (to standard output alone), pread, pwrite, sync or
 // lock.
 // HOW is the number of an errno; `none`, which moves nothing and is no error; `fewer`, a third of the bytes and one at
@@ -11,18 +11,18 @@
 // last read.
 //
 // FAULTS_LIE is for trying the checks themselves: the program then does something that no check may let pass.
-//   unharmed  no call is made to fail, though that is told
-//   lost      the second block written to the image is not written, though the program is told so
+//   unharmed  no call is made to fail, though that is reported
+//   lost      the second block written to the image is not written, though the program sees success
 //   stray     whatever is written to the image, its last byte is changed too
-//   late      the image is written when the program ends, and not before
+//   late      the image is written only when the program ends
 //   garbled   the first byte of the transcript is changed
 //   calm      the program ends with status 0, whatever happened
 //   blurred   the last byte of each text on standard error is changed
 //   bold      a file that can't be opened for reading and writing is opened for reading alone
-//   smooth    what the system refuses to write to the image is told as written
-//   filled    what is read of the image behind its end is told to be zeros
+//   smooth    what the system refuses to write to the image is reported as written
+//   filled    what is read of the image after its end is reported to be zeros
 //   hungry    memory is taken whenever a part of the transcript is written
-//   unlocked  the image is not locked, though the program is told so
+//   unlocked  the image is not locked, though the program sees success
 //
 // It includes nothing and links with nothing, so that a compiler without headers can make it: what it takes of the C
 // library and of Linux on x86-64 is declared here.
@@ -94,14 +94,14 @@ __attribute__((constructor)) static void read_plan(void) {
     is_ready = 1;
 }
 
-// Puts bytes behind those of a file, or in their place.
+// Puts bytes after those of a file, or in their place.
 static void put(const char *path, int where, const void *bytes, size_t length) {
     int fd = syscall(SYS_openat, HERE, path, O_WRONLY | where | O_CREAT | O_CLOEXEC, 0666);
     syscall(SYS_write, fd, bytes, length);
     syscall(SYS_close, fd);
 }
 
-// Whether this call is to fail. It is counted, and a failure is told.
+// Whether this call is to fail. It is counted, and a failure is reported.
 static int fails(enum kind kind) {
     if (!is_ready)
         return 0;
@@ -275,7 +275,7 @@ static ssize_t written(int fd, const void *bytes, size_t length, off_t at) {
     return syscall(SYS_pwrite64, fd, bytes, length, at);
 }
 
-// What the program is told of a write to the image.
+// What a write to the image returns to the program.
 static ssize_t smoothed(ssize_t moved, size_t length) {
     return moved < 0 && lies("smooth") ? (ssize_t)length : moved;
 }

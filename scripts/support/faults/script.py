@@ -25,7 +25,7 @@ def try_reads(bench: Bench, case: Case, how: str, by_stdin: bool) -> int:
         else:
             must_be(what, shown, 2, b"", FAULT, case.before)
         if bool(shown.hits) != (at <= calls):
-            raise Wrong(f"{what}: not made, or made behind the end")
+            raise Wrong(f"{what}: not made, or made after the end")
 
     each(work, range(1, calls + 1 + (how != "fewer")))
     return calls

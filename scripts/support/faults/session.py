@@ -1,7 +1,7 @@
-"""Lines of a session take no memory and give none back: a million of every kind as little as a few.
+"""Lines of a session neither take nor free memory: a million of every kind take as much as a few.
 
-What nvmelive takes and gives back is counted from its beginning to its end, over zeros in memory and over an image. The
-lines come by a pipe: every kind of event, every look, and lines that are refused.
+It counts what nvmelive takes and frees from start to end, over zeros in memory and over an image. The lines come
+through a pipe: every kind of event, every query, and refused lines.
 """
 import shutil
 import subprocess
@@ -13,7 +13,7 @@ from support.faults.model import pattern, plan
 from support.faults.steady import ALL_BLOCKS, ANSWERS, BLOCKS, FEW, LINES, SETUP, all_kinds, answers, round_of_events
 
 WORDS = "crates/live_text/src/looking_word.rt"
-# A tenth of the lines comes in each session, on other blocks.
+# Each session gets a tenth of the lines, on other blocks.
 SESSIONS = 10
 LOOKS = """?window 1 0 64
 ?register 1 0x1c
@@ -29,7 +29,7 @@ LOOKS = """?window 1 0 64
 ?help
 ?help write
 """
-# What is answered with a line that begins with `!`: no line, no such place, a line out of its place.
+# Lines that are answered `!`: unknown, out of range, or on the wrong side of `start`.
 REFUSED = """nonsense
 execute 1
 read 1
@@ -41,19 +41,19 @@ start
 
 
 def round_of_lines(first: int) -> str:
-    """Every kind of line, with the looks amid the events."""
+    """Every kind of line, with the queries between the events."""
     before, between, behind = round_of_events(first).partition("acquire 2 1 2 1")
     return before + LOOKS.format(first) + between + behind + REFUSED
 
 
 def all_looks(top: Path) -> List[str]:
-    """The first words of the lines that look, as the program has them."""
+    """The first words of query lines, from the program's source."""
     text = (top / WORDS).read_text(encoding="utf-8").partition("LOOKING_TEXTS: &str =")[2]
     return text.split('"')[1].split()
 
 
 def session(bench: Bench, text: str, image: Optional[bytes]) -> Shown:
-    """A session that is given these lines."""
+    """Runs a session with these lines."""
     room = bench.room()
     if image is not None:
         (room / "image").write_bytes(image)
@@ -66,7 +66,7 @@ def session(bench: Bench, text: str, image: Optional[bytes]) -> Shown:
 
 
 def counted(bench: Bench, rounds: int, first: int, image: Optional[bytes]) -> Dict[str, int]:
-    """What a session of so many rounds takes and gives back; each must go as the first does."""
+    """The memory that a session of `rounds` rounds takes and frees; each must go as the first does."""
     shown = session(bench, SETUP + rounds * round_of_lines(first), image)
     refused = sum(line.startswith(b"!") for line in shown.output.splitlines())
     if shown.status != 0 or answers(shown) != rounds * ANSWERS or refused != rounds * len(REFUSED.splitlines()):

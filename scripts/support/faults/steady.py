@@ -23,7 +23,7 @@ attached 1 1
 attached 2 1
 start
 """
-# Requests of both hosts, one of them fenced and one aborted; each is carried out by a turn below.
+# Requests of both hosts, one of them fenced and one aborted; each is executed by a turn below.
 PLACED = """register 1 1 0 0 0 0 0xaa
 register 2 1 0 0 0 0 0xbb
 acquire 2 1 0 1 0xbb 0
@@ -85,7 +85,7 @@ def answers(shown: Shown) -> List[str]:
 
 
 def counted(bench: Bench, rounds: int, first: int, image: Optional[bytes]) -> Dict[str, int]:
-    """How many calls a run of so many rounds makes; each must go as the first does."""
+    """The number of calls of a run of `rounds` rounds; each must go as the first does."""
     shown = bench.run((SETUP + rounds * round_of_events(first)).encode(), image, plan("sync", 10 ** 9, "EIO"))
     if shown.status != 0 or answers(shown) != rounds * ANSWERS:
         raise Wrong(f"{rounds} rounds: status {shown.status}, and executions that are not {rounds} times {ANSWERS}")
@@ -93,7 +93,7 @@ def counted(bench: Bench, rounds: int, first: int, image: Optional[bytes]) -> Di
 
 
 def must_be_as_few(what: str, few: Dict[str, int], many: Dict[str, int], rounds: int) -> None:
-    """A run of many rounds takes as much behind its text as one of a few, and gives as much back."""
+    """A run of many rounds takes as much after its text as one of a few, and gives as much back."""
     for name in (SINCE_READ, FREED_SINCE_READ):
         if many[name] != few[name]:
             raise Wrong(f"{what}, {rounds} rounds: {many[name]} {name}, where a run of {FEW} rounds has {few[name]}")
@@ -115,12 +115,12 @@ def try_rounds(bench: Bench, top: Path) -> str:
             rounds = -(-min(MOST, least - lines) // each)
             few, many = counted(bench, FEW, first, image), counted(bench, rounds, first, image)
             if few[SINCE_READ] != nothing + (BLOCKS if image else 0):
-                raise Wrong(f"{what}: {few[SINCE_READ]} requests behind the text of {FEW} rounds, and {nothing} of none")
+                raise Wrong(f"{what}: {few[SINCE_READ]} requests after the text of {FEW} rounds, and {nothing} of none")
             must_be_as_few(what, few, many, rounds)
             lines += rounds * each
             first = (first + BLOCKS) % ALL_BLOCKS
         told.append(f"{what} {few[SINCE_READ]} for {lines} lines, {nothing} for none")
-    return f"requests for memory behind the text: {', '.join(told)}: as they must be"
+    return f"requests for memory after the text: {', '.join(told)}: as they must be"
 
 
 CHECKS: Dict[str, Check] = {"rounds": try_rounds}

@@ -1,6 +1,6 @@
 """Each write of the transcript failing in turn, and readers of it that go away.
 
-Lines go through a buffer of 8,192 bytes. A transcript that can't be written is a file fault behind the event whose line
+Lines go through a buffer of 8,192 bytes. A transcript that can't be written is a file fault after the event whose line
 had the buffer written: the image has what the events up to that one leave, and what was written is a beginning of the
 transcript. The program has no use for SIGPIPE.
 """
@@ -48,7 +48,7 @@ class Case:
 
 
 def is_unnoticed(case: Case, at: int, how: str) -> bool:
-    """Whether a write of the transcript goes on. One that a signal interrupts is made again."""
+    """Whether a write of the transcript continues. One that a signal interrupts is made again."""
     return at > len(case.flushes) or how in ("fewer", "EINTR")
 
 
@@ -57,7 +57,7 @@ def try_writes(bench: Bench, case: Case, how: str, is_onward: bool) -> int:
     calls = len(case.flushes)
 
     def work(at: int) -> None:
-        what = f"write {at} of the transcript{' and all behind it' if is_onward else ''}: {how}"
+        what = f"write {at} of the transcript{' and all after it' if is_onward else ''}: {how}"
         shown = bench.run(case.script, case.before, plan("write", at, how, is_onward))
         if is_unnoticed(case, at, how):
             must_be(what, shown, 0, case.transcript, b"", case.told.image())
@@ -68,7 +68,7 @@ def try_writes(bench: Bench, case: Case, how: str, is_onward: bool) -> int:
         if is_onward and at <= calls and shown.output != case.written_before(at):
             raise Wrong(f"{what}: not what was written before it was printed")
         if bool(shown.hits) != (at <= calls):
-            raise Wrong(f"{what}: not made, or made behind the end")
+            raise Wrong(f"{what}: not made, or made after the end")
 
     each(work, range(1, calls + 1 + (how not in ("fewer", "EINTR"))))
     return calls
@@ -115,11 +115,11 @@ def try_head(bench: Bench, case: Case) -> None:
     started.stderr.close()
     if head.stdout != b"up 1 ok\n" or status != 2 or not tells(errors, FAULT):
         raise Wrong(f"head -n 1 has {head.stdout!r}, and the program ended with status {status} and {errors!r}")
-    # A write of a long line that the reader leaves in its midst is made in part, and its rest goes through the buffer: so
-    # the write that fails may come behind any event from the first write on.
+    # A write of a long line that the reader leaves in its midst is made in part, and its rest goes through the buffer:
+    # so the write that fails may come after any event from the first write on.
     images = {case.told.image_behind(event) for event in range(case.flushes[0].event, len(case.told.lines) + 1)}
     if (room / "image").read_bytes() not in images:
-        raise Wrong("head -n 1: the image is not what the events up to one behind a write of the transcript leave")
+        raise Wrong("head -n 1: the image is not what the events up to one after a write of the transcript leave")
 
 
 def try_transcript(bench: Bench, top: Path) -> str:

@@ -28,7 +28,7 @@ class NotBuilt(Exception):
 
 
 def call(words, folder):
-    """Runs a tool, whose output is the reason where it fails."""
+    """Runs a tool and returns its output, which is the reason if it fails."""
     try:
         ran = subprocess.run(words, cwd=folder, stdin=subprocess.DEVNULL, stdout=subprocess.PIPE,
                              stderr=subprocess.STDOUT, text=True, errors="replace")
@@ -40,8 +40,8 @@ def call(words, folder):
 
 
 def is_built_over_ci(top):
-    """Builds the archive over the libraries that `rt ci` has just built, where they stand; whether it could. Elsewhere
-    `rt lib` takes those that are kept: it would prove all of them again here."""
+    """Builds the archive from the libraries that `rt ci` has just built, if they are there; whether it could. Then `rt
+    lib` would prove all of them again; otherwise it takes kept ones."""
     rt = toolchain.load(top)
     crate = toolchain.crates_of(rt, str(top))[CRATE]
     if not all(map(proving.is_left_by_ci, crate.below())):
@@ -52,7 +52,7 @@ def is_built_over_ci(top):
 
 
 def proved_archive(top):
-    """Proves the crate and builds its archive; nothing is done twice."""
+    """Proves the crate and builds its archive, if that is not done yet."""
     folder = top / "crates" / CRATE
     if not is_built_over_ci(top):
         call(["rt", "lib"], folder)
@@ -60,7 +60,7 @@ def proved_archive(top):
 
 
 def unproved_archive(top):
-    """Where the archive is kept that is built without its proofs."""
+    """The path of the archive that is built without its proofs."""
     return top / "out" / "library" / "libnvmesim-unproved.a"
 
 
@@ -70,14 +70,14 @@ def is_newer(archive, sources):
 
 
 def built_archives(top):
-    """The archives that are built, of whose sources none is newer: the proved one first, if it is there."""
+    """The built archives that are newer than their sources: the proved one first, if it is there."""
     try:
         rt = toolchain.load(top)
     except toolchain.NoToolchain:
         return []
     crate = toolchain.crates_of(rt, str(top))[CRATE]
     newest = max(proving.newest_source(it) for it in [*crate.below(), crate])
-    # The one without its proofs has functions by the header, too.
+    # The unproved archive also depends on the header, and on these scripts.
     makers = [top / "clients/c/nvmesim.h", *Path(__file__).parent.glob("*.py")]
     proved, unproved = Path(crate.folder, "out", f"lib{CRATE}.a"), unproved_archive(top)
     found = [proved] if is_newer(proved, newest) else []
@@ -85,8 +85,7 @@ def built_archives(top):
 
 
 def whole_object(archive, room):
-    """One object of the archive and of what it needs of the toolchain's, in which only the library's calls have names
-    for others."""
+    """One object of the archive and the toolchain's objects that it needs; only the library's calls are exported."""
     heap = Path(toolchain.ask("doc")).parent / "c" / "liblibc_c.a"
     call(["ar", "x", str(archive)], room)
     parts = sorted(str(it) for it in room.glob("*.o"))
@@ -96,12 +95,12 @@ def whole_object(archive, room):
 
 
 def build(top, prefix):
-    """Builds the library and puts it under a folder."""
+    """Builds the proved library and installs it under a folder."""
     put(top, proved_archive(top), prefix)
 
 
 def put(top, archive, prefix):
-    """Puts the library of this archive under a folder."""
+    """Installs the library of this archive under a folder."""
     for part in ("include", "lib/pkgconfig"):
         (prefix / part).mkdir(parents=True, exist_ok=True)
     with tempfile.TemporaryDirectory(prefix="nvmesim-object-") as place:
@@ -122,7 +121,7 @@ def put(top, archive, prefix):
 
 
 def put_examples(top, prefix):
-    """Puts the examples for C, and the crate for Rust with its own, under a folder."""
+    """Installs the examples for C, and the crate for Rust with its examples, under a folder."""
     share, passed = prefix / "share" / "nvmesim", shutil.ignore_patterns("target", "out")
     shutil.copytree(top / "clients/c/examples", share / "examples/c", dirs_exist_ok=True)
     shutil.copytree(top / "clients/rust", share / "rust", ignore=passed, dirs_exist_ok=True)

@@ -1,4 +1,5 @@
-"""Whether nvmesim.h says what the crate nvme_library has: its exports, their parameters, its structs and its numbers."""
+"""Whether nvmesim.h says what the crate nvme_library has: its exports, their parameters, its structs and its
+numbers."""
 import re
 
 # What a parameter or a result of an export is in C.

@@ -1,4 +1,4 @@
-"""Tests the library for C as it stands in a folder, as a program of C that uses it would."""
+"""Tests the library for C as it is in a folder, as a program of C that uses it would."""
 import fcntl
 import os
 import resource
@@ -27,7 +27,7 @@ UNSAFE = 150
 
 
 class Trial:
-    """Tests of the library under a folder; it tells each that fails, and counts them."""
+    """Tests of the library under a folder; it reports each that fails, and counts them."""
 
     def __init__(self, top, room):
         self.top, self.clients, self.room, self.failed = top, top / "clients" / "c", room, 0
@@ -68,7 +68,7 @@ class Trial:
         self.check("what it needs", needed - NEEDED and f"{sorted(needed - NEEDED)}")
 
     def example(self, name, flags, words=()):
-        """An example prints what stands beside it."""
+        """An example prints the file next to it."""
         program = self.room / name
         problem = self.compiled(["cc", *STRICT, self.clients / "examples" / f"{name}.c", "-o", program, *flags])
         if not problem:
@@ -103,7 +103,7 @@ class Trial:
         return text.split() if status == 0 else []
 
     def tests(self, what, flags, before=(), limit=False, count=3):
-        """The tests, compiled with these flags and run behind these words."""
+        """The tests, compiled with these flags and run after these words."""
         program = self.room / "tests"
         problem = self.compiled(["cc", *STRICT, "-g", *flags, f"-I{self.prefix}/include",
                                  *self.sources, self.archive, "-o", program])

@@ -53,7 +53,7 @@ DEFINED = re.compile(r'^define internal (.*@"nvme_library::\w+::(nvmesim_\w+)".*
 # A function that its source has inlined everywhere, and the definition of a function in the module, with its name.
 INLINED = re.compile(r"#\[inline\(always\)\]\s*(?:#\[[^\]]*\]\s*)*(?:pub(?:\([^)]*\))?\s+)?fn (\w+)")
 INTERNAL = re.compile(r'^(define internal [^\n]*?@"([^"]+)"\([^\n]*\)) (#\d+ \{)$', re.M)
-# What stands before the name of an export that C calls by another function.
+# What is before the name of an export that C calls by another function.
 BEHIND = "rattle_"
 # Structures of two words, which Rattle's calls leave in registers as C's do.
 IN_REGISTERS = ("nvmesim_written",)
@@ -171,7 +171,7 @@ def archive(top: Path) -> Path:
             raise NotBuilt(str(error)) from error
         kept = unproved_archive(top)
         kept.parent.mkdir(parents=True, exist_ok=True)
-        # Whoever reads it meanwhile has a whole one.
+        # A concurrent reader has a whole one.
         shutil.copyfile(compiled(kit, room, top), kept.with_suffix(".new"))
         return kept.with_suffix(".new").replace(kept)
 

@@ -16,13 +16,13 @@ SETUP = "controller 1 host 0xa1\nnamespace 1 blocks 64 shared\nattached 1 1\nsta
 
 
 def carried(*requests: str) -> str:
-    """The setup, behind which the driver of controller 1 comes up, and each of these requests is placed, rung, fetched,
-    executed and handed up."""
+    """The setup, after which the driver of controller 1 comes up, and each of these requests is placed, rung, fetched,
+    executed and delivered."""
     return f"{SETUP}up 1\n" + "".join(f"{it}\nring 1\nfetch 1 1\nexecute 1 0\npoll 1\n" for it in requests)
 
 
 def answered(*answers: str) -> str:
-    """What such a script prints, where each request is carried out; of each answer what stands behind its ticket."""
+    """What such a script prints, where each request is executed; of each answer what is after its ticket."""
     lines = (f"placed 1 {ticket}\nrung 1\nfetch 1 1 took\nexecute 1 0 posted {it.split()[0]} 0\npoll 1 {ticket} {it}\n"
              for ticket, it in enumerate(answers, 1))
     return "up 1 ok\n" + "".join(lines)
@@ -49,9 +49,9 @@ class Case:
     output: str = ""
     errors: str = ""
     left: Mapping[str, bytes] = field(default_factory=dict)
-    # Where standard output goes; else it is compared with `output`.
+    # The file of standard output; without it the output is compared with `output`.
     shown_on: Optional[Opened] = None
-    # What is done in the folder before the run, and beside it.
+    # Preparations in the folder before the run, and actions during it.
     before: Optional[Callable[[Path], None]] = None
     beside: Optional[Callable[[Path], None]] = None
     # Whether a file `image` must still take no room on the disk, and have the time of its last change.
@@ -77,7 +77,7 @@ def is_left_alone(image: Path) -> bool:
 
 
 def limiting(limit: Optional[int]) -> Optional[Callable[[], None]]:
-    """What is done before the program starts, so that its writes fail behind the limit and no signal stops it."""
+    """Prepares the program's start, so that its writes fail past the limit and no signal stops it."""
     def set_limit() -> None:
         signal.signal(signal.SIGXFSZ, signal.SIG_IGN)
         resource.setrlimit(resource.RLIMIT_FSIZE, (limit, limit))
@@ -134,7 +134,7 @@ def faults(case: Case, shown: Shown) -> Iterator[str]:
 
 
 def tried(case: Case, program: Path, folder: Path) -> Shown:
-    """Runs a case in a folder that is made for it below this one, and removed behind it."""
+    """Runs a case in a folder that is made for it below this one, and removed after it."""
     room = folder / "room"
     room.mkdir()
     try:

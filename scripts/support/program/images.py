@@ -10,13 +10,13 @@ KEPT = b"\7" * 40000
 
 
 def last_block(blocks: int) -> str:
-    """A block is written at 8 in a namespace of so many blocks."""
+    """A block is written at 8 in a namespace of `blocks` blocks."""
     return (f"controller 1 host 1\nnamespace 1 blocks {blocks} shared\nattached 1 1\nstart\nup 1\n"
             "write 1 1 8 1 fill:5a\nring 1\nfetch 1 1\nexecute 1 0\n")
 
 
 def two_namespaces(private_blocks: int) -> str:
-    """Four controllers, a namespace of 64 blocks, and one of so many behind it."""
+    """Four controllers, a namespace of 64 blocks, and one of `private_blocks` after it."""
     return ("controller 1 host 0xa1\ncontroller 2 host 0xb2\ncontroller 3 host 0xa1\ncontroller 4 host 0xc3\n"
             f"namespace 1 blocks 64 shared\nnamespace 2 blocks {private_blocks} private\n"
             "attached 1 1\nattached 2 1\nattached 3 1\nattached 4 1\nattached 1 2\nstart\n")
@@ -26,7 +26,7 @@ TAIL = b"\7" * 5000
 
 
 def hello_over(blocks: int) -> str:
-    """The program's first script, whose namespace has so many blocks."""
+    """The program's first script, whose namespace has `blocks` blocks."""
     return HELLO.replace("blocks 64", f"blocks {blocks}")
 
 
@@ -38,7 +38,7 @@ DOES_NOT_FIT = ("DoesNotFit", "namespace 2 ends behind the 72 blocks of the medi
 
 def refused(blocks: int, fault: str, reason: str) -> Case:
     """A configuration that is refused over an image."""
-    return Case(f"an image behind a refused namespace of {blocks} blocks", ("image",), two_namespaces(blocks),
+    return Case(f"an image after a refused namespace of {blocks} blocks", ("image",), two_namespaces(blocks),
                 {"image": MARKED}, 1, errors=f"nvmesim: line 12: {fault}\nstandard input:6:1: {reason}\n")
 
 
@@ -54,7 +54,7 @@ def alone(what: str, requests: tuple, answers: tuple, left: bytes = bytes(32768)
     output = answered(*answers)
     for status, rule in (("0:80", 9), ("0:02", 5)):
         output = output.replace(f"posted {status} 0", f"posted {status} {rule}")
-    return Case(f"an old image behind {what}", ("image",), carried(*requests), output=output, left={"image": left},
+    return Case(f"an old image after {what}", ("image",), carried(*requests), output=output, left={"image": left},
                 before=make_old, is_left_alone=is_left_alone)
 
 
@@ -65,7 +65,7 @@ def make_pipe(room: Path) -> None:
 
 
 def cut_and_tell(room: Path) -> None:
-    """Cuts the image to nothing behind its opening and before the script is read: the pipe is opened behind it."""
+    """Cuts the image to nothing after its opening and before the script is read: the pipe is opened after it."""
     with open(room / "script", "w", encoding="ascii") as pipe:
         os.truncate(room / "image", 0)
         pipe.write(carried("read 1 1 0 1", "read 1 1 64 1"))
@@ -73,11 +73,11 @@ def cut_and_tell(room: Path) -> None:
 
 DONE = "0:00 00000000"
 CASES = (
-    Case("an image behind an empty script", ("image",), files={"image": KEPT}),
-    Case("an image behind a script without events", ("image",), SETUP, {"image": KEPT}),
-    Case("an image behind a script whose last line lacks a word", ("image",), CUT_SHORT, {"image": KEPT}, 1,
+    Case("an image after an empty script", ("image",), files={"image": KEPT}),
+    Case("an image after a script without events", ("image",), SETUP, {"image": KEPT}),
+    Case("an image after a script whose last line lacks a word", ("image",), CUT_SHORT, {"image": KEPT}, 1,
          errors="nvmesim: line 10: not understood\nstandard input:10:1: read takes 5 words: read C N SLBA BLOCKS\n"),
-    Case("an image behind a subsystem without controllers", ("image",), "start\nup 1\n", {"image": MARKED},
+    Case("an image after a subsystem without controllers", ("image",), "start\nup 1\n", {"image": MARKED},
          output="nocontroller 1\n"),
     refused(0, "BadSize", "namespace 2 has no blocks"),
     refused(65537, "BadSize", "namespace 2 has 65537 blocks, and 65536 is the most"),
@@ -100,7 +100,7 @@ CASES = (
     alone("writes that are denied", ("write 1 1 64 1 hex:01", "write 1 2 0 1 hex:01"),
           ("0:80 00000000", "0:02 00000000")),
     alone("a Write of zeros", ("write 1 1 63 1 fill:00",), (DONE,), is_left_alone=False),
-    Case("an image that is cut to nothing: Unrecovered Read Error, and ranges go by its first length",
+    Case("an image that is cut to nothing: Unrecovered Read Error, and ranges are checked against its first length",
          ("image", "script"), before=make_pipe, beside=cut_and_tell, left={"image": b""},
          output=answered("2:81 00000000", "0:80 00000000").replace("posted 0:80 0", "posted 0:80 9")),
 )

@@ -33,7 +33,7 @@ SCRIPTS = (
     ("powercycle\nstart", 1, "1: powercycle needs a 'start' before it, and there is none"),
 )
 
-# Lines behind `start`, and their columns with the reasons.
+# Lines after `start`, and their columns with the reasons.
 BEHIND_START = (
     ("wirte 1 1 0 1 fill:00", "1: there is no line 'wirte'; did you mean 'write'?"),
     ("  do 1", "3: there is no line 'do'"),

@@ -1,4 +1,4 @@
-"""Scripts that are carried out, on standard input and over zeros in memory."""
+"""Scripts that are executed, on standard input and over zeros in memory."""
 from support.program.case import HELLO, HELLO_SHOWN, SETUP, Case
 
 CASES = (

@@ -24,7 +24,7 @@ REFUSED = (
     ("attached 1 1\n" * 128, 129, "BadId", "1:1: controller 1 is not configured"),
 )
 
-# Two controllers and two namespaces, and behind them lines that break a rule on identifiers.
+# Two controllers and two namespaces, and after them lines that break a rule on identifiers.
 FOUR_LINES = ("controller 1 host 1\ncontroller 2 host 2\nnamespace 1 blocks 1 shared\n"
               "namespace 2 blocks 1 private\n")
 BAD_IDENTIFIERS = (
@@ -48,7 +48,7 @@ def refused(text: str, number: int, fault: str, reason: str) -> Case:
 
 
 def misnamed(text: str, reason: str) -> Case:
-    """Lines behind those four that are refused for an identifier."""
+    """Lines after those four that are refused for an identifier."""
     return refused(f"{FOUR_LINES}{text}\n", 6 + text.count("\n"), "BadId", reason)
 
 

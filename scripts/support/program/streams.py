@@ -14,7 +14,7 @@ ZEROS = bytes(32768)
 
 
 def full_device(room: Path) -> int:
-    """Where nothing can be written."""
+    """A stream that refuses every write."""
     del room
     return os.open("/dev/full", os.O_WRONLY)
 

@@ -62,7 +62,7 @@ static void other_forms(int fd) {
     free(in);
 }
 
-// A command that fails leaves what is to be read alone.
+// A failed command leaves the buffer unchanged.
 static void failures(int fd) {
     uint8_t *room = room_at(MOST, 0);
     CHECK_IS(on_blocks(fd, READ, 1 << 20, 1, room), OUT_OF_RANGE);
@@ -136,7 +136,7 @@ void try_pointers(void) {
     CHECK_IS(io(fd, COMPARE, 1, 4, 0, 0, sealed, BLOCK), MISCOMPARE);
     CHECK_FAILS(ioctl(fd, NVME_IOCTL_IO_CMD, NULL), EFAULT);
     CHECK_FAILS(io(fd, READ, 1, 0, 0, 255, room, MOST + BLOCK), EINVAL);
-    // More than the data have: they end with a page, and nothing is behind it.
+    // More than the data have: they end with a page, and nothing is after it.
     CHECK_IS(io(fd, READ, 1, 0, 0, 8, room, PAGE), DATA_TRANSFER);
     CHECK_IS(io(fd, READ, 1, 0, 0, 255, room, 3 * PAGE), DATA_TRANSFER);
     CHECK(is_filled(room, MOST, 5));

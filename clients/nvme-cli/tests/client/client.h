@@ -51,7 +51,7 @@ int of_raw(int status);
 int open_device(const char *name);
 void fill(uint8_t *at, size_t length, unsigned seed);
 bool is_filled(const uint8_t *at, size_t length, unsigned seed);
-// Room of this many bytes that begins at an offset of its page, with 64 bytes of A5h behind it.
+// Room of this many bytes that begins at an offset of its page, with 64 bytes of A5h after it.
 uint8_t *room_at(size_t length, size_t offset);
 bool is_guarded(const uint8_t *room, size_t length);
 

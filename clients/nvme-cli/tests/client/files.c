@@ -100,7 +100,7 @@ static void try_sysfs(void) {
     CHECK(!opendir("/sys/class/nvme/nvme5") && errno == ENOENT);
 }
 
-// The devices stand among those of the machine.
+// The devices are among those of the machine.
 static void try_listing(void) {
     DIR *folder = opendir("/dev");
     CHECK(folder);

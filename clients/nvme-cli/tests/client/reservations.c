@@ -1,4 +1,4 @@
-// Two hosts and a reservation: who may write, before and behind a preemption.
+// Two hosts and a reservation: who may write, before and after a preemption.
 #include "client.h"
 
 #include <string.h>

@@ -1,5 +1,5 @@
-// What no request of a driver says: other opcodes, fields without a word, data that are too short. Nothing comes of it.
-// And fields that say nothing to anybody.
+// Commands that no request of a driver expresses: other opcodes, other fields, data that are too short. They change
+// nothing. And fields that every controller ignores.
 #include "client.h"
 
 #include <string.h>
@@ -49,7 +49,7 @@ static void other_fields(int fd, int namespace) {
     }
 }
 
-// Data reach to the end of their last page. A command that needs more is not placed, so that nothing is made up.
+// Data reach to the end of their last page. A command that needs more is refused instead of padded.
 static void short_data(int fd, int namespace) {
     uint8_t *room = room_at(2 * PAGE, 0);
     fill(room, 2 * PAGE, 3);
@@ -63,7 +63,7 @@ static void short_data(int fd, int namespace) {
     CHECK_IS(admin(fd, ATTACHMENT, 1, 0, 0, NULL, PAGE), DATA_TRANSFER);
     CHECK(is_filled(room, 2 * PAGE, 3));
     CHECK_IS(on_blocks(namespace, COMPARE, 0, 16, room), SUCCESS);
-    // What lies behind short data in their page are zeros.
+    // Short data are padded with zeros.
     CHECK_IS(io(namespace, WRITE, 1, 0, 0, 7, room, BLOCK), SUCCESS);
     memset(room + BLOCK, 0, PAGE - BLOCK);
     CHECK_IS(on_blocks(namespace, COMPARE, 0, 16, room), SUCCESS);
@@ -83,7 +83,7 @@ void try_unsaid(void) {
     CHECK_IS(io(namespace, FLUSH, 1, 0, 0, 0, NULL, 0), SUCCESS);
 }
 
-// Fields that no controller looks at may say anything, as nvme-cli has CNTID of Identify be FFFFh.
+// Fields that controllers ignore may have any value: nvme-cli sets CNTID of Identify to FFFFh.
 void try_unread(void) {
     uint8_t *room = room_at(PAGE, 0);
     int fd = open_device("/dev/nvme0"), namespace = open_device("/dev/nvme0n1");

@@ -60,7 +60,7 @@ fn success2(transaction: u16) -> Vec<u8> {
     bytes
 }
 
-/// What a host says of itself, whose challenge to the controller is empty if it has none.
+/// What a host sends. Its challenge to the controller is empty if it has none.
 struct Says<'s> {
     transaction: u16,
     response: &'s [u8],
@@ -86,7 +86,7 @@ impl Says<'_> {
     }
 }
 
-/// The host's side of a challenge: its reply, which wants the controller to prove itself where a challenge is given.
+/// The host's side of a challenge: its reply, which asks the controller to authenticate itself if a challenge is given.
 fn reply_to(message: &[u8], secret: usize, sequence: u32, challenge: &[u8]) -> Vec<u8> {
     let (size, transaction) = (usize::from(message[6]), crate::bytes::u16_at(message, 4));
     let choice = choice(message[8], message[9]);
@@ -204,7 +204,7 @@ fn each_way_succeeds() {
             let peers = both();
             let (mut one, message) = challenged(choice, &peers);
             assert_eq!(message.len(), 16 + hash.size() + group.prime().len());
-            // Without a challenge of its own the host's sequence number says nothing.
+            // Without a challenge of its own the host's sequence number means nothing.
             assert!(take(&mut one, &reply_to(&message, 0, 77, &[]), &peers).is_none());
             assert!(one.proves_next());
             let (told, sent) = give(&mut one);
@@ -266,7 +266,7 @@ fn wrong_replies() {
     assert_eq!(wrong(0, &|it, message| put(it, 48, &message[16..48])), Explanation::Failed);
     assert_eq!(wrong(1, &|it, message| put(it, 48, &message[16..48])), Explanation::Failed);
     assert_eq!(wrong(0, &|it, _| put(it, 12, &[0; 4])), Explanation::IncorrectPayload);
-    // A value with the null group; values that no exchange gives, one byte less, and the controller's own sent back.
+    // A value with the null group; impossible values, one byte less, and the controller's own sent back.
     let with_value = |it: &mut Vec<u8>, value: &[u8]| {
         it.truncate(80);
         put(it, 10, &(value.len() as u16).to_le_bytes());
@@ -428,8 +428,8 @@ impl Random {
     }
 }
 
-/// Whatever a host says: it has proved itself only by a reply with the response, the transaction, the sizes and the
-/// value that are due; nothing panics, and a failure is the end.
+/// A host is authenticated only by a reply with the right response, transaction, sizes and value; nothing panics, and a
+/// failure is final.
 #[test]
 fn mutated_messages() {
     let (peers, mut random, mut proofs) = (both(), Random(0x2024_0513_1207_9af3), 0);

@@ -1,4 +1,4 @@
-"""A device beside the model: the same commands on both, and the first answer that differs."""
+"""A device compared with the model: the same commands on both, and the first answer that differs."""
 from __future__ import annotations
 
 from .device import Abilities, Answer, Commands, Device, DeviceFault

@@ -22,7 +22,7 @@ _FIELDS: Dict[str, Dict[str, Any]] = {
 
 
 def add_arguments(parser: argparse.ArgumentParser) -> None:
-    """What the command takes beside the program."""
+    """The options of the command besides those of the program."""
     parser.description = ("Plays commands at random on a device and on the model, and prints the first difference as a "
                           "script. It writes to the device, so it needs --destroy-data. Exit status: 0 no difference, "
                           "1 one, 2 it can't be compared.")
@@ -111,7 +111,7 @@ def compare(words: argparse.Namespace, judge: Judge, output: Optional[Output] = 
             continue
         if _kind(found) in told:
             continue
-        print(f"scene {number} differs behind {len(found.steps)} commands; it is made shorter", file=sys.stderr)
+        print(f"scene {number} differs after {len(found.steps)} commands; reducing it", file=sys.stderr)
         shortest, is_there = _shortened(judge, found)
         told |= {_kind(found), _kind(shortest)}
         text = "".join(f"{it}\n" for it in judge.script(shortest))
@@ -127,7 +127,7 @@ def compare(words: argparse.Namespace, judge: Judge, output: Optional[Output] = 
 
 
 def _show(text: str) -> None:
-    """Says on a terminal how far it is, in place of what was said before."""
+    """Overwrites the progress line on a terminal."""
     if sys.stderr.isatty():
         print(f"\r{text}\033[K", end="", file=sys.stderr, flush=True)
 

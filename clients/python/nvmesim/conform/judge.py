@@ -34,7 +34,7 @@ class Difference:
 
 
 class Judge:
-    """Devices, each of a host, beside the model.
+    """Devices, each of a host, compared with the model.
 
     Attributes:
         hosts: what the devices say of themselves.
@@ -64,7 +64,7 @@ class Judge:
         return [*found, Step(0, "write", (0, REGION, 0)), Step(0, "write", (blocks - REGION, REGION, 0))]
 
     def ending(self) -> List[Step]:
-        """What is looked at behind each scene: the reservation as it is, and, freed from it, all blocks."""
+        """The state that is compared after each scene: the reservation and, once it is cleared, all blocks."""
         found: List[Step] = []
         if all(it.rtypes for it in self.hosts):
             found = [Step(0, "report"), Step(0, "register", (2, 1, 0, 0, KEYS[0])), Step(0, "release", (1, 0, KEYS[0])),
@@ -92,11 +92,11 @@ class Judge:
         return None
 
     def _submit(self, step: Step, before: Sequence[Step]) -> Answer:
-        """A step on its device. A fault of the system tells which step, and the one before it, which may be why."""
+        """A step on its device. A fault of the system names the step and the one before it, which may be the cause."""
         try:
             return self._devices[step.host].submit(step.command(self._cntlids))
         except DeviceFault as fault:
-            behind = f", behind {before[-1].words}" if before else ""
+            behind = f", after {before[-1].words}" if before else ""
             raise DeviceFault(f"{fault}; it was {step.words}{behind}") from None
 
     def shortened(self, found: Difference) -> Difference:
@@ -109,7 +109,7 @@ class Judge:
             shortest, size = shorter, max(1, size // 2)
 
     def _without_pieces(self, found: Difference, size: int) -> Difference:
-        """The same without each piece of so many steps whose absence leaves a difference."""
+        """The same without those runs of `size` steps that a difference does not need."""
         begin = 0
         while begin < len(found.steps):
             again = self.play(found.steps[:begin] + found.steps[begin + size:])

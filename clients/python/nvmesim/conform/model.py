@@ -18,7 +18,7 @@ class Model:
     """A run of the model. Use it in a `with`.
 
     Attributes:
-        places: how the blocks of the devices lie in it.
+        places: where the blocks of the devices are in it.
     """
 
     def __init__(self, hosts: Sequence[Abilities], program: Optional[PathLike], seconds: float) -> None:

@@ -14,7 +14,7 @@ _Maker = Callable[[random.Random, int], Tuple[int, ...]]
 
 
 def scene(seed: int, hosts: Sequence[Abilities], length: int) -> List[Step]:
-    """So many commands of these hosts, always the same for a seed."""
+    """`length` commands of these hosts, determined by a seed."""
     chance, makers = random.Random(seed), _makers(hosts)
     words = list(makers)
     found: List[Step] = []

@@ -10,7 +10,7 @@ from ..lines import spelled
 from .device import Command
 
 REGION = 16
-"""So many blocks at the beginning of the namespace, and as many at its end, are read and written."""
+"""Number of blocks at the beginning of the namespace, and at its end, that are read and written."""
 REPORT_DWORDS = 256
 
 _OPCODES = {"flush": 0x00, "write": 0x01, "read": 0x02, "compare": 0x05, "zeroes": 0x08, "register": 0x0D,
@@ -71,7 +71,7 @@ class Step:
 
 @dataclass(frozen=True)
 class Places:
-    """How the blocks of a device lie in the model, which has fewer: those at the end stay those at the end."""
+    """Maps blocks of a device to the model, which has fewer: the last blocks stay the last."""
 
     device_blocks: int
     model_blocks: int

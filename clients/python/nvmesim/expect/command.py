@@ -18,7 +18,7 @@ _Refused = Tuple[str, int, str]
 
 
 def add_arguments(parser: argparse.ArgumentParser) -> None:
-    """What the command takes beside the program."""
+    """The options of the command besides those of the program."""
     parser.description = ("Runs scripts, and checks the expectations in their comments: '# expect ANSWER' after an "
                           "event, '# expect-blocks N SLBA COUNT HEX'. Exit status: 0 all hold, 1 one does not, 2 a "
                           "script is refused or could not be run to its end.")

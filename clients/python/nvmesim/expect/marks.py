@@ -1,4 +1,4 @@
-"""Reads the expectations of a script: comments `# expect ..` and `# expect-blocks ..` behind its events.
+"""Reads the expectations of a script: comments `# expect ..` and `# expect-blocks ..` after its events.
 
 They are comments, so every program runs such a script as it is. What nearly is such a comment is refused: a slip must
 not make a test that can't fail.
@@ -17,7 +17,7 @@ from . import patterns
 EXPECT = "expect"
 """The word of a comment that says what the event above it is answered."""
 EXPECT_BLOCKS = "expect-blocks"
-"""The word of a comment that says what blocks have behind the event above it."""
+"""The word of a comment that says what blocks hold after the event above it."""
 
 _COMMENT = re.compile(r"#([ \t]*)(\S*)[ \t\r]*(.*?)[ \t\r]*\Z")
 _SLIPS = ("expected", "expecting", "expectation", "expectations", "expected-blocks")
@@ -25,12 +25,12 @@ _SLIPS = ("expected", "expecting", "expectation", "expectations", "expected-bloc
 
 @dataclass(frozen=True)
 class AnswerExpected:
-    """What an event must be answered.
+    """An answer that an event must have.
 
     Attributes:
         line: the comment's line, from 1.
         text: the comment.
-        event: the number of the event that it stands behind, from 1.
+        event: the number of the event that it is after, from 1.
         words: the answer's words, `*` among them.
     """
 
@@ -56,7 +56,7 @@ class BlocksExpected:
     Attributes:
         line: the comment's line, from 1.
         text: the comment.
-        event: the number of the event that it stands behind; 0 where it stands before all.
+        event: the number of the event that it is after; 0 where it is before all.
         nsid, slba, count: the namespace, the first block, and how many, 1 to 256.
         data: the bytes of all of them.
     """
@@ -99,13 +99,13 @@ def read_test(name: str, text: str) -> ScriptTest:
         is_started = is_started or line.kind is LineKind.START
         word, rest = _mark_of(line)
         if word == EXPECT_BLOCKS and not is_started:
-            raise ScriptError(line.number, f"{line.text!r} stands before start")
+            raise ScriptError(line.number, f"{line.text!r} is before start")
         if word == EXPECT_BLOCKS:
             found.append(_blocks_expected(line, rest, events))
         elif word == EXPECT:
             found.append(_answer_expected(line, rest, events, last))
     if not found:
-        raise ScriptError(0, "the script has no expectation: a comment '# expect ANSWER' behind an event, or "
+        raise ScriptError(0, "the script has no expectation: a comment '# expect ANSWER' after an event, or "
                              "'# expect-blocks N SLBA COUNT HEX'")
     return ScriptTest(name, text, lines, tuple(found))
 
@@ -127,7 +127,7 @@ def _nearest(text: str) -> Optional[str]:
 
 
 def _mark_of(line: ScriptLine) -> Tuple[str, Tuple[str, ...]]:
-    """The word of an expectation and the words behind it; an empty word for another line."""
+    """The word of an expectation and the words after it; an empty word for another line."""
     near = _nearest(line.text) if line.kind is LineKind.COMMENT else None
     if near is None:
         return "", ()
@@ -140,7 +140,7 @@ def _mark_of(line: ScriptLine) -> Tuple[str, Tuple[str, ...]]:
 
 def _answer_expected(line: ScriptLine, words: Sequence[str], events: int, last: Optional[ScriptLine]) -> AnswerExpected:
     if last is None:
-        raise ScriptError(line.number, f"{line.text!r} stands behind no event")
+        raise ScriptError(line.number, f"{line.text!r} follows no event")
     if not words:
         raise ScriptError(line.number, "'# expect' names no answer: '# expect ANSWER'")
     if words[0] == "blocks":
@@ -173,7 +173,7 @@ def _blocks_expected(line: ScriptLine, words: Sequence[str], events: int) -> Blo
 
 
 def _is_near(word: str, wanted: str) -> bool:
-    """Whether one letter of a word is wrong, missing or too many, or two that stand together are exchanged."""
+    """Whether one letter of a word is wrong, missing or surplus, or two neighbours are exchanged."""
     if abs(len(word) - len(wanted)) > 1 or word == wanted:
         return False
     same = next((n for n, (one, two) in enumerate(zip(word, wanted)) if one != two), min(len(word), len(wanted)))

@@ -12,11 +12,11 @@ from ..history import check_fits
 from ..script import ScriptLine
 
 ANY = "*"
-"""Stands for any words of an answer."""
+"""Matches any words of an answer."""
 
 _MISSES = ("nocontroller", "nodriver", "notraw")
 _PLACED = ("placed", "refused", *(it.value for it in Refusal))
-# The words that answers of a line have beside numbers, statuses and data.
+# The words that answers of a line have besides numbers, statuses and data.
 _WORDS: Dict[str, Tuple[str, ...]] = {
     "up": ("up", *(it.value for it in UpOutcome)), "ring": ("rung", "NotUp"), "fetch": ("fetch", "took", "idle"),
     "execute": ("execute", "posted", "none", "full"), "reset": ("reset",), "store": ("stored", "outside"),
@@ -54,7 +54,7 @@ def check_pattern(line: ScriptLine, words: Sequence[str]) -> None:
 
 
 def holds(words: Sequence[str], answer: str) -> bool:
-    """Whether an answer is as expected. With a `*` in it, which stands for any words or none, more may follow."""
+    """Whether an answer is as expected. A `*` in it matches any words or none, and then more words may follow."""
     if ANY not in words:
         return parse_answer(" ".join(words)) == parse_answer(answer)
     return _begins(tuple(words), tuple(answer.split(" ")))
@@ -76,7 +76,7 @@ def _check_parts(line: ScriptLine, words: Sequence[str]) -> None:
     known = _known(line)
     for before, word in zip(("", *words), words):
         if before == ANY and _NUMBER.match(word):
-            raise NeverAnswered(f"the number {word} behind a '*' can be any number of the answer: "
+            raise NeverAnswered(f"the number {word} after a '*' can be any number of the answer: "
                                 "say the word before it too")
         if word != ANY and not _is_word(line, word, known):
             raise NeverAnswered(f"no answer of {line.text!r} has the word {word!r}{_hint(line, word)}")
@@ -107,7 +107,7 @@ def _heads(line: ScriptLine) -> Tuple[str, ...]:
 
 
 def _own_numbers(line: ScriptLine) -> Tuple[str, ...]:
-    """The numbers of a line that stand in each answer of it."""
+    """The numbers of a line that are in each answer of it."""
     count = 0 if line.is_power_cycle else 2 if line.verb in ("fetch", "execute") else 1
     return tuple(map(str, line.numbers()[:count]))
 

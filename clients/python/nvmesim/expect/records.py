@@ -1,4 +1,4 @@
-"""What became of tests as JSON lines: an object for each event, expectation and request without an answer."""
+"""Results of tests as JSON lines: an object for each event, expectation and unanswered request."""
 from __future__ import annotations
 
 import json
@@ -14,14 +14,15 @@ Record = Dict[str, Any]
 
 
 def trial_records(trial: Trial) -> Iterator[str]:
-    """The lines about one test: its events and expectations as they stand in the script, then what is left."""
+    """The lines of one test: its events and expectations in the order of the script, unanswered requests, and the
+    end."""
     judged = list(trial.judged)
     for record in _in_order(trial, judged):
         yield json.dumps({"script": trial.test.name, **record})
 
 
 def refused_record(name: str, line: int, why: str) -> str:
-    """The line about a file that is no test."""
+    """The line of a file that is no test."""
     return json.dumps({"script": name, "kind": "refused", "line": line or None, "why": why})
 
 
@@ -60,7 +61,7 @@ def _event_record(trial: Trial, event: Event) -> Record:
 
 
 def _request(trial: Trial, command: Command) -> Optional[Record]:
-    """The request of a driver that a command is; None for a raw host's command."""
+    """A command as a driver's request; None for a raw host's command."""
     if command.ticket is None:
         return None
     return {"ticket": command.ticket, "line": line_of(trial, command)}

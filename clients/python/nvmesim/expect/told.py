@@ -1,4 +1,4 @@
-"""Says in words what became of tests: what was wanted beside what came, and a summary."""
+"""Formats the results of tests: what was expected next to what came, and a summary."""
 from __future__ import annotations
 
 from typing import Iterable, Iterator, List, Tuple
@@ -86,7 +86,7 @@ def counted(number: int, what: str) -> str:
 
 
 def summary(trials: Iterable[Trial], refused: int) -> str:
-    """What became of all: of the trials, and of so many files that are no tests."""
+    """The summary of the trials, and of `refused` files that are no tests."""
     whole: List[Trial] = list(trials)
     wanted = sum(len(it.test.expectations) for it in whole)
     failed = sum(len(it.failed) for it in whole)

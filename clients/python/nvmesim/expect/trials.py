@@ -20,11 +20,11 @@ class Judged:
     """An expectation and what came.
 
     Attributes:
-        expectation: what was wanted.
-        event: the event that it stands behind; None for blocks before all events.
+        expectation: what was expected.
+        event: the event that it follows; None for blocks before all events.
         came: the answer, or the bytes of the blocks; None where the program could not look at them.
         why: why it could not.
-        holds: whether that was wanted.
+        holds: whether that was expected.
     """
 
     expectation: Expectation

@@ -19,15 +19,15 @@ __all__ = ["Medium", "Plan", "Programs", "Shard", "Statistics", "Walk", "explore
 def explore(plan: Plan, program: Optional[PathLike] = None, prefixes: Sequence[Order] = ((),), jobs: int = 1,
             seconds: float = SECONDS, report: Callable[[Statistics], None] = lambda statistics: None,
             medium: Optional[Medium] = None, is_reduced: bool = True) -> Findings:
-    """What the orders of a plan come to.
+    """The outcomes of the orders of a plan.
 
     Args:
         plan: the script with its parts.
         program: the program `nvmelive`; None for the one that `find_program` finds.
         prefixes: the beginnings of the orders that are explored; by default all orders.
-        jobs: so many events are run at once.
+        jobs: the number of events that run at once.
         seconds: the time limit of each answer.
-        report: is told what was done, while it goes on.
+        report: receives what was done, while it continues.
         medium: what each run begins with; None for zeros, as many blocks as its namespaces take.
         is_reduced: whether the second order of two events that commute is spared.
     """
@@ -41,7 +41,8 @@ def explore(plan: Plan, program: Optional[PathLike] = None, prefixes: Sequence[O
 
 def programs_of(plan: Plan, program: Optional[PathLike] = None, seconds: float = SECONDS,
                 medium: Optional[Medium] = None, tell: Callable[[str], None] = lambda why: None) -> Programs:
-    """The programs that explore a plan: forked where they wait, or else begun anew; `tell` is told why."""
+    """The programs that explore a plan: forked while they wait, or else started anew; `tell` is called with the
+    reason."""
     found = find_program(program)
     try:
         loaded = library()

@@ -22,7 +22,7 @@ from .marks import CRASH
 from .medium import Medium
 
 MOST_BRANCHES = 256
-"""So many programs wait at once at the most."""
+"""The most programs that wait at once."""
 _HEADS = ("ok", "started")
 _MOST_TOLD = 1 << 16
 _LARGE_PAGES = "glibc.malloc.hugetlb=1:glibc.malloc.mmap_threshold=1073741824:glibc.malloc.top_pad=4194304"
@@ -53,10 +53,10 @@ class Branch(Protocol):
 
 
 class Branches(Protocol):
-    """What an exploration branches.
+    """What an exploration can branch.
 
     Attributes:
-        can_fork: whether a branch can be forked; else it can only go on.
+        can_fork: whether a branch can be forked; else it can only continue.
         live: how many branches there are.
     """
 
@@ -67,7 +67,7 @@ class Branches(Protocol):
         """How many branches there are."""
 
     def begin(self, lines: Sequence[str] = ()) -> Branch:
-        """A branch that waits behind these events, which it runs with its first question."""
+        """A branch that waits after these events, which it runs with its first question."""
 
     def reopen(self, branch: Branch) -> Branch:
         """Ends a branch as a crash does: a branch that was just begun, over its medium as it was left."""
@@ -82,7 +82,7 @@ class _Program:
     def __init__(self, owner: Programs, channel: Channel, image: Optional[int],
                  child: Optional[subprocess.Popen[bytes]] = None) -> None:
         self.owner, self.channel, self.image, self.child = owner, channel, image, child
-        self.owed: List[str] = []  # lines that are to be run first, whose answers nobody wants
+        self.owed: List[str] = []  # lines to run first, whose answers are ignored
         owner.branches.add(self)
 
     @property
@@ -119,7 +119,7 @@ class _Program:
 
 
 class Programs:
-    """Branches that are programs. Use it in a `with`: behind it none of them runs.
+    """Branches that are programs. Use it in a `with`; at its end all of them end.
 
     Attributes:
         can_fork: whether they are forked.
@@ -137,8 +137,8 @@ class Programs:
             seconds: the time limit of each answer.
             medium: what each begins with; None for zeros in memory.
             library: the library that forks it; None to run orders again.
-            tell: is told why programs can't be forked, though there is a library.
-            fails: the call of the image that fails, 0 for none; only where they can be forked.
+            tell: is called with the reason why programs can't be forked, though there is a library.
+            fails: the call of the image that fails, 0 for none; only if they can be forked.
         """
         self.program, self.setup, self.seconds, self.fails = program, list(setup), seconds, fails
         self.medium = medium or Medium()
@@ -170,7 +170,7 @@ class Programs:
         return len(self.branches)
 
     def begin(self, lines: Sequence[str] = ()) -> Branch:
-        """A branch behind the setup and these events.
+        """A branch after the setup and these events.
 
         Raises:
             ConfigurationRefused: the setup has a fault.
@@ -190,7 +190,7 @@ class Programs:
         return self._behind(branch, list(lines))
 
     def _behind(self, branch: _Program, lines: List[str]) -> _Program:
-        """A branch behind these events too, the last of which it runs with its first question."""
+        """A branch after these events too, the last of which it runs with its first question."""
         while CRASH in lines:
             place = lines.index(CRASH)
             if place:
@@ -211,7 +211,7 @@ class Programs:
         return opened
 
     def _started(self, left: Optional[int] = None) -> _Program:
-        """A program of its own, behind the setup, over a fresh medium or a copy of one that was left. Without its
+        """A program of its own, after the setup, over a fresh medium or a copy of one that was left. Without its
         greeting it has no library, and can't be forked."""
         ours, theirs = socket.socketpair()
         image = self.medium.fresh() if left is None else self.medium.copy_of(left)
@@ -285,7 +285,7 @@ class Programs:
         return death_of(status, branch.channel.line, self._told())
 
     def _told(self) -> str:
-        """The last of what stood on standard error."""
+        """The last of what was on standard error."""
         end = self._errors.seek(0, os.SEEK_END)
         self._errors.seek(max(0, end - _MOST_TOLD))
         return self._errors.read().decode("utf-8", "replace")

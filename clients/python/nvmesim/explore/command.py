@@ -30,7 +30,7 @@ TextOf = Callable[[str], str]
 
 
 def add_options(parser: argparse.ArgumentParser) -> None:
-    """The options of the command; those of the program come beside them."""
+    """The options of the command besides those of the program."""
     parser.description = ("Runs the marked parts of a script in every order that keeps each part's own, and prints the "
                           "outcomes. Exit status 1: a check of --always or --never fails. 2: the exploration could not "
                           "be run, or was stopped early.")
@@ -53,7 +53,7 @@ def add_options(parser: argparse.ArgumentParser) -> None:
                         "fails")
     parser.add_argument("--jobs", type=int, default=os.cpu_count() or 1, metavar="N",
                         help="run N events at once; by default one for each processor")
-    parser.add_argument("--all-orders", action="store_true", help="run both orders of two events also where they "
+    parser.add_argument("--all-orders", action="store_true", help="run both orders of two events even if they  "
                         "commute; the report is the same")
     parser.add_argument("--within", type=float, metavar="S", help="stop after S seconds, with a partial report")
     parser.add_argument("--shard", metavar="K/N", help="explore the K-th of N parts, and print JSON lines")
@@ -100,11 +100,11 @@ def _check_words(words: argparse.Namespace) -> None:
     if words.jobs < 1 or words.shards < 1:
         raise NvmesimError("--jobs and --shards are 1 at least")
     if words.merge is not None and words.image is not None:
-        raise NvmesimError("--image stands where parts are explored, and not at their --merge")
+        raise NvmesimError("--image belongs to the parts, not to their --merge")
     if words.fail < 0 or words.fail and (words.merge is not None or words.dask is not None or words.shard is not None):
-        raise NvmesimError("--fail K is of a whole exploration, and not of --merge, --shard or --dask; K is 1 at least")
+        raise NvmesimError("--fail K excludes --merge, --shard and --dask; K is at least 1")
     if words.within is not None and (words.dask is not None or words.shard is not None):
-        raise NvmesimError("--within stops a whole exploration, and not one of --shard or --dask")
+        raise NvmesimError("--within excludes --shard and --dask")
     if words.shard is not None and (words.always or words.never or words.dask is not None):
         raise NvmesimError("--shard prints what --merge judges: give --always and --never there")
 

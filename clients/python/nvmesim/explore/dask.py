@@ -35,10 +35,10 @@ def explore_on_dask(plan: Plan, address: str, shards: int, program: Optional[str
     Args:
         plan: the script with its parts.
         address: the scheduler, such as `tcp://host:8786`.
-        shards: so many parts.
+        shards: the number of parts.
         program: the program `nvmelive` as the workers find it, or None for what they find themselves.
         seconds: the time limit of each answer.
-        image: the image, which the workers find where it lies here; None for zeros in memory.
+        image: the image, which the workers find where it is here; None for zeros in memory.
         client: a client of the cluster, if there is one.
 
     Raises:

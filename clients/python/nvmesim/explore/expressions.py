@@ -1,4 +1,4 @@
-"""The expressions of `--always` and `--never`: a small part of Python's, over named answers, and nothing beside it.
+"""The expressions of `--always` and `--never`: a small part of Python's, over named answers.
 
     a.write1 == 'Successful Completion' and not b.write1.rule == 7
     implies(a.acquire1 == 'Successful Completion', reservation(1).holder == 0xa1)

@@ -1,10 +1,10 @@
 /* Forks the program nvmelive where it waits for a line, at a word of `python3 -m nvmesim explore`.
  *
  * It is loaded before the C library (LD_PRELOAD). The explorer gives the program a Unix stream socket as standard input
- * and output. What it sends with file descriptors beside it is no input, but the word to fork: the child has the first
- * descriptor, a socket of its own, as standard input and output, and the second, if there is one, in place of every
- * regular file that is open behind standard error, which is its image. The parent goes on waiting. Each process says
- * its number on its socket before it reads, after a byte 0, which begins no answer. Where the explorer has gone, a read
+ * and output. What it sends together with file descriptors is no input, but the word to fork: the child has the first
+ * descriptor, a socket of its own, as standard input and output, and the second, if there is one, instead of every
+ * regular file that is open after standard error, which is its image. The parent continues waiting. Each process says
+ * its number on its socket before it reads, after a byte 0, which begins no answer. If the explorer has gone, a read
  * gives the end of the input: the first program ends as it does at the end of any input, a child at once.
  *
  * What it writes to standard output is gathered, and sent when it waits for the next line or ends: so the explorer is
@@ -25,11 +25,11 @@
 
 enum { STREAM = 0, FIRST_FILE = 3, LAST_FILE = 63, MOST_SENT = 2 };
 
-/* The process that has told its number; a child has another. */
+/* The process that has reported its number; a child has another. */
 static pid_t told;
 
 /* Whether this process was forked. It ends at the end of its input without going to the end of the program, which only
- * gives memory back, and takes longer than all else: an answer stands for calls that were made. */
+ * gives memory back, and takes longer than all else: an answer represents calls that were made. */
 static int was_forked;
 
 static ssize_t read_as_before(int file, void *to, size_t size)
@@ -140,7 +140,7 @@ int fsync(int file)
     return fails(file) ? -1 : next(file);
 }
 
-/* Puts an image in place of the one that the parent has open. */
+/* Puts an image instead of the one that the parent has open. */
 static void take_image(int image)
 {
     struct stat found;
@@ -153,7 +153,7 @@ static void take_image(int image)
 static void branch(const int *sent, int count)
 {
     send_gathered();          /* the child has nothing of it to send */
-    signal(SIGCHLD, SIG_IGN); /* children that end leave nothing behind */
+    signal(SIGCHLD, SIG_IGN); /* children that end leave nothing after */
     if (fork() == 0) {
         was_forked = 1;
         if (count == MOST_SENT)
@@ -173,7 +173,7 @@ static long number_of(const char *digits, size_t size)
     return number;
 }
 
-/* What was sent beside the bytes: how many descriptors, and each. */
+/* The descriptors that were sent with the bytes. */
 static int sent_with(struct msghdr *message, int *sent)
 {
     int count = 0;

@@ -1,4 +1,4 @@
-"""Counts the orders behind what a walk found: each state passes on what leads to it."""
+"""Counts the orders after what a walk found: each state passes on what leads to it."""
 from __future__ import annotations
 
 from typing import TYPE_CHECKING, Dict, List, Tuple
@@ -10,7 +10,7 @@ if TYPE_CHECKING:
     from .walk import Node
 
 Some = Tuple[int, int, Order]
-"""Orders, as `Ways` has them: how many, and the changes of one that is told most shortly, and that one."""
+"""Orders, as `Ways` has them: how many, and the changes of one that is shown most briefly, and that one."""
 Reaching = Dict[Tuple[int, int], Some]
 """The orders that lead to a state, by the set of answers so far and the part that came last."""
 
@@ -56,7 +56,7 @@ def gather(plan: Plan, root: Node) -> Findings:
 
 
 def _pass_on(choice: int, mark: int, bit: int, reaching: Reaching, following: Reaching) -> None:
-    """Passes the orders that lead to a state on to one behind it."""
+    """Passes the orders that lead to a state on to one after it."""
     for (found, last), (count, changes, order) in reaching.items():
         best = changes + (last != mark), (*order, choice)
         key = found | bit, mark

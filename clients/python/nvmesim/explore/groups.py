@@ -16,7 +16,7 @@ class Group:
     """Outcomes that are alike.
 
     Attributes:
-        ways: the orders that come to one of them: how many, and the one that is told most shortly.
+        ways: the orders that come to one of them: how many, and the one that is shown most briefly.
         members: the outcomes, by their places.
     """
 
@@ -25,7 +25,7 @@ class Group:
 
     @property
     def first(self) -> int:
-        """The outcome that the order comes to that tells the group."""
+        """The outcome of the order that represents the group."""
         return self.members[0]
 
 
@@ -44,8 +44,8 @@ def grouped(found: Sequence[Tuple[Outcome, Ways]], values: Sequence[Values], key
 
 
 def matters(plan: Plan, step: Step) -> bool:
-    """Whether an event's answer tells outcomes apart: that of a request does, of a bringing up, and of what a raw
-    host's controller executes. Another event's answer, such as a poll that finds nothing, is a trifle: what it did
+    """Whether an event's answer distinguishes outcomes: that of a request does, of a bringing up, and of what a raw
+    host's controller executes. Another event's answer, such as a poll that finds nothing, is ignored: what it did
     shows in these."""
     is_of_raw = step.line.verb == "execute" and step.line.controller in plan.configuration.raw
     return step.line.is_request or step.line.verb == "up" or is_of_raw

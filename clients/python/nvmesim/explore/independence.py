@@ -1,8 +1,8 @@
 """Which events commute: from a state in which both may come next, both orders give equal answers and lead to one state.
 
-An event touches parts of the subsystem: it looks at some, and may change others. Two events commute where neither may
-change what the other touches. docs/CLIENTS.md names the law that carries each line of `touches`. Where a line here does
-not know what an event touches, it says: everything.
+An event touches parts of the subsystem: it reads some, and may change others. Two events commute if neither may change
+what the other touches. Comments name the laws of docs/THEOREMS.md that justify each line; by `run_is_determined` the
+result of an event is a function of what it touches. An event of which too little is known touches everything.
 """
 from __future__ import annotations
 
@@ -13,10 +13,10 @@ from .plan import Plan, Step
 from .states import State
 
 Part = Tuple[Union[str, int], ...]
-"""A part: ('host', C) is a controller, its window and its host's driver, but for the commands that it has fetched,
+"""A part: ('host', C) is a controller, its window and its host's driver, except for the commands that it has fetched,
 which are ('fetched', C); ('access', N) is the reservation and the write protection of namespace N, ('attached',) all
-attachments, ('block', N, LBA) a block, ('write cache',) what a Flush is about, and ('calls',) how many calls of the
-image there were."""
+attachments, ('block', N, LBA) a block, ('write cache',) what a Flush covers, and ('calls',) the number of calls of the
+image."""
 
 ATTACHED: Part = ("attached",)
 _READING = ("read", "compare")
@@ -27,7 +27,7 @@ _PREEMPT_AND_ABORT = 2
 
 @dataclass(frozen=True)
 class Touched:
-    """The parts that an event may change, and those that it looks at beside; `is_all` where it may be any."""
+    """The parts that an event may change, and those that it only reads; `is_all` if it may be any."""
 
     changed: FrozenSet[Part]
     looked_at: FrozenSet[Part] = frozenset()
@@ -45,7 +45,7 @@ EVERYTHING = Touched(frozenset(), is_all=True)
 
 
 class Independence:
-    """Says of the events of a plan whether they commute."""
+    """Decides whether events of a plan commute."""
 
     def __init__(self, plan: Plan) -> None:
         """Takes the plan."""
@@ -60,7 +60,7 @@ class Independence:
         return self.touches(state, first).commutes_with(self.touches(state, second))
 
     def touches(self, state: State, step: Step) -> Touched:
-        """What an event touches that comes next."""
+        """What the next event of a part touches."""
         command = _command_of(state, step)
         key = step.name, command
         found = self._known.get(key)
@@ -69,7 +69,9 @@ class Independence:
         return found
 
     def _touched(self, step: Step, command: str) -> Touched:
-        """The same; `command` is the request that an execution is about."""
+        """The same; `command` is the request that is executed. By `others_are_untouched` and `hosts_are_apart` an event
+        changes its own host and controller only, by `calls_are_of_executions` only executions reach the medium, and by
+        `only_allowed_commands_change` only they change reservations."""
         verb, number = step.line.verb, step.line.controller
         if step.line.is_of_all or command == _UNKNOWN:
             return EVERYTHING
@@ -77,7 +79,7 @@ class Independence:
         fetching = own | {("fetched", number)}
         if verb in ("fetch", "reset", "write32", "store"):
             return Touched(fetching)
-        if verb == "up":  # it executes commands of the admin queue
+        if verb == "up":  # executes admin commands
             return Touched(fetching, self._access | {ATTACHED})
         if verb != "execute":
             return Touched(own)
@@ -86,8 +88,10 @@ class Independence:
         return self._executed(self.plan.by_name[command], fetching)
 
     def _executed(self, request: Step, own: FrozenSet[Part]) -> Touched:
-        """What the execution of a request's command touches, beside what is its controller's own. Where a call of the
-        image fails, each command that makes some also changes which of them it is."""
+        """What the execution of a request's command touches, besides its own controller: by
+        `executed_as_the_policy_allows`, `calls_of` and `only_allowed_commands_change`, and for a Preempt and Abort by
+        `others_are_untouched` and `marks_for`. If a call of the image fails, each command that makes calls also changes
+        which of them it is."""
         if self.plan.fails and request.line.verb in (*_READING, *_WRITING, "flush"):
             own = own | {("calls",)}
         verb, numbers = request.line.verb, request.line.numbers()
@@ -113,7 +117,7 @@ _UNKNOWN = "?"
 
 
 def _command_of(state: State, step: Step) -> str:
-    """The request whose command an execution is about: none, or unknown for one that no line of a request placed."""
+    """The request that an execution executes: none, or unknown if no line of a request placed the command."""
     if step.line.verb != "execute":
         return _NONE
     place = step.line.numbers()[1]

@@ -12,7 +12,7 @@ _ORDERING = (ast.Lt, ast.LtE, ast.Gt, ast.GtE)
 
 
 def kind_of(node: ast.expr) -> Optional[str]:
-    """The kind of a value, as far as the expression alone tells it."""
+    """The kind of a value, as far as the expression determines it."""
     if isinstance(node, ast.Constant):
         kinds = {bool: TRUTH, int: NUMBER, str: TEXT}
         return kinds.get(type(node.value))
@@ -40,7 +40,7 @@ def fault_of(node: ast.Compare) -> str:
 
 
 def _are_alike(left: Optional[str], right: Optional[str], is_ordering: bool) -> bool:
-    """Whether values of two kinds can be compared; a truth counts as a number, unless it is asked which is greater."""
+    """Whether values of two kinds can be compared; a truth counts as a number, except for which is greater."""
     if left is None or right is None or left == right:
         return True
     return not is_ordering and {left, right} == {NUMBER, TRUTH}

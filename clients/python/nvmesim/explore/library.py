@@ -19,7 +19,7 @@ class NoLibrary(NvmesimError):
 
 
 def folder() -> Path:
-    """Where compiled libraries are kept: the caller's folder of caches."""
+    """The folder of compiled libraries: in the caller's cache folder."""
     named = os.environ.get("XDG_CACHE_HOME")
     return (Path(named) if named else Path.home() / ".cache") / "nvmesim"
 
@@ -45,7 +45,7 @@ def library() -> Path:
 
 
 def _compile(compiler: str, place: Path) -> None:
-    """Compiles the library beside its place, and puts it there whole."""
+    """Compiles the library next to its place, then moves it there."""
     number, new = tempfile.mkstemp(dir=place.parent, suffix=".new")
     os.close(number)
     try:

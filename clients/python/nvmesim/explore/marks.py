@@ -10,7 +10,7 @@ from ..script import LineKind, ScriptLine
 BEFORE = "before"
 """The name of the part before all marks."""
 THEN = "then"
-"""The name of the parts behind a mark `# then`."""
+"""The name of the parts after a mark `# then`."""
 
 CRASH = "crash"
 """The comment `# crash` is an event: the program is killed, and opened again over its image."""
@@ -32,7 +32,7 @@ def has_marks(lines: Sequence[ScriptLine]) -> bool:
 
 
 def nearest_mark(lines: Sequence[ScriptLine]) -> str:
-    """The first comment behind `start` that is nearly a mark, with its line, for a script that has none; else an empty
+    """The first comment after `start` that is nearly a mark, with its line, for a script that has none; else an empty
     text."""
     events = [it.number for it in lines if it.kind is LineKind.START]
     behind = (it for it in lines if it.kind is LineKind.COMMENT and events and it.number > events[0])
@@ -45,11 +45,11 @@ def mark_of(line: ScriptLine, is_started: bool, is_marked: bool = True) -> Optio
 
     Args:
         line: the line.
-        is_started: whether it stands behind `start`, as a mark has to; before that only a mark itself is refused.
+        is_started: whether it is after `start`, as a mark must be; before `start` only a mark itself is refused.
         is_marked: whether its script has marks: a comment that nearly is one is refused only there.
 
     Raises:
-        ScriptError: it is nearly a mark, stands before `start`, or gives a name that no part can have.
+        ScriptError: it is nearly a mark, is before `start`, or gives a name that no part can have.
     """
     if line.kind is not LineKind.COMMENT or is_crash(line):
         return None
@@ -61,7 +61,7 @@ def mark_of(line: ScriptLine, is_started: bool, is_marked: bool = True) -> Optio
                               f"that begins with another word")
         return None
     if not is_started:
-        raise ScriptError(line.number, f"the mark {line.text!r} stands before start")
+        raise ScriptError(line.number, f"the mark {line.text!r} is before start")
     if found[1] in (BEFORE, THEN):
         raise ScriptError(line.number, f"no host can be called {found[1]}")
     return THEN if found[2] else found[1]

@@ -1,8 +1,8 @@
 """The medium that each run begins with: zeros, or a copy of an image as it was when the exploration began.
 
 Zeros are in memory if the program's own blocks are enough, and else in a file of holes. An image is copied once, and
-that copy once for each run. So the file itself is never written, and what becomes of it meanwhile does not matter. Holes
-of a file stay holes: an image that is mostly zeros takes little room and time.
+that copy once for each run. So the file itself is never written, and what becomes of it meanwhile does not matter.
+Holes of a file stay holes: an image that is mostly zeros takes little room and time.
 """
 from __future__ import annotations
 
@@ -38,7 +38,7 @@ class Medium:
     them stays.
 
     Attributes:
-        digest: what tells images apart, in hexadecimal digits; an empty text for zeros.
+        digest: what distinguishes images, in hexadecimal digits; an empty text for zeros.
     """
 
     def __init__(self, image: Optional[PathLike] = None, blocks: int = 0) -> None:
@@ -80,7 +80,7 @@ class Medium:
 
     @contextmanager
     def of_a_run(self, blocks: int = 0) -> Iterator[str]:
-        """The word IMAGE of the program for one run: `-`, or a copy of the run's own, which goes with it. Where there
+        """The word IMAGE of the program for one run: `-`, or a copy of the run's own, which goes with it. If there
         is no image, it has these blocks at least."""
         copy = _file_of(blocks) if self._kept is None and blocks > IN_MEMORY else self.fresh()
         if copy is None:
@@ -110,7 +110,7 @@ class Medium:
 
 
 def _file_of(blocks: int) -> Optional[int]:
-    """A file of so many blocks of zeros, all of it a hole, which the caller closes; None for more than a file has: the
+    """A file of `blocks` blocks of zeros, all of it a hole, which the caller closes; None for more than a file has: the
     program says so better."""
     if blocks > _MOST_BLOCKS:
         return None
@@ -140,7 +140,7 @@ def _copy(source: int, target: int) -> None:
 
 
 def _pieces(file: int) -> Iterator[Tuple[int, int]]:
-    """Where the file has bytes, and not holes: each piece by its beginning and its end."""
+    """The parts of the file that are no holes, each by its beginning and its end."""
     end = 0
     while True:
         try:

@@ -1,4 +1,4 @@
-"""What an order comes to, and how many orders come to the same."""
+"""Outcomes of orders, and how many orders have each."""
 from __future__ import annotations
 
 from dataclasses import dataclass
@@ -11,14 +11,15 @@ Labels = Tuple[Tuple[str, str], ...]
 
 @dataclass(frozen=True)
 class Outcome:
-    """What an order comes to: the answer of each event by its name, and what looking lines told behind the last."""
+    """The outcome of an order: the answer of each event by its name, and the answers of queries after the last."""
 
     labels: Labels
     last: Tuple[str, ...]
 
 
 def in_one_form(told: str) -> str:
-    """The answer of a looking line, with registrants and attachments in rising order: outcomes are equal without it."""
+    """The answer to a query with registrants and attachments sorted, since their order does not distinguish
+    outcomes."""
     words = told.split(" ")
     label, size = {"reservation": ("registrant", 4), "attached": ("controller", 4)}.get(words[0], ("", 0))
     if label not in words:
@@ -31,9 +32,9 @@ def in_one_form(told: str) -> str:
 
 @dataclass(frozen=True)
 class Ways:
-    """The orders that come to the same: how many, and one that is told most shortly.
+    """The orders with one outcome: how many, and the one with the fewest changes between parts.
 
-    That is one in which the parts change least often; of several the first, part by part as the script has them.
+    Of several such orders it is the first, by the order of the parts in the script.
     """
 
     count: int
@@ -41,7 +42,7 @@ class Ways:
     order: Order
 
     def joined(self, other: Ways) -> Ways:
-        """These orders and others that come to the same."""
+        """These orders and others with the same outcome."""
         best = min((self.changes, self.order), (other.changes, other.order))
         return Ways(self.count + other.count, *best)
 
@@ -50,7 +51,7 @@ Findings = Dict[Outcome, Ways]
 
 
 def joined(parts: Iterable[Findings]) -> Findings:
-    """What several explorations found, together."""
+    """The findings of several explorations, merged."""
     found: Findings = {}
     for part in parts:
         for outcome, ways in part.items():
@@ -59,5 +60,5 @@ def joined(parts: Iterable[Findings]) -> Findings:
 
 
 def ranked(found: Findings) -> List[Tuple[Outcome, Ways]]:
-    """Outcomes as they are shown: by the order that tells them, which no two share."""
+    """Outcomes in the order in which they are shown: by their representative orders, which differ."""
     return sorted(found.items(), key=lambda it: (it[1].changes, it[1].order))

@@ -1,5 +1,5 @@
 """The outcomes as a page: a table, the timeline of one order of each and where it parts from another, and each
-counterexample beside the nearest order that is good."""
+counterexample next to the nearest good order."""
 from __future__ import annotations
 
 from html import escape
@@ -13,7 +13,7 @@ from .plan import BEFORE, Order
 from .report import Check, Report, script_of
 
 Run = Callable[[str], Tuple[str, Sequence[Told]]]
-"""Runs a script: its transcript, and what looks told of reservations."""
+"""Runs a script: its transcript, and the answers of queries about reservations."""
 
 _MOST_DRAWN = 24
 
@@ -34,7 +34,7 @@ def page(report: Report, title: str, run: Run) -> str:
 
 
 def _table_of(report: Report) -> str:
-    """A row for each outcome: how many orders, and what tells it from the others; then what is the same in all."""
+    """A row for each outcome: how many orders, and what distinguishes it; then what is the same in all."""
     same = report.same()
     rows = [{name: text for name, text in report.rows_of(it).items() if name not in same} for it in report.groups]
     names = list(dict.fromkeys(name for it in rows for name in it))
@@ -65,7 +65,7 @@ class _Drawing:
                 yield self._picture(group.ways.order, self._nearest(group.ways.order, others))
 
     def checks(self) -> Iterator[str]:
-        """Whether each check is met, and where not, a counterexample beside the nearest good order."""
+        """Whether each check is met; if not, a counterexample next to the nearest good order."""
         for check in self.report.checks:
             broken = self.report.broken(check)
             count = sum(ways.count for _, ways in broken)

@@ -1,7 +1,7 @@
 """The marked parts of a script, and the orders in which their events can come.
 
 A comment `# host NAME` begins a part: its events keep their order, and come in any order with those of other parts. A
-comment `# then` ends the parts before it: what follows comes behind them, in its own order. Events before the first
+comment `# then` ends the parts before it: what follows comes after them, in its own order. Events before the first
 mark come first, in their order; a script without marks is one order.
 """
 from __future__ import annotations
@@ -123,7 +123,7 @@ class Plan:
         return found
 
     def begin(self) -> Position:
-        """Where every order begins."""
+        """The first position of every order."""
         return self._settled(0, tuple(0 for _ in self.phases[0].parts))
 
     def choices(self, position: Position) -> List[Choice]:
@@ -138,7 +138,7 @@ class Plan:
         return self.phases[position.phase].parts[choice][position.done[choice]]
 
     def after(self, position: Position, choice: Choice) -> Position:
-        """How far an order is behind that."""
+        """The position of an order after that."""
         number, done = position
         return self._settled(number, (*done[:choice], done[choice] + 1, *done[choice + 1:]))
 
@@ -159,7 +159,7 @@ class Plan:
             position = self.after(position, choice)
 
     def completed(self, order: Order) -> Order:
-        """An order that goes on as long as it can with the first part that has an event left."""
+        """An order that continues as long as it can with the first part that has an event left."""
         position = self.begin()
         for choice in order:
             position = self.after(position, choice)

@@ -14,7 +14,7 @@ ABORTED = "aborted"
 NOT_EXECUTED = "not executed"
 
 _OF_ALL = frozenset(("0:00", "0:02", "0:0b", "0:1b"))
-# The statuses that a request of a driver is answered beside those of all requests, by USING.md, "Rules".
+# The statuses of each request of a driver besides those of all requests, by USING.md, "Rules".
 _OF_REQUEST: Dict[str, Tuple[str, ...]] = {
     "read": ("0:80", "0:83", "2:81"), "write": ("0:20", "0:80", "0:83", "2:80"),
     "compare": ("0:80", "0:83", "2:81", "2:85"), "zeroes": ("0:20", "0:80", "0:83", "2:80"),
@@ -94,7 +94,7 @@ def pairs_of(node: ast.Compare) -> Iterator[Tuple[ast.expr, Any]]:
 
 
 def is_hexadecimal(text: Any) -> bool:
-    """Whether bytes can be told so: digits of lower case, without zeros at the end."""
+    """Whether bytes can be reported so: digits of lower case, without zeros at the end."""
     return not isinstance(text, str) or _HEX.match(text) is not None
 
 

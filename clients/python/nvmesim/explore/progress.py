@@ -9,12 +9,12 @@ from .walk import Statistics
 
 _EVERY = 0.1
 _FIRST = 3.0
-"""So many seconds pass before a long exploration says that it is one."""
+"""Seconds until a long exploration prints an estimate."""
 _LONG = 20.0
 
 
 class Progress:
-    """Tells on standard error how far an exploration is: on a terminal all along, else once where it will be long."""
+    """Reports on standard error how far an exploration is: on a terminal all along, else once where it will be long."""
 
     def __init__(self, plan: Plan, stream: TextIO) -> None:
         """Waits for the first report, from which on the time counts: before it the program may be built."""
@@ -25,7 +25,7 @@ class Progress:
         self._is_terminal = stream.isatty()
 
     def report(self, statistics: Statistics) -> None:
-        """Tells it, if it is time to."""
+        """Reports it, if it is time to."""
         now = time.monotonic()
         if self._begun is None:
             self._begun = now
@@ -69,7 +69,7 @@ def states_in_all(plan: Plan, statistics: Statistics) -> int:
 
 
 def seconds_left(plan: Plan, statistics: Statistics, seconds: float) -> float:
-    """How long the rest may take, if it goes on as so far."""
+    """How long the rest may take, if it continues as so far."""
     return seconds * (states_in_all(plan, statistics) / max(1, statistics.states) - 1)
 
 

@@ -1,4 +1,4 @@
-"""Prints what an exploration found: the outcomes, an order that tells each, and counterexamples as scripts."""
+"""Prints what an exploration found: the outcomes, an order that represents each, and counterexamples as scripts."""
 from __future__ import annotations
 
 import textwrap
@@ -58,7 +58,7 @@ class Report:
             checks: what they must be.
             is_whole: whether they are those of all orders.
             by: what outcomes are grouped by; without it, by what matters.
-            has_trifles: whether outcomes are also told apart by events that do not matter.
+            has_trifles: whether outcomes are also distinguished by events that do not matter.
         """
         self.plan, self.checks, self.is_whole = plan, checks, is_whole
         self.by, self.has_trifles = by, has_trifles
@@ -71,7 +71,7 @@ class Report:
         self.groups = grouped(self.found, self.values, self._key())
 
     def _key(self) -> Callable[[Values], Hashable]:
-        """What outcomes are alike in that are told together."""
+        """What the outcomes of a group have in common."""
         if self.by:
             return lambda it: tuple(_exactly(expression.value(it)) for expression in self.by)
         rows = dict(zip(map(id, self.values), self._table))
@@ -88,7 +88,7 @@ class Report:
         return sum(ways.count for _, ways in self.found)
 
     def why_one_order(self) -> str:
-        """Why there is but one order: a script of one part, or parts that have no events beside one another."""
+        """Why there is only one order: a script of one part, or parts without concurrent events."""
         names = list(self.plan.parts)
         if not names:
             nearest = f" ({self.plan.nearest})" if self.plan.nearest else ""
@@ -163,7 +163,7 @@ class Report:
         yield from begun
 
     def _differs(self, step: Step) -> bool:
-        """Whether an event's answer tells outcomes apart, beyond what its request says already."""
+        """Whether an event's answer distinguishes outcomes, beyond what its request says already."""
         found = (it.answers[step.name] for it in self.values)
         return len({it.request or it.text for it in found}) > 1
 
@@ -210,7 +210,7 @@ class Report:
 
 
 def _exactly(value: Hashable) -> Hashable:
-    """What tells values of an expression apart: their text, since 0 and False are equal."""
+    """What distinguishes values of an expression: their text, since 0 and False are equal."""
     return repr(value)
 
 

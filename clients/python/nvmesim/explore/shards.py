@@ -32,7 +32,7 @@ class Shard:
         """A part as `K/N`. Raises `ShardError` for anything else."""
         found = _FORM.match(text)
         if found is None or int(found[1]) > int(found[2]):
-            raise ShardError(f"{text!r} is no part: K/N was wanted, such as 1/8, with K from 1 to N")
+            raise ShardError(f"{text!r} is no part; use K/N, such as 1/8, with K from 1 to N")
         return Shard(int(found[1]), int(found[2]))
 
     def prefixes(self, plan: Plan) -> List[Order]:
@@ -41,7 +41,7 @@ class Shard:
 
 
 def _prefixes(plan: Plan, shards: int) -> List[Order]:
-    """All beginnings of orders of the least length of which there are enough for so many parts."""
+    """All beginnings of orders of the least length that gives enough of them for `shards` parts."""
     level: List[Tuple[Order, Any]] = [((), plan.begin())]
     for _ in range(plan.length):
         if shards == 1 or len(level) >= _PREFIXES_A_SHARD * shards:
@@ -52,7 +52,7 @@ def _prefixes(plan: Plan, shards: int) -> List[Order]:
 
 
 def digest_of(plan: Plan) -> str:
-    """What tells scripts apart."""
+    """What distinguishes scripts."""
     return hashlib.sha256(plan.text.encode("utf-8")).hexdigest()
 
 
@@ -110,7 +110,7 @@ def merge(parts: Sequence[Iterable[str]], names: Sequence[str] = ()) -> Tuple[Pl
 
 
 def _check(heads: Sequence[Dict[str, Any]]) -> None:
-    """Refuses parts of different explorations, and parts that lack or stand there twice."""
+    """Refuses parts of different explorations, and missing or repeated parts."""
     if not heads:
         raise ShardError("there are no parts to join")
     if len({(it["digest"], it["image"], it["shards"]) for it in heads}) > 1:
@@ -121,4 +121,4 @@ def _check(heads: Sequence[Dict[str, Any]]) -> None:
     if lacking:
         raise ShardError(f"part {lacking[0]}/{count} is not there")
     if len(numbers) > count:
-        raise ShardError("a part stands there twice")
+        raise ShardError("a part is there twice")

@@ -90,7 +90,7 @@ def _shown(plan: Plan, branches: Branches, check: Check, steps: Sequence[Named])
 
 def _run(plan: Plan, looks: Looks, branches: Branches, branch: Branch,
          steps: Sequence[Named]) -> Tuple[Outcome, Branch]:
-    """What the events of an order come to, and the branch behind them."""
+    """The outcome of an order's events, and the branch after them."""
     state = first_state(plan, dict(zip(looks.all(), _asked(branches, branch, looks.all()))))
     labels: List[Tuple[str, str]] = []
     for choice, step in steps:

@@ -1,10 +1,10 @@
-"""States of a subsystem as an exploration tells them apart, and what the answer of each event adds.
+"""States of a subsystem as an exploration distinguishes them, and what the answer of each event adds.
 
 A state is what the looking lines tell: reservations, attachments, blocks; of each controller its registers, queues,
-fetched commands and driver. Beside it stand the requests on their way, by the names of their lines, since the window
-that holds their commands and data is not looked at: a line says what its request stores, and for data that a command
-brings stands what all hosts shared when it was executed. A raw host may store anything, so all that happened to its
-controller stands for it. Two states that are told the same go on in the same way, with equal answers to equal events.
+fetched commands and driver. It also has the requests on their way, by the names of their lines, since the window that
+holds their commands and data is not looked at: a line says what its request stores, and for data that a command brings
+is what all hosts shared when it was executed. A raw host may store anything, so all that happened to its controller
+represents it. Two states that are reported the same continue in the same way, with equal answers to equal events.
 """
 from __future__ import annotations
 
@@ -17,7 +17,7 @@ from ..looks import fetched
 from .plan import Plan, Position, Step
 from .tracks import Track, labelled
 
-# Commands whose answer has something of the state that all hosts share, beside a status.
+# Commands whose answer has more of the shared state than a status.
 _TELLING = ("read", "reservation_report", "identify", "get_features")
 _WRITING = ("write", "write_zeroes")
 _MOST_BLOCKS = 64
@@ -36,7 +36,7 @@ class Looks:
         self.ranges = list(_written(plan) if not plan.configuration.raw else _all_blocks(plan))
         total = sum(count for _, _, count in self.ranges)
         self.are_blocks_seen = total <= _MOST_BLOCKS and not plan.configuration.raw and not plan.fails
-        """Whether blocks are looked at behind each event; else the commands that wrote stand for them. A look would be
+        """Whether blocks are looked at after each event; else the commands that wrote represent them. A look would be
         the call of the image that fails."""
         self.blocks = [f"?blocks {n} {slba} {count}" for n, slba, count in self.ranges]
         self.access = [*(f"?reservation {n}" for n in self.namespaces), "?attached"]
@@ -45,7 +45,7 @@ class Looks:
         self._behind: Dict[str, List[str]] = {}
 
     def behind(self, step: Step) -> List[str]:
-        """The lines that are asked behind an event: what it can have changed.
+        """The lines that are asked after an event: what it can have changed.
 
         An execution may change what hosts share and mark what other controllers have fetched, and a power cycle or a
         crash may change everything; every other event changes its own controller and host alone.
@@ -66,7 +66,7 @@ class Looks:
         return [*own, *(f"?fetched {it}" for it in self.controllers if it != number), *self.shared]
 
     def all(self) -> List[str]:
-        """All lines that tell states apart."""
+        """All lines that distinguish states."""
         return [*(line for it in self.controllers for line in self._own(it)), *self.shared]
 
     def _own(self, number: int) -> List[str]:
@@ -75,12 +75,12 @@ class Looks:
         return [f"{it} {number}" for it in words]
 
     def last(self) -> List[str]:
-        """The lines that are asked behind the last event, for the outcome."""
+        """The lines that are asked after the last event, for the outcome."""
         return [*self.access, *self.blocks]
 
 
 def _all_blocks(plan: Plan) -> Iterator[Range]:
-    """All blocks, for scripts with raw hosts, whose writes no line tells."""
+    """All blocks, for scripts with raw hosts, whose writes no line reports."""
     for nsid, size in plan.configuration.namespaces.items():
         for slba in range(0, size, _MOST_A_LINE):
             yield nsid, slba, min(_MOST_A_LINE, size - slba)
@@ -107,14 +107,14 @@ def _written(plan: Plan) -> Iterator[Range]:
 
 @dataclass(frozen=True)
 class State:
-    """A state of the subsystem behind some events.
+    """A state of the subsystem after some events.
 
     Attributes:
         position: how far the order is.
-        looks: what the looking lines told last, in the order in which they are first asked.
+        looks: what the looking lines reported last, in the order in which they are first asked.
         tracks: the requests on their way through each controller.
-        raw: what stands for each raw host's controller and window: all that happened there.
-        medium: what stands for the medium where its blocks are not looked at: all that was written.
+        raw: what represents each raw host's controller and window: all that happened there.
+        medium: what represents the medium where its blocks are not looked at: all that was written.
     """
 
     position: Position
@@ -124,7 +124,7 @@ class State:
     medium: bytes = b""
 
     def next(self, plan: Plan, looks: Looks, choice: int, answer: str, told: Dict[str, str]) -> Tuple[str, State]:
-        """The label of an event's answer, and the state behind it."""
+        """The label of an event's answer, and the state after it."""
         step = plan.step(self.position, choice)
         check_fits(step.line, answer)
         number, seen, tracks = step.line.controller, dict(self.looks), dict(self.tracks)
@@ -150,7 +150,7 @@ class State:
                             medium)
 
     def _shared(self, looks: Looks, seen: Dict[str, str]) -> bytes:
-        """What stands for all that hosts share, where a command brings data of it."""
+        """What represents all that hosts share, where a command brings data of it."""
         return _digest(self.medium, *(seen.get(it, "").encode() for it in looks.shared))
 
 
@@ -160,7 +160,7 @@ def first_state(plan: Plan, told: Dict[str, str]) -> State:
 
 
 def _digest(*pieces: bytes) -> bytes:
-    """A number that stands for a history; pieces are told apart by their lengths."""
+    """A number that represents a history; pieces are distinguished by their lengths."""
     digest = hashlib.blake2b(digest_size=16)
     for piece in pieces:
         digest.update(len(piece).to_bytes(8, "little"))

@@ -17,7 +17,7 @@ Pair = Tuple[int, int]
 @dataclass(frozen=True)
 class Posted:
     """A completion that was not delivered: its request, its status, how many commands its queue had given by then, and
-    what stands for the data that it brings."""
+    what represents the data that it brings."""
 
     name: str
     text: str
@@ -86,7 +86,7 @@ class Track:
         return name, track if is_aborted else track._heard(name, dict(self.queues)[name])
 
     def _heard(self, name: str, queue: int) -> Track:
-        """The completion of a request was taken, which told how many commands were fetched."""
+        """The completion of a request was taken, which reported how many commands were fetched."""
         completions = [it for it in self.posted[queue] if it.name == name]
         rest = tuple(it for it in self.posted[queue] if it.name != name)
         taken = completions[0].taken if completions else self.heard[queue]

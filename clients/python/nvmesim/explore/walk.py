@@ -1,7 +1,7 @@
 """Walks all orders, and runs each event once from each state: what was met before is not run again.
 
-From a state the events that may come next are run, each in a branch of its own. Where one leads to a state that is
-known, the rest of it tells nothing new. Where two events commute, the second order of them is not run either: its
+From a state the events that may come next are run, each in a branch of its own. If one leads to a state that is
+known, the rest of it reports nothing new. If two events commute, the second order of them is not run either: its
 answers and its state are those of the first.
 """
 from __future__ import annotations
@@ -21,11 +21,11 @@ from .states import Looks, State, first_state
 
 @dataclass
 class Statistics:
-    """What an exploration took.
+    """The cost of an exploration.
 
     Attributes:
         states: states that were met.
-        positions: how far orders were, told apart by how many events of each part had come.
+        positions: how far orders were, distinguished by how many events of each part had come.
         events: events that were run.
         spared: events that were not run, since they commute with one that was.
         lines: lines that were sent.
@@ -50,11 +50,11 @@ class Node:
     """A state that was met: one order that leads to it, and what each choice gives.
 
     Attributes:
-        edges: what each choice gave: the label of its answer, and the state behind it.
+        edges: what each choice gave: the label of its answer, and the state after it.
         came_by: the choices that lead here, each with the state before it.
         left: how many choices were not begun.
         branch: a branch that waits here.
-        last: what looking lines told at the end of an order.
+        last: what looking lines reported at the end of an order.
     """
 
     state: State
@@ -96,8 +96,8 @@ class Walk:
             plan: the script with its parts.
             branches: what runs events.
             prefixes: the beginnings of the orders that are explored, all equally long.
-            jobs: so many events are run at once.
-            report: is told of what has been done, now and then.
+            jobs: the number of events that run at once.
+            report: is called with the progress, now and then.
             is_reduced: whether the second order of two events that commute is spared.
         """
         self.plan, self.branches, self.jobs, self.report = plan, branches, jobs, report
@@ -187,7 +187,7 @@ class Walk:
         self.statistics.most_live = max(self.statistics.most_live, self.branches.live)
 
     def _branch_at(self, node: Node) -> Branch:
-        """A branch at a state that may go on from there: the one that waits there, where nothing else wants it."""
+        """A branch at a state that may continue from there: the one that waits there, where nothing else wants it."""
         waiting = node.branch
         if waiting is None:
             return self.branches.begin([it.line.sent for it in self.plan.steps_of(node.path)])
@@ -233,7 +233,8 @@ class Walk:
             self._spare(*edge, (node, choice))
 
     def _meet(self, path: Order, state: State) -> Tuple[Node, bool]:
-        """The node of a state, and whether it is new. Prefixes are kept apart, since they may go on differently."""
+        """The node of a state, and whether it is new. Prefixes are distinct states, since they may continue
+        differently."""
         key: Key = state if len(path) >= self.depth else (path, state)
         node = self._nodes.get(key)
         if node is not None:
@@ -245,7 +246,7 @@ class Walk:
         return node, True
 
     def _arrive(self, node: Node, branch: Branch) -> None:
-        """Lets a branch wait at a new state, whose choices are to be begun. Where too many wait, the first one ends."""
+        """Lets a branch wait at a new state, whose choices come next. If too many wait, the first one ends."""
         choices = self._choices(node.path, node.state.position)
         node.left, node.branch = len(choices), branch
         self._waiting += [(node, it) for it in reversed(choices)]
@@ -258,7 +259,7 @@ class Walk:
 
     def _twin(self, node: Node, choice: Choice) -> Optional[Edge]:
         """The same two events in the other order, of which this choice is the second, where they commute: the state
-        behind this choice's event, and the other event."""
+        after this choice's event, and the other event."""
         if self._commuting is None:
             return None
         for before, other in node.came_by:

@@ -17,20 +17,20 @@ _FAULT = 2
 
 
 def add_arguments(parser: argparse.ArgumentParser) -> None:
-    """What the command takes beside the program."""
+    """The options of the command besides those of the program."""
     parser.description = ("A session at a terminal: a prompt with the history of its lines, help, and looks that say "
                           "in words what they show. Ctrl-D ends it.")
     parser.add_argument("image", metavar="IMAGE", nargs="?", default="-", help="a file whose blocks are the medium; "
                         "without it, and for -, 1,024 blocks of zeros in memory")
     parser.add_argument("--image", dest="is_meant", action="store_true",
-                        help="IMAGE is meant as one, also where it begins as a script does")
+                        help="IMAGE is meant as one, even if it begins like a script")
     parser.add_argument("script", metavar="SCRIPT", nargs="?", help="a script that is run first")
     parser.set_defaults(command=run)
 
 
 def run(words: argparse.Namespace) -> int:
     """Carries the command out; its exit status is the program's."""
-    # Ctrl-C forgets a line that is being typed, and nothing else: the program, which inherits this, goes on too.
+    # Ctrl-C only drops the line that is being typed; the program, which inherits this, continues too.
     signal.signal(signal.SIGINT, signal.SIG_IGN)
     talk = Talk(find_program(words.program), words.image, words.seconds, words.is_meant)
     try:

@@ -17,7 +17,7 @@ _PROTECTED = ("not write protected", "write protected", "write protected until a
 
 
 class Look(NamedTuple):
-    """A look: how it is written, how many words it has behind its own at least and at most, and what it shows."""
+    """A query: its syntax, the least and the greatest number of words after its own, and what it shows."""
 
     form: str
     counts: Tuple[int, int]

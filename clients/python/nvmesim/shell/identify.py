@@ -92,7 +92,7 @@ NAMESPACE: List[_Field] = [
 
 
 def identify_lines(cns: int, data: bytes) -> Iterator[str]:
-    """What an Identify of CNS 0, 1 or 2 tells: a line for each field that is not 0."""
+    """What an Identify of CNS 0, 1 or 2 reports: a line for each field that is not 0."""
     if cns == 2:
         listed = [int.from_bytes(data[n:n + 4], "little") for n in range(0, len(data), 4)]
         numbers = [str(it) for it in listed if it]

@@ -1,4 +1,4 @@
-"""The prompt: reads what is typed, has the program answer it, and answers what is about the session itself."""
+"""The prompt: sends typed lines to the program, and answers those about the session itself."""
 from __future__ import annotations
 
 import os
@@ -14,14 +14,14 @@ from .decoded import LOOKS, shown
 from .talk import Talk
 
 PROMPT = "> "
-"""What stands before a line that is typed."""
+"""The prompt."""
 
 _LINE = re.compile(r"\A! line [0-9]+ ")
 
 HELP = {
     "help": "help [WORD]        all lines, or how those are written that begin with WORD",
     "list": "list               what was typed before start, by its numbers",
-    "change": "change K LINE      before start: LINE in the place of line K",
+    "change": "change K LINE      before start: replace line K by LINE",
     "drop": "drop K             before start: without line K",
     "why": "why                what the last event and its answer mean",
     "save": "save FILE          write the session as a script, for nvmesim; FILE must not be there yet",
@@ -75,7 +75,7 @@ class Shell:
         answer = _LINE.sub(f"! line {self._count} ", self._talk.say(line))
         yield answer
         if answer.startswith("refused line"):
-            yield "what was typed is kept: list shows it, change K LINE and drop K mend it, and start tries it again"
+            yield "the lines are kept: list shows them, change K LINE and drop K fix them, and start tries again"
             if " DoesNotFit;" in answer and self._talk.is_in_memory:
                 yield "for more blocks than the 1,024 in memory: truncate -s 32M disk.img, and ./nvmelive disk.img"
 
@@ -102,7 +102,7 @@ class Shell:
             yield from (f"    {it}" for it in HELP.values())
 
     def _list(self, rest: List[str]) -> Iterator[str]:
-        _check(not rest, "list stands alone")
+        _check(not rest, "list takes no words")
         return (f"{n:>3}  {line}" for n, line in enumerate(self._talk.setup, 1))
 
     def _change(self, rest: List[str]) -> Iterator[str]:
@@ -110,7 +110,7 @@ class Shell:
         place = self._place(rest[0])
         before = list(self._talk.setup)
         self._talk.change(before[:place])
-        answer = self._talk.say(" ".join(rest[1:])) if rest[1:] != ["start"] else "! start stands alone"
+        answer = self._talk.say(" ".join(rest[1:])) if rest[1:] != ["start"] else "! start takes no words"
         if answer == "ok" and len(self._talk.setup) == place + 1:
             self._talk.change([*self._talk.setup, *before[place + 1:]])
         else:
@@ -131,7 +131,7 @@ class Shell:
         return int(word) - 1
 
     def _why(self, rest: List[str]) -> Iterator[str]:
-        _check(not rest, "why stands alone")
+        _check(not rest, "why takes no words")
         _check(bool(self._talk.events), "no event has happened yet")
         event, configuration = self._talk.events[-1], self._talk.configuration
         cause = event_cause(event, configuration, self._talk.look)
@@ -145,7 +145,7 @@ class Shell:
         yield f"{len(lines)} lines in {rest[0]}"
 
     def _quit(self, rest: List[str]) -> Iterator[str]:
-        _check(not rest, "quit stands alone")
+        _check(not rest, "quit takes no words")
         self.is_done = True
         return iter(())
 

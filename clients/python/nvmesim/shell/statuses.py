@@ -20,7 +20,7 @@ _FAILED = {
     Status.COMPARE_FAILURE: "the command was allowed, and the blocks differ from the data",
     Status.WRITE_FAULT: "the command was allowed, and the medium failed",
     Status.UNRECOVERED_READ_ERROR: "the command was allowed, and the medium failed",
-    Status.SUCCESSFUL_COMPLETION: "the command was carried out",
+    Status.SUCCESSFUL_COMPLETION: "the command was executed",
 }
 
 

@@ -29,7 +29,7 @@ class Talk:
             program: the program `nvmelive`.
             image: the image.
             seconds: how long an answer may take.
-            is_meant: whether the image is meant as one, also where it begins as a script does.
+            is_meant: whether the image is meant as one, also if it begins as a script does.
         """
         self._command: List[PathLike] = [program, *(["--image"] if is_meant else []), image]
         self._seconds = seconds

@@ -8,13 +8,13 @@ from ..looks import ReservationState
 from ..words import host_words
 
 Told = Tuple[int, int, ReservationState]
-"""What a look told behind an event: the event's number, the namespace, and its reservation."""
+"""The answer of a query after an event: the event's number, the namespace, and its reservation."""
 _Key = Tuple[int, int, str]
 
 
 @dataclass(frozen=True)
 class Band:
-    """A host is registered with a namespace, or holds its reservation, behind one event until another.
+    """A host is registered with a namespace, or holds its reservation, after one event until another.
 
     Attributes:
         nsid: the namespace.
@@ -38,7 +38,7 @@ class Band:
 
 
 def bands_of(told: Sequence[Told], last: int) -> List[Band]:
-    """The bands of all that was told, in order; `last` is the last event."""
+    """The bands of all that was reported, in order; `last` is the last event."""
     begun: Dict[_Key, int] = {}
     bands: List[Band] = []
     for number, nsid, state in told:

@@ -1,4 +1,4 @@
-"""The comments of a script as captions: what stands above the script, and above an event."""
+"""The comments of a script as captions: those above the script, and above each event."""
 from __future__ import annotations
 
 from typing import Dict, List, Sequence, Tuple

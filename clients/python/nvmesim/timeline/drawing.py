@@ -17,7 +17,7 @@ _TOUCHING = {IoOpcode.WRITE: "changes", IoOpcode.WRITE_ZEROES: "changes", IoOpco
 _VERBS = {"write": IoOpcode.WRITE, "zeroes": IoOpcode.WRITE_ZEROES, "read": IoOpcode.READ,
           "compare": IoOpcode.COMPARE, "flush": IoOpcode.FLUSH}
 MOST_WORDS = 112
-"""The most letters of a text beside an event, and of a caption."""
+"""The most letters of a text next to an event, and of a caption."""
 _FEW_WORDS = 44
 
 
@@ -58,7 +58,7 @@ class Part:
     def __init__(self, layout: Layout, events: Sequence[Event], texts: Sequence[Tuple[str, str]],
                  commands: Sequence[Command], captions: Optional[Dict[int, str]] = None,
                  bands: Sequence[Band] = ()) -> None:
-        """Draws `events`, each with its line and its meaning, of a picture with these commands; `captions` stand above
+        """Draws `events`, each with its line and its meaning, of a picture with these commands; `captions` are above
         events, by their numbers."""
         self.layout, self.events, self.texts = layout, events, texts
         self.first, self.last = events[0].number, events[-1].number
@@ -110,7 +110,7 @@ class Part:
                    f'<text x="{self.layout.text_left}" y="{y + 4}">{escape(shortened(text, MOST_WORDS))}</text></g>')
 
     def _rows(self) -> Iterator[str]:
-        """The rows: what takes the focus, and the words beside the lanes."""
+        """The rows: what takes the focus, and the words next to the lanes."""
         left = self.layout.text_left
         for event, (line, words) in zip(self.events, self.texts):
             y, top = self.y(event.number), self.y(event.number) - ROW / 2
@@ -136,7 +136,7 @@ class Part:
                    f'<title>{story}</title>{"".join(shapes)}</g>')
 
     def _within(self, begin: int, end: int) -> Tuple[float, float]:
-        """Where a span from one event to another lies in this part, from above to below."""
+        """The extent of a span from one event to another in this part."""
         top = self.y(begin) - 7 if begin >= self.first else float(HEAD)
         return top, (self.y(end) + 7 if end <= self.last else self.height - 4.0)
 
@@ -218,12 +218,12 @@ def _arrow(begin: float, end: float, y: float, kind: str) -> str:
 
 
 def is_denied(event: Event) -> bool:
-    """Whether an event tells of a command that a rule denied: its words are red and bold."""
+    """Whether an event is about a denied command: its words are red and bold."""
     return isinstance(event.answer, (Executed, Polled)) and any(it.is_denied for it in event.commands)
 
 
 def event_texts(event: Event, is_short: bool = False) -> Tuple[str, str]:
-    """What stands beside an event: its line, and in few words what came of it; of both less where `is_short`, but the
+    """The words next to an event: its line, and in few words what came of it; of both less where `is_short`, but the
     reason of a denial stays whole."""
     if is_short:
         line, words = event_texts(event)
@@ -237,7 +237,7 @@ def event_texts(event: Event, is_short: bool = False) -> Tuple[str, str]:
         rule = f", rule {command.rule.value}" if command.is_denied else ""
         return line, f"{command_label(command)}: {told}{rule}"
     if isinstance(answer, Rung) and event.commands:
-        return line, f"tells of {tickets_words(event.commands)}"
+        return line, f"notifies of {tickets_words(event.commands)}"
     if isinstance(answer, Fetched) and command is not None:
         return line, f"takes {command_label(command)}"
     if event.line.is_request and command is not None:
@@ -246,7 +246,7 @@ def event_texts(event: Event, is_short: bool = False) -> Tuple[str, str]:
 
 
 def _short_verdict(command: Command) -> str:
-    """What came of an execution; the status of a denied request stands beside its poll."""
+    """The result of an execution; the status of a denied request is next to its poll."""
     if command.is_denied and command.ticket is not None:
         return f"denied by {rule_words(command)}"
     return verdict_words(command)

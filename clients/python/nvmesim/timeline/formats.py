@@ -57,7 +57,7 @@ def svg(script: str, transcript: str, title: str, told: Sequence[Told] = ()) -> 
 
 
 def _inner(part: str) -> str:
-    """What stands in the element of a part."""
+    """The content of a part's element."""
     return part[part.index(">") + 1:part.rindex("</svg>")]
 
 

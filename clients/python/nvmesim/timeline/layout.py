@@ -1,4 +1,4 @@
-"""Where everything of a picture stands: lanes beside one another, events below one another, requests in their slots."""
+"""The layout of a picture: lanes side by side, events below one another, requests in their slots."""
 from __future__ import annotations
 
 from dataclasses import dataclass
@@ -19,7 +19,7 @@ ROWS_OF_A_PART = 36
 """The most events of one part: a part is not broken over pages."""
 _LETTER = 7.0
 _MANY_HOSTS = 6
-"""Beside more hosts than these the words stand left of the lanes, and are shorter."""
+"""With more hosts than these the words are left of the lanes, and shorter."""
 _BAR = 12
 _RULE = 42
 
@@ -43,7 +43,7 @@ class Lane:
 
 @dataclass(frozen=True)
 class Layout:
-    """Where the lanes are, and which slot of its host's lane each request has."""
+    """The positions of lanes, and the slot of each request in its host's lane."""
 
     hosts: Dict[int, Lane]
     controllers: Dict[int, Lane]
@@ -63,16 +63,16 @@ class Layout:
         return [*pairs, self.media, *self.access.values()]
 
     def band_left(self, band: Band) -> float:
-        """Where the band of a host begins in the lane of its namespace, from the left."""
+        """The left edge of a host's band in the lane of its namespace."""
         return self.access[band.nsid].left + 8 + _BAR * self.registered[band.nsid].index(band.host)
 
     def slot_left(self, command: Command) -> float:
-        """Where the span of a request begins, from the left."""
+        """The left edge of a request's span."""
         lane = self.hosts[command.controller]
         return lane.left + 6 + _BAR * self.slots.get(command, 0)
 
     def held_left(self, command: Command) -> float:
-        """Where the span of a fetched command begins in its controller's lane, from the left."""
+        """The left edge of a fetched command's span in its controller's lane."""
         return self.controllers[command.controller].left + 14 + _BAR * self.held.get(command, 0)
 
     def end_of(self, command: Command) -> int:
@@ -111,13 +111,13 @@ def _host_title(host: int, columns: int) -> str:
 
 
 def is_wide(configuration: Configuration) -> bool:
-    """Whether the words stand left of the lanes."""
+    """Whether the words are left of the lanes."""
     return len(configuration.hosts) > _MANY_HOSTS
 
 
 def lay_out(events: Sequence[Event], configuration: Configuration, texts: Sequence[str],
             bands: Sequence[Band] = ()) -> Layout:
-    """The layout of a picture whose events have these texts beside them."""
+    """The layout of a picture whose events have these texts next to them."""
     last, commands = len(events), commands_of(events)
     slots = _slots({it: (begin_of(it), it.polled or last) for it in commands if it.ticket is not None})
     held = _slots({it: (it.fetched, it.executed or it.reset or last) for it in commands if it.fetched is not None})

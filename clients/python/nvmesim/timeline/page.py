@@ -1,4 +1,4 @@
-"""Makes the page of a picture: one HTML file that needs nothing beside it."""
+"""Makes the page of a picture: one self-contained HTML file."""
 from __future__ import annotations
 
 import base64
@@ -15,11 +15,11 @@ from .picture import Picture, is_denial
 from .style import SCRIPT, STYLE
 
 MOST_INLINE = 1500
-"""The most events of a page whose parts all stand in it as they are."""
+"""The most events of a page that has all its parts uncompressed."""
 _FIRST_PARTS = 4
 _MOST_DENIED = 200
 _STATES = {
-    "done": "carried out", "denied": "denied by a rule", "failed": "failed", "aborted": "aborted",
+    "done": "done", "denied": "denied by a rule", "failed": "failed", "aborted": "aborted",
     "waiting": "without an answer",
 }
 
@@ -31,7 +31,7 @@ def timeline(script: str, transcript: str, title: str = "Timeline", told: Sequen
         script: the script's text.
         transcript: what `nvmesim` printed for it.
         title: the heading of the page.
-        told: what looks told of reservations, for the bands of who holds them and who is registered.
+        told: the answers of queries about reservations, for the bands of who holds them and who is registered.
 
     Raises:
         ScriptError: the script can't be read, or the two have different counts of events.
@@ -121,7 +121,7 @@ def _list_of(picture: Picture) -> str:
 
 _LEGEND = """<ul class="legend" aria-label="Legend">
 <li><svg width="14" height="20"><g class="command done"><rect class="span" x="2" y="1" width="9" height="18" rx="4"/>
-</g></svg> carried out</li>
+</g></svg> done</li>
 <li><svg width="18" height="20"><g class="command denied"><rect class="span" x="4" y="1" width="9" height="16"/>
 <path class="stop" d="M1 17h15"/></g></svg> denied: square, striped, with a bar</li>
 <li><svg width="18" height="20"><path class="cross" d="M2 3l14 14M2 17l14 -14"/></svg> stopped by a rule</li>

@@ -14,7 +14,7 @@ from .layout import ROWS_OF_A_PART, commands_of, is_wide, lay_out
 
 
 _BOLDER = 5
-"""Bold words are longer than others by one letter in so many."""
+"""Bold words are longer by one letter in this many."""
 
 
 class Picture:
@@ -24,13 +24,13 @@ class Picture:
         head: the comments before `start`, in one text.
         events: the events.
         commands: all commands.
-        texts: what stands beside each event: its line, and what came of it.
+        texts: the words next to each event: its line, and its result.
         parts: the parts, from above to below.
     """
 
     def __init__(self, script: str, transcript: str, told: Sequence[Told] = (), begin: int = 1,
                  is_short: bool = False) -> None:
-        """Lays it out; events before `begin` are not drawn, and the words beside events are short where `is_short`.
+        """Lays it out; events before `begin` are not drawn, and the words next to events are short if `is_short`.
 
         Raises:
             ScriptError: the script can't be read, or the two have different counts of events.

@@ -1,4 +1,4 @@
-"""Runs a script and looks at the reservations behind each event that may change them."""
+"""Runs a script and looks at the reservations after each event that may change them."""
 from __future__ import annotations
 
 from typing import Dict, List, Tuple
