@@ -10,7 +10,7 @@ from nvmelab.faults import LabFault
 
 @dataclass(frozen=True)
 class Keeping:
-    """A script that is to be kept, by its whole path."""
+    """Where a script is kept, by its whole path."""
     path: str
     is_forced: bool
 

@@ -28,7 +28,7 @@ class Subsystem:
         os.set_blocking(self.process.stdin.fileno(), False)
 
     def start(self, configuration: Configuration, name: str, keeping: Optional[Keeping] = None) -> None:
-        """Describes the subsystem and starts it. Where that fails no script is begun."""
+        """Describes the subsystem and starts it. If that fails, no script is begun."""
         lines = [*configuration.handed, "start"]
         for line, answer in zip(lines, self.ask(lines, seconds=None)):
             if answer not in ("ok", "started"):
