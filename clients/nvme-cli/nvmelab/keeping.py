@@ -10,7 +10,7 @@ from nvmelab.faults import LabFault
 
 @dataclass(frozen=True)
 class Keeping:
-    """Where a script is kept, by its whole path."""
+    """The place of a kept script: its whole path."""
     path: str
     is_forced: bool
 
