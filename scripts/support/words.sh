@@ -70,7 +70,7 @@ refuse_script_as_image() {
 judge_words() {
     local first=${words[0]-}
     if [ -n "$is_meant" ]; then
-        # This program judges its image too, and receives that it is meant.
+        # This program judges its image too, so it gets the option.
         [ "$name" != nvmelive ] || words=(--image "${words[@]}")
     elif [ ${#words[@]} -eq 2 ]; then
         refuse_script_as_image "$first"

@@ -6,7 +6,9 @@ import shutil
 import subprocess
 import sys
 import tempfile
+import time
 import unittest
+from pathlib import Path
 
 from .support import AGENT, CLIENTS, HERE, LIVE
 
@@ -53,6 +55,10 @@ class LabTest(unittest.TestCase):
             done = subprocess.run([str(LAB), "--host", "0xa1", str(CONFIG), "--", "sh", "-c",
                                    f"exec 2>&1\n{head}{text}"], stdin=subprocess.DEVNULL, stdout=subprocess.PIPE,
                                   stderr=subprocess.STDOUT, text=True, env={**os.environ, "TMPDIR": place}, timeout=300)
+            # The server removes the lab's folder a moment after the shell has ended.
+            limit = time.monotonic() + 30
+            while any(it.is_dir() for it in Path(place).glob("nvme-lab-*/*")) and time.monotonic() < limit:
+                time.sleep(0.05)
         return done.stdout
 
     def test_fencing(self) -> None:

@@ -110,7 +110,7 @@ class Connection:
             self.come += came
 
     def pdu(self, kind: int, header: bytes, data: bytes = b"", flags: int = 0) -> bytes:
-        """A PDU with the digests that were agreed on; `header` is what is after the eight bytes of all."""
+        """A PDU with the digests that were agreed on; `header` follows the eight common bytes."""
         size = 8 + len(header)
         place = size + (4 if self.digests & 1 else 0)
         flags |= (1 if self.digests & 1 else 0) | (2 if data and self.digests & 2 else 0)

@@ -3,7 +3,7 @@
  * It is loaded before the C library (LD_PRELOAD). The explorer gives the program a Unix stream socket as standard input
  * and output. What it sends together with file descriptors is no input, but the word to fork: the child has the first
  * descriptor, a socket of its own, as standard input and output, and the second, if there is one, instead of every
- * regular file that is open after standard error, which is its image. The parent continues waiting. Each process says
+ * regular file above standard error, which is its image. The parent continues to wait. Each process says
  * its number on its socket before it reads, after a byte 0, which begins no answer. If the explorer has gone, a read
  * gives the end of the input: the first program ends as it does at the end of any input, a child at once.
  *

@@ -94,7 +94,7 @@ def pairs_of(node: ast.Compare) -> Iterator[Tuple[ast.expr, Any]]:
 
 
 def is_hexadecimal(text: Any) -> bool:
-    """Whether bytes can be reported so: digits of lower case, without zeros at the end."""
+    """Whether bytes can be shown so: lower-case digits, without zeros at the end."""
     return not isinstance(text, str) or _HEX.match(text) is not None
 
 

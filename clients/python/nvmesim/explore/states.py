@@ -4,7 +4,7 @@ A state is what the looking lines tell: reservations, attachments, blocks; of ea
 fetched commands and driver. It also has the requests on their way, by the names of their lines, since the window that
 holds their commands and data is not looked at: a line says what its request stores, and for data that a command brings
 is what all hosts shared when it was executed. A raw host may store anything, so all that happened to its controller
-represents it. Two states that are reported the same continue in the same way, with equal answers to equal events.
+represents it. Two states with equal descriptions continue in the same way, with equal answers to equal events.
 """
 from __future__ import annotations
 
