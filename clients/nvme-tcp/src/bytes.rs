@@ -23,7 +23,7 @@ pub fn put(bytes: &mut [u8], at: usize, part: &[u8]) {
     bytes[at..at + part.len()].copy_from_slice(part);
 }
 
-/// A text of a field with a fixed size: what stands before the first zero.
+/// A text of a field with a fixed size: the bytes before the first zero.
 pub fn text_of(field: &[u8]) -> &[u8] {
     field.split(|byte| *byte == 0).next().unwrap_or(field)
 }

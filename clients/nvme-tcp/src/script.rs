@@ -13,20 +13,20 @@ use std::fs::File;
 use std::hash::{BuildHasherDefault, Hasher};
 use std::io;
 
-/// Lines of so many bytes are a piece, which goes to the file before the next are there.
+/// The bytes of a batch of lines, which is written to the file before the next one is complete.
 const PIECE: usize = 256 << 10;
-/// Lines of so many bytes are a piece too where fewer than these are under way, so that those that write have work.
+/// The bytes of an early batch: fewer than FEW batches are being written, and the writing threads need work.
 const EARLY: usize = 64 << 10;
 const FEW: u64 = 3;
 /// How many bytes the line of an event has, about, without bytes that were stored.
 const LINE: usize = 20;
-/// Behind so many calls of `rest` without an event the files give back the room that is left over.
+/// The number of calls of `rest` without an event after which the files give back reserved disk space.
 const QUIET: u32 = 10;
 
 /// An event, and what it gave.
 #[derive(Clone, Copy, PartialEq, Eq, Hash)]
 enum Event {
-    /// So many bytes were stored from an address on.
+    /// `count` bytes were stored from an address on.
     Stored {
         cntlid: u16,
         address: u64,
@@ -210,7 +210,7 @@ impl Piece for Events {
         kept.write_first(made.lines()?)
     }
 
-    /// Where there are none, the files give back the room that is left over.
+    /// If there are none, the files give back disk space that they have reserved.
     fn write(&mut self, made: &Lines, next: Option<&Lines>, kept: &mut Kept) -> io::Result<()> {
         kept.write(made.lines()?, made.gave(), next.map(Lines::lines).transpose()?)?;
         if self.list.is_empty() {
@@ -269,8 +269,8 @@ impl Script {
         self.events.list.push(Event::PowerCycle);
     }
 
-    /// Hands all lines to the system, or has that begun: so many pieces are done when it has them. `is_awaited` says that
-    /// nothing is done before.
+    /// Hands all lines to the system, or begins to. Returns the number of batches that are done once the system has
+    /// them. `is_awaited` says that nothing else is done before.
     pub fn begin(&mut self, is_awaited: bool) -> Outcome<u64> {
         if !self.events.list.is_empty() {
             self.quiet = Some(0);
@@ -301,12 +301,12 @@ impl Script {
         self.files.under_way().map_err(Fault::Script)
     }
 
-    /// How many pieces are done.
+    /// The number of batches that are done.
     pub fn done(&self) -> Outcome<u64> {
         self.files.done().map_err(Fault::Script)
     }
 
-    /// Waits until so many pieces are done.
+    /// Waits until `count` batches are done.
     pub fn wait_for(&self, count: u64) -> Outcome<()> {
         self.files.wait_for(count).map_err(Fault::Script)
     }

@@ -11,7 +11,7 @@ TOP_SCRIPTS = ("nvmesim", "nvmelive", "nvmetcp")
 # What builds make, and sources that have the words themselves or are not rewritten yet.
 MADE = {"out", "target", "build", "__pycache__"}
 EXEMPT = ("scripts/support/documents/wording.py", "scripts/support/documents/selftest.py",
-          "scripts/support/documents/spellings.py", "clients/nvme-tcp/src/script.rs", "clients/nvme-tcp/src/bytes.rs")
+          "scripts/support/documents/spellings.py")
 # A comment line by its language. The text before it is code.
 LEADS = {"c": re.compile(r"^\s*(?://[/!]?|/\*+|\*(?!/))(?:\s(.*?))?(?:\*/)?$"), "sh": re.compile(r"^\s*#(?!!)(?:\s(.*))?$")}
 # A comment quotes texts of the programs, and docstrings have names of parameters.
