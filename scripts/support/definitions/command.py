@@ -26,7 +26,8 @@ def words_of(given):
     parser.add_argument("--only", default="", metavar="WORD", help="those whose name has this word: file, definition or rule")
     parser.add_argument("--sample", type=int, default=0, metavar="N", help="N of them, chosen by the seed")
     parser.add_argument("--seed", default="0", metavar="WORD", help="what chooses the sample")
-    parser.add_argument("--first", default="nvme_premises", metavar="NAMES", help="the crates above that are asked first")
+    parser.add_argument("--first", default="nvme_premises,nvme_theorem_runs", metavar="NAMES",
+                        help="the crates above that are asked first")
     parser.add_argument("--jobs", type=int, default=1, metavar="N", help="try N at once")
     parser.add_argument("--list", action="store_true", help="print them, and try none")
     return parser.parse_args(given)
