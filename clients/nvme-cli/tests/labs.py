@@ -111,7 +111,7 @@ def images(bench: Bench) -> None:
 
 def outputs(bench: Bench) -> None:
     """A script replaces no file without --force, and never one that the lab reads; two labs don't write one script."""
-    config, image, kept, link, hard = (bench.place / it for it in ("its.nvme", "its.img", "kept.nvme", "link", "hard"))
+    config, image, kept, link, hard = (bench.place / it for it in ("its.nvme", "its.img", "its-kept.nvme", "link", "hard"))
     config.write_text("controller 1 host 1\nnamespace 1 blocks 8 shared\nattached 1 1\n")
     image.write_bytes(b"\1" * 4096)
     kept.write_text("mine\n")
