@@ -15,7 +15,7 @@ class Keeping:
     is_forced: bool
 
     def check(self, inputs: List[str]) -> None:
-        """Refuses a file that must not be replaced: one of the lab's inputs, no regular file, or any without --force."""
+        """Refuses a file that must not be replaced: an input of the lab, no regular file, or any without --force."""
         found = self.status()
         if found is None:
             return

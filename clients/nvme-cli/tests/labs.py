@@ -111,7 +111,8 @@ def images(bench: Bench) -> None:
 
 def outputs(bench: Bench) -> None:
     """A script replaces no file without --force, and never one that the lab reads; two labs don't write one script."""
-    config, image, kept, link, hard = (bench.place / it for it in ("its.nvme", "its.img", "kept.nvme", "link", "hard"))
+    config, image, kept, link, hard = (bench.place / it for it in
+                                       ("its.nvme", "its.img", "its-kept.nvme", "link", "hard"))
     config.write_text("controller 1 host 1\nnamespace 1 blocks 8 shared\nattached 1 1\n")
     image.write_bytes(b"\1" * 4096)
     kept.write_text("mine\n")
@@ -119,8 +120,8 @@ def outputs(bench: Bench) -> None:
     os.link(config, hard)
     before = {it: it.read_bytes() for it in (config, image, kept)}
     expect_fault(bench, ["--script", str(kept)], f"{kept} exists; --force replaces it", config=config)
-    expect_fault(bench, ["--script", str(bench.place), "--force"], f"{bench.place} is no regular file, and is not written",
-                 config=config)
+    expect_fault(bench, ["--script", str(bench.place), "--force"],
+                 f"{bench.place} is no regular file, and is not written", config=config)
     for script in (image, config, link, hard):
         for force in ([], ["--force"]):
             expect_fault(bench, ["--image", str(image), "--script", str(script), *force],
@@ -135,7 +136,7 @@ def outputs(bench: Bench) -> None:
     with bench.held([*script, "--force"], config):
         check_is("one that joins, by the same script", bench.run(["true"], script, config).status, 0)
         expect_fault(bench, [*script, "--force"], f"{kept} is in use: another program has it locked")
-    check_is("the first line of a script that was replaced", kept.read_text().split("\n")[0], "controller 1 host 0x1 raw")
+    check_is("the first line of a replaced script", kept.read_text().split("\n")[0], "controller 1 host 0x1 raw")
 
 
 def kept_and_run_again(bench: Bench, drivers: "list[str]") -> None:
@@ -324,5 +325,5 @@ def without_python(bench: Bench) -> None:
     expect_fault(without, [], "there is no python3: Python 3.9 or later is needed")
 
 
-TRIALS = (lasting, shells, images, outputs, kept_and_explored, disks, power_cycles, undisturbed, faults, without_compiler,
-          without_python)
+TRIALS = (lasting, shells, images, outputs, kept_and_explored, disks, power_cycles, undisturbed, faults,
+          without_compiler, without_python)

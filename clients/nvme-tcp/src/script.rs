@@ -87,8 +87,8 @@ fn put_answer(event: &nvmesim::Event<'_>, answered: &Answered, gave: &mut Output
     gave.fill(MOST_OF_LINE, |room| answer_line(event, answered, room))
 }
 
-/// The lines of events that store nothing, and what they give. These come again and again, and to ask the library for each
-/// would take longer than the rest.
+/// The lines of events that store nothing, and what they give. These repeat, and to ask the library for each would take
+/// longer than the rest.
 #[derive(Default)]
 struct Known(HashMap<Event, [Output; 2], BuildHasherDefault<Quick>>);
 
