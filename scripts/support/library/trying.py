@@ -86,7 +86,7 @@ class Trial:
         problems = []
         with open(held, "rb") as file:
             fcntl.flock(file, fcntl.LOCK_EX)
-            for path, said in (other, "it has not 32768 bytes"), (held, "Resource temporarily unavailable"):
+            for path, said in (other, "it does not have 32768 bytes"), (held, "Resource temporarily unavailable"):
                 before = path.read_bytes()
                 status, text = self.run([self.room / "image", path])
                 if status != 1 or text != f"{path}: {said}\n" or path.read_bytes() != before:
