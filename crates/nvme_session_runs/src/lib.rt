@@ -1,5 +1,5 @@
-//! Example runs of the theorems about sessions, and about both layers of a fleet: for each a small one in which its
-//! premises hold and its conclusion says something, and one that shows that it is false without a premise.
+//! Example runs of theorems about sessions, and about both layers of a fleet: small computed runs in which the premises
+//! of a theorem hold and its conclusion says something, and for most one that shows that it is false without a premise.
 #![tactic(auto)]
 
 mod layers;

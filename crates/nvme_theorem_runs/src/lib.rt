@@ -1,6 +1,5 @@
-//! Example runs of the theorems: for each a small run in which its premises hold and its conclusion says something,
-//! and one that shows that it is false without a premise. They are computed, so a premise that held of no event, or of
-//! each, would break one of them.
+//! Example runs of theorems: small computed runs in which the premises of a theorem hold and its conclusion says
+//! something, and for most theorems one that shows that it is false without a premise.
 #![tactic(auto)]
 
 mod drivers;
