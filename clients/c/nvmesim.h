@@ -29,7 +29,7 @@ extern "C" {
 #endif
 
 /* The version of this interface, which nvmesim_open compares with the library's. */
-#define NVMESIM_VERSION 2
+#define NVMESIM_VERSION 3
 
 /* A subsystem that is open, or none. */
 typedef struct nvmesim {
@@ -55,12 +55,12 @@ enum {
     NVMESIM_CLOSED = 16,        /* no subsystem is open */
     NVMESIM_NO_CONTROLLER = 17, /* there is no such controller */
     NVMESIM_OUTSIDE = 18,       /* some bytes are outside the memory, or some blocks outside the namespace */
-    NVMESIM_NOT_WHOLE = 19,     /* the bytes are no whole number of blocks */
+    NVMESIM_NOT_WHOLE = 19,     /* the bytes are not a whole number of blocks */
     NVMESIM_MEDIUM_FAULT = 20,  /* the medium failed */
     NVMESIM_BAD_VERSION = 21,   /* the caller's header is of another version */
     NVMESIM_ALREADY_OPEN = 22,  /* a subsystem is open already */
     NVMESIM_BAD_ID = 23,        /* an identifier of the configuration is wrong */
-    NVMESIM_BAD_SIZE = 24,      /* a namespace has no blocks, or more than 65,536 */
+    NVMESIM_BAD_SIZE = 24,      /* a namespace has no blocks, or more than the limit */
     NVMESIM_TOO_MANY = 25,      /* more than 16 controllers, 8 namespaces or 128 attachments */
     NVMESIM_DOES_NOT_FIT = 26,  /* the namespaces have more blocks together than the medium */
     NVMESIM_NO_MEMORY = 27,     /* memory was refused */
@@ -71,8 +71,8 @@ enum {
     NVMESIM_NO_REGISTRANT = 32, /* there is no such registrant */
     NVMESIM_NO_ROOM = 33,       /* the buffer is too short for the text, or the array for the values */
     NVMESIM_NO_LINE = 34,       /* there is no such line, or it does not begin with `?` */
-    NVMESIM_BAD_LINE = 35,      /* a line is no line of a script, or is not allowed at its place */
-    NVMESIM_HAS_EVENT = 36,     /* a line of the text is an event, and a configuration has none */
+    NVMESIM_BAD_LINE = 35,      /* a line is not a line of a script, or is not allowed at its place */
+    NVMESIM_HAS_EVENT = 36,     /* a line of the text is an event, which a configuration can't have */
     NVMESIM_EMPTY = 37,         /* the configuration has no controller */
     NVMESIM_TOO_LONG = 38       /* the text has more than 4,194,304 bytes */
 };
@@ -106,7 +106,7 @@ typedef struct nvmesim_controller {
 
 /* A namespace. */
 typedef struct nvmesim_namespace {
-    uint64_t blocks; /* of 512 bytes each, 1 to 65,536 */
+    uint64_t blocks; /* of 512 bytes each, at least 1 */
     uint32_t nsid;   /* 1 to 8 */
     bool shared;     /* whether more than one controller may be attached at a time */
 } nvmesim_namespace;
@@ -127,7 +127,7 @@ typedef struct nvmesim_bytes {
 typedef struct nvmesim_queue {
     uint64_t base; /* its address in the memory of the host */
     uint32_t what; /* NVMESIM_OK, or why there is none */
-    uint16_t size; /* how many entries it has */
+    uint16_t size; /* the number of entries */
     uint16_t head; /* the slot of the next command to fetch, or of the first completion that is not consumed */
     uint16_t tail; /* the slot after the last command, or that of the next completion */
     uint16_t cqid; /* the completion queue: itself, or that of a submission queue's completions */
@@ -136,7 +136,7 @@ typedef struct nvmesim_queue {
 
 /* A command that was fetched and not executed. */
 typedef struct nvmesim_command {
-    size_t count;      /* how many there are, whether this is one or not */
+    size_t count;      /* the number of such commands, whether this is one or not */
     uint32_t what;     /* NVMESIM_OK, or why there is none */
     uint16_t qid;      /* its submission queue */
     bool marked;       /* whether a Preempt and Abort has marked it: it will be aborted */
@@ -164,7 +164,7 @@ typedef struct nvmesim_needed {
 typedef struct nvmesim_hold {
     uint64_t host_low;   /* the one host that holds it, its lower 64 bits: 0 if none does, */
     uint64_t host_high;  /* and under types 5 and 6, since every registrant holds it */
-    size_t registrants;  /* how many hosts are registered */
+    size_t registrants;  /* the number of registered hosts */
     uint32_t what;       /* NVMESIM_OK, or why there is none */
     uint32_t generation; /* the generation counter, PRgeneration */
     uint32_t protection; /* the write protection of the namespace: 0 none, 1 protected, 2 that until a power cycle */
@@ -179,6 +179,45 @@ typedef struct nvmesim_registered {
     uint64_t key;  /* its reservation key */
     uint32_t what; /* NVMESIM_OK, or why there is none */
 } nvmesim_registered;
+
+/* How the reservation of a namespace concerns the host of a controller. */
+typedef struct nvmesim_host_view {
+    uint32_t what;      /* NVMESIM_OK, or why there is none */
+    uint8_t rtype;      /* the reservation type, 1 to 6, or 0 if none holds it */
+    bool is_registrant; /* whether the host is registered */
+} nvmesim_host_view;
+
+/* The action of a reservation command, of a nvmesim_change. */
+enum {
+    NVMESIM_ACTION_REGISTER = 0, /* each action of Reservation Register */
+    NVMESIM_ACTION_ACQUIRE = 1,  /* Reservation Acquire: Acquire */
+    NVMESIM_ACTION_PREEMPT = 2,  /* Preempt, and Preempt and Abort */
+    NVMESIM_ACTION_RELEASE = 3,  /* Reservation Release: Release */
+    NVMESIM_ACTION_CLEAR = 4     /* Clear */
+};
+
+/* A reservation command that has succeeded. */
+typedef struct nvmesim_change {
+    uint32_t nsid;
+    uint32_t action; /* one of NVMESIM_ACTION_REGISTER .. */
+    uint16_t issuer; /* the controller that has executed it */
+} nvmesim_change;
+
+/* A reservation notification. */
+typedef struct nvmesim_notice {
+    uint64_t count; /* the Log Page Count */
+    uint32_t nsid;
+    uint8_t kind;   /* 1 Registration Preempted, 2 Reservation Released, 3 Reservation Preempted */
+} nvmesim_notice;
+
+/* The reservation notifications of a controller: their masks, and those that its host has not read. Only the calls
+ * below write it. Zeros are a controller after a reset, and what it begins with. */
+typedef struct nvmesim_notices {
+    uint64_t count;
+    nvmesim_notice places[64];
+    uint32_t masks[8];
+    uint32_t kept;
+} nvmesim_notices;
 
 /* An event of a script. Fields that its kind does not have are ignored. */
 typedef struct nvmesim_event {
@@ -197,7 +236,7 @@ typedef struct nvmesim_written {
 
 /* The result of parsing a configuration. */
 typedef struct nvmesim_read {
-    size_t controllers; /* how many are at the front of their array; 0 if it is refused, here and below */
+    size_t controllers; /* the number at the front of their array; 0 if it is refused, here and below */
     size_t namespaces;
     size_t attached;
     size_t line;   /* the number of the line at fault, from 1; 0 if none is */
@@ -209,18 +248,23 @@ typedef struct nvmesim_read {
 /* The version of the library. */
 uint32_t nvmesim_version(void);
 
-/* Opens a subsystem over a copy of the whole blocks of these bytes. The namespaces occupy them one after the other, in
- * the order of their array. NVMESIM_OK; or BAD_VERSION, ALREADY_OPEN, the first fault of the configuration, or
- * NO_MEMORY, and then nothing has changed. */
-uint32_t nvmesim_open(nvmesim *sim, uint32_t version, const nvmesim_controller *controllers, size_t controller_count,
-                      const nvmesim_namespace *namespaces, size_t namespace_count, const nvmesim_attached *attached,
-                      size_t attached_count, const uint8_t *bytes, size_t byte_count);
+/* Limits of a namespace's blocks, for the calls below: that of scripts, and none. */
+#define NVMESIM_SCRIPT_BLOCKS UINT64_C(65536)
+#define NVMESIM_ANY_SIZE UINT64_MAX
 
-/* The same over the bytes themselves, without a copy: they are borrowed until nvmesim_close, and what a command
- * writes is in them when its nvmesim_execute returns. Unless this answers NVMESIM_OK, they are unchanged, and yours
- * again. A Flush calls nothing, since memory has nothing to flush: if the bytes are a file's (mmap), sync it when a
+/* Opens a subsystem over a copy of the whole blocks of these bytes. The namespaces occupy them one after the other, in
+ * the order of their array, and have at most max_blocks blocks each. NVMESIM_OK; or BAD_VERSION, ALREADY_OPEN, the
+ * first fault of the configuration, or NO_MEMORY, and then nothing has changed. */
+uint32_t nvmesim_open(nvmesim *sim, uint32_t version, uint64_t max_blocks, const nvmesim_controller *controllers,
+                      size_t controller_count, const nvmesim_namespace *namespaces, size_t namespace_count,
+                      const nvmesim_attached *attached, size_t attached_count, const uint8_t *bytes,
+                      size_t byte_count);
+
+/* Opens a subsystem over the bytes themselves, without a copy: they are borrowed until nvmesim_close, and have what a
+ * command writes when its nvmesim_execute returns. Unless this returns NVMESIM_OK, they are unchanged, and yours again.
+ * A Flush calls nothing, since memory has nothing to flush: if the bytes are a file's (mmap), sync it when a
  * Flush was executed (opcode 00h on an I/O queue), before you return the completion. */
-uint32_t nvmesim_open_lent(nvmesim *sim, uint32_t version, const nvmesim_controller *controllers,
+uint32_t nvmesim_open_lent(nvmesim *sim, uint32_t version, uint64_t max_blocks, const nvmesim_controller *controllers,
                            size_t controller_count, const nvmesim_namespace *namespaces, size_t namespace_count,
                            const nvmesim_attached *attached, size_t attached_count, nvmesim_bytes bytes);
 
@@ -230,18 +274,19 @@ void nvmesim_close(nvmesim *sim);
 /* The host of a controller stores bytes in its memory, which has 4 MiB: STORED, or OUTSIDE, NO_CONTROLLER, CLOSED. */
 nvmesim_answer nvmesim_store(nvmesim *sim, uint16_t cntlid, uint64_t address, const uint8_t *bytes, size_t count);
 
-/* It writes a register of its controller, such as CC (14h) or a doorbell (1000h on): WROTE, or NO_CONTROLLER, CLOSED.
+/* The host of a controller writes a register, such as CC (14h) or a doorbell (1000h on): WROTE, or NO_CONTROLLER,
+ * CLOSED.
  * A write at an offset without a register changes nothing. */
 nvmesim_answer nvmesim_write32(nvmesim *sim, uint16_t cntlid, uint64_t offset, uint32_t value);
 
-/* It reads a register: VALUE, with the value, which is 0 if there is no register; or NO_CONTROLLER, CLOSED. */
+/* The host reads a register: VALUE, with the value, which is 0 if there is no register; or NO_CONTROLLER, CLOSED. */
 nvmesim_answer nvmesim_read32(nvmesim *sim, uint16_t cntlid, uint64_t offset);
 
 /* A controller fetches the next command of a submission queue: TOOK, or IDLE; or NO_CONTROLLER, CLOSED. */
 nvmesim_answer nvmesim_fetch(nvmesim *sim, uint16_t cntlid, uint16_t qid);
 
-/* It executes the i-th, from 0, of the commands that it has fetched and not executed: POSTED, with the status; NO_SUCH,
- * CQ_FULL; or NO_CONTROLLER, CLOSED. */
+/* A controller executes the i-th, from 0, of the commands that it has fetched and not executed: POSTED, with the
+ * status; NO_SUCH, CQ_FULL; or NO_CONTROLLER, CLOSED. */
 nvmesim_answer nvmesim_execute(nvmesim *sim, uint16_t cntlid, size_t i);
 
 /* One command from its entry (64 bytes) to its completion queue entry (16 bytes), if the order of events does not
@@ -262,7 +307,7 @@ uint32_t nvmesim_load(nvmesim *sim, uint16_t cntlid, uint64_t address, uint8_t *
  * NOT_WHOLE, CLOSED, and nothing is written; or MEDIUM_FAULT. */
 uint32_t nvmesim_read_blocks(nvmesim *sim, uint32_t nsid, uint64_t slba, uint8_t *bytes, size_t count);
 
-/* The calls below are queries, and change nothing. */
+/* The calls below are queries of the subsystem, and do not change it. */
 
 /* A submission and a completion queue of a controller, 0 to 4: OK, NO_QUEUE, NO_CONTROLLER, CLOSED. */
 nvmesim_queue nvmesim_submission_queue(nvmesim *sim, uint16_t cntlid, uint16_t qid);
@@ -274,8 +319,8 @@ nvmesim_command nvmesim_fetched(nvmesim *sim, uint16_t cntlid, size_t i);
 
 /* What the i-th, from 0, of these commands needs of the medium, if it is executed now: OK, NO_SUCH, NO_CONTROLLER,
  * CLOSED. Its execution makes no other calls. Other events may change a need: a reservation command of another host, for
- * example, so that a rule then denies the command. What was needed just before an execution and its answer say what it
- * did:
+ * example, so that a rule then denies the command. What was needed just before an execution, and its answer, determine
+ * its calls:
  *  - Status 0:00: all that was needed, each block once.
  *  - 2:80 (Write Fault): the write of a block failed, and each block before it is written; or the flush failed.
  *  - 2:81 (Unrecovered Read Error): the read of a block failed. 2:85 (Compare Failure): a block differs. Each block
@@ -293,6 +338,30 @@ nvmesim_hold nvmesim_reservation(nvmesim *sim, uint32_t nsid);
  * CLOSED. */
 nvmesim_registered nvmesim_registrant(nvmesim *sim, uint32_t nsid, size_t i);
 
+/* How the reservation of a namespace concerns the host of a controller: OK, NO_CONTROLLER, NO_NAMESPACE, CLOSED. */
+nvmesim_host_view nvmesim_view(nvmesim *sim, uint32_t nsid, uint16_t cntlid);
+
+/* Adds to the notices of a controller what it gets of a reservation command, after the command, if it gets anything: if
+ * its host is notified of the change from `before`, its view before the command, to its view now, and the
+ * namespace is attached to the controller and the type is not masked. If 64 notices are kept, the new one is lost, and
+ * the last of them gets its Log Page Count. OK, with a notice or without; or OUTSIDE if there is no such action,
+ * NO_CONTROLLER, NO_NAMESPACE, CLOSED, and nothing has changed. */
+uint32_t nvmesim_notify(nvmesim *sim, nvmesim_notices *notices, uint16_t cntlid, const nvmesim_change *change,
+                        const nvmesim_host_view *before);
+
+/* The calls on notices below need no subsystem. */
+
+/* Reservation Notification Mask of a namespace, 1 to 8: its value, 0 if there is no such namespace. It is set by double
+ * word 11: OK, or NO_NAMESPACE. */
+uint32_t nvmesim_notice_mask(const nvmesim_notices *notices, uint32_t nsid);
+uint32_t nvmesim_set_notice_mask(nvmesim_notices *notices, uint32_t nsid, uint32_t dw11);
+
+/* The number of notices that were not taken, the Reservation Notification log page (64 bytes) of the oldest, or zeros,
+ * and the removal of the oldest. */
+uint32_t nvmesim_count_notices(const nvmesim_notices *notices);
+void nvmesim_notice_page(const nvmesim_notices *notices, uint8_t *page);
+void nvmesim_take_notice(nvmesim_notices *notices);
+
 /* The standard's name of a status, as "Reservation Conflict" for 0 and 83h, or "Unlisted" for one that no command
  * answers: as many of its bytes as fit into the buffer, then zeros. The result is the length of the name, at most
  * 47. */
@@ -301,20 +370,20 @@ size_t nvmesim_status_name(uint8_t sct, uint8_t sc, uint8_t *bytes, size_t count
 /* The calls below are about texts: configurations, scripts, transcripts and sessions, as the programs read and write
  * them. Texts are not NUL-terminated, and each line that is written to a buffer ends with a line feed. */
 
-/* Parses a configuration, the lines of a script before its `start`, and checks it for a medium of medium_blocks blocks.
- * `start` may be missing, and only blank lines and comments may follow it. Arrays of 16, 8 and 128 values suffice for
- * each configuration that is accepted, and 512 bytes for most reasons.
+/* Parses a configuration, the lines of a script before its `start`, and checks it for a medium of medium_blocks blocks
+ * and namespaces of at most max_blocks blocks. `start` may be missing, and only blank lines and comments may follow it.
+ * Arrays of 16, 8 and 128 values suffice for each configuration that is accepted, and 512 bytes for most reasons.
  *
  * NVMESIM_OK, and the arrays begin with what nvmesim_open takes. Or, in this order: TOO_LONG; BAD_LINE, of the first
  * line that is no line of a script or is not allowed at its place; TOO_MANY, BAD_ID, BAD_SIZE, DOES_NOT_FIT, of the
  * first line that breaks the rule; HAS_EVENT, of the first event; EMPTY; or NO_ROOM if an array is too short. NO_MEMORY
  * may come instead of each. The arrays are then unchanged, and the reason is written to its buffer if it fits: what the
- * programs print after the name of the file and a colon, such as "3:9: word 2: C, a number below 2^16, and not 'a'". */
-nvmesim_read nvmesim_read_configuration(const uint8_t *text, size_t text_count, uint64_t medium_blocks,
-                                        nvmesim_controller *controllers, size_t controller_count,
-                                        nvmesim_namespace *namespaces, size_t namespace_count,
-                                        nvmesim_attached *attached, size_t attached_count, uint8_t *reason,
-                                        size_t reason_count);
+ * programs print after the name of the file and a colon, such as "3:9: word 2: C, a number below 2^16, not 'a'". */
+nvmesim_read nvmesim_read_configuration(const uint8_t *text, size_t text_count, uint64_t max_blocks,
+                                        uint64_t medium_blocks, nvmesim_controller *controllers,
+                                        size_t controller_count, nvmesim_namespace *namespaces,
+                                        size_t namespace_count, nvmesim_attached *attached, size_t attached_count,
+                                        uint8_t *reason, size_t reason_count);
 
 /* The lines that describe a configuration, each with its line feed, without `start`: OK, or NO_ROOM, NO_MEMORY.
  * Parsed again, they give the same. No configuration that is accepted has more than 8,192 bytes. */

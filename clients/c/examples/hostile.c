@@ -72,7 +72,7 @@ static void submit(uint16_t host, uint64_t at, uint8_t opcode, uint32_t nsid, ui
     store(host, at, entry, sizeof entry);
 }
 
-/* Enables a controller and creates a pair of I/O queues, where the host has not made that impossible. */
+/* Enables a controller and creates a pair of I/O queues, if the host has not made that impossible. */
 static void up(uint16_t host) {
     const uint32_t last = ENTRIES - 1;
     write_register(host, 0x14, 0);
@@ -178,7 +178,7 @@ int main(int count, char **words) {
     for (int i = 0; i < 2 * HOSTS + 1; i++)
         fputs("ok\n", answers);
     fputs("started\n", answers);
-    if (nvmesim_open_lent(&sim, NVMESIM_VERSION, controllers, HOSTS, namespaces, 1, attached, HOSTS,
+    if (nvmesim_open_lent(&sim, NVMESIM_VERSION, NVMESIM_ANY_SIZE, controllers, HOSTS, namespaces, 1, attached, HOSTS,
                           (nvmesim_bytes){blocks, SIZE}) != NVMESIM_OK)
         return 1;
     for (uint16_t i = 1; i <= HOSTS; i++)

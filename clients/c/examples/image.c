@@ -74,8 +74,8 @@ int main(int count, char **words) {
     blocks = mmap(NULL, SIZE, PROT_READ | PROT_WRITE, MAP_SHARED, file, 0);
     if (blocks == MAP_FAILED)
         fail("mmap");
-    uint32_t opened = nvmesim_open_lent(&sim, NVMESIM_VERSION, controllers, 1, namespaces, 1, attached, 1,
-                                        (nvmesim_bytes){blocks, SIZE});
+    uint32_t opened = nvmesim_open_lent(&sim, NVMESIM_VERSION, NVMESIM_ANY_SIZE, controllers, 1, namespaces, 1, attached,
+                                        1, (nvmesim_bytes){blocks, SIZE});
     if (opened != NVMESIM_OK) {
         fprintf(stderr, "not opened: %u\n", opened);
         return 1;

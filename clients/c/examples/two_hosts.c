@@ -87,7 +87,8 @@ int main(void) {
     static const nvmesim_attached attached[] = {{1, 1}, {1, 2}};
     static const uint8_t zeros[64 * 512];
     nvmesim sim = NVMESIM_NONE;
-    uint32_t opened = nvmesim_open(&sim, NVMESIM_VERSION, controllers, 2, namespaces, 1, attached, 2, zeros, sizeof zeros);
+    uint32_t opened = nvmesim_open(&sim, NVMESIM_VERSION, NVMESIM_ANY_SIZE, controllers, 2, namespaces, 1, attached, 2,
+                                   zeros, sizeof zeros);
     if (opened != NVMESIM_OK) {
         fprintf(stderr, "not opened: %u\n", opened);
         return 1;

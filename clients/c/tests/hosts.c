@@ -9,7 +9,7 @@ const nvmesim_attached both[2] = {{1, 1}, {1, 2}};
 const uint8_t zeros[64 * 512];
 
 uint32_t open_two(nvmesim *sim) {
-    return nvmesim_open(sim, NVMESIM_VERSION, two, 2, shared, 1, both, 2, zeros, sizeof zeros);
+    return nvmesim_open(sim, NVMESIM_VERSION, NVMESIM_SCRIPT_BLOCKS, two, 2, shared, 1, both, 2, zeros, sizeof zeros);
 }
 
 void entry(uint8_t bytes[64], uint8_t opcode, uint32_t nsid, uint64_t prp1, uint32_t dw10, uint32_t dw11) {

@@ -36,7 +36,7 @@ static void configurations(void) {
     for (uint16_t i = 0; i < 17; i++)
         many[i] = (nvmesim_controller){1, 0, (uint16_t)(i + 1), true};
 #define OPENED(version, controllers, n, namespaces, attached, m) \
-    nvmesim_open(&sim, version, controllers, n, namespaces, 1, attached, m, zeros, sizeof zeros)
+    nvmesim_open(&sim, version, NVMESIM_SCRIPT_BLOCKS, controllers, n, namespaces, 1, attached, m, zeros, sizeof zeros)
     CHECK(OPENED(NVMESIM_VERSION + 1, two, 2, shared, both, 2) == NVMESIM_BAD_VERSION);
     CHECK(OPENED(NVMESIM_VERSION, unnumbered, 1, shared, both, 0) == NVMESIM_BAD_ID);
     CHECK(OPENED(NVMESIM_VERSION, hostless, 1, shared, both, 0) == NVMESIM_BAD_ID);
@@ -44,6 +44,8 @@ static void configurations(void) {
     CHECK(OPENED(NVMESIM_VERSION, two, 2, shared, unknown, 1) == NVMESIM_BAD_ID);
     CHECK(OPENED(NVMESIM_VERSION, two, 2, empty, both, 2) == NVMESIM_BAD_SIZE);
     CHECK(OPENED(NVMESIM_VERSION, two, 2, larger, both, 2) == NVMESIM_DOES_NOT_FIT);
+    CHECK(nvmesim_open(&sim, NVMESIM_VERSION, 63, two, 2, shared, 1, both, 2, zeros, sizeof zeros) ==
+          NVMESIM_BAD_SIZE);
     CHECK(OPENED(NVMESIM_VERSION, many, 17, shared, both, 0) == NVMESIM_TOO_MANY);
     CHECK(!sim.is_open);
     CHECK(OPENED(NVMESIM_VERSION, two, 2, shared, both, 2) == NVMESIM_OK && sim.is_open);
@@ -90,7 +92,8 @@ static void lent(void) {
     for (size_t i = 0; i < sizeof bytes; i++)
         bytes[i] = wanted[i] = (uint8_t)(7 * i + 1);
 #define OPENED(version, controllers, namespaces, attached) \
-    nvmesim_open_lent(&sim, version, controllers, 1, namespaces, 1, attached, 1, (nvmesim_bytes){bytes, sizeof bytes})
+    nvmesim_open_lent(&sim, version, NVMESIM_SCRIPT_BLOCKS, controllers, 1, namespaces, 1, attached, 1, \
+                      (nvmesim_bytes){bytes, sizeof bytes})
 #define KEPT(holds) CHECK((holds) && memcmp(bytes, wanted, sizeof bytes) == 0)
     KEPT(OPENED(NVMESIM_VERSION + 1, two, shared, both) == NVMESIM_BAD_VERSION);
     KEPT(OPENED(NVMESIM_VERSION, unnumbered, shared, both) == NVMESIM_BAD_ID);
@@ -129,8 +132,8 @@ static void largest(void) {
     uint8_t *bytes = calloc(1, size), block[512], read[512];
     if (bytes == NULL)
         exit(2);
-    CHECK(nvmesim_open_lent(&one, NVMESIM_VERSION, controllers, COUNT, namespaces, 2, attached, COUNT,
-                            (nvmesim_bytes){bytes, size}) == NVMESIM_OK);
+    CHECK(nvmesim_open_lent(&one, NVMESIM_VERSION, NVMESIM_SCRIPT_BLOCKS, controllers, COUNT, namespaces, 2, attached,
+                            COUNT, (nvmesim_bytes){bytes, size}) == NVMESIM_OK);
     CHECK(open_two(&other) == NVMESIM_OK);
     up(&one, COUNT);
     CHECK(nvmesim_read32(&one, COUNT, CSTS).value == 1 && nvmesim_read32(&other, 1, CSTS).value == 0);
@@ -330,8 +333,8 @@ static bool is_text(nvmesim_written it, const uint8_t *buffer, const char *text)
 static const char described[] = "controller 1 host 0xa1 raw\ncontroller 2 host 0xc300000000000000b2\n"
                                 "namespace 1 blocks 64 shared\nattached 1 1\nattached 2 1\n";
 
-static const char too_few[] = "3:1: namespace 1 ends behind the 63 blocks of the medium, where the namespaces lie one "
-                              "after the other";
+static const char too_few[] = "3:1: namespace 1 ends after the 63 blocks of the medium, on which "
+                              "namespaces follow one another";
 
 /* A configuration is parsed, and formatted as it was parsed; a refusal gives place and reason, if the buffer has space
  * for it, and leaves the arrays unchanged. */
@@ -348,7 +351,8 @@ static void texts(void) {
     memset(reason, 7, sizeof reason);
     memset(controllers, 7, sizeof controllers);
 #define READ(count, blocks, most, room) \
-    nvmesim_read_configuration(text, count, blocks, controllers, most, namespaces, 8, attached, 128, reason, room)
+    nvmesim_read_configuration(text, count, NVMESIM_SCRIPT_BLOCKS, blocks, controllers, most, namespaces, 8, attached, \
+                               128, reason, room)
     nvmesim_read read = READ(sizeof described - 1, 64, 1, sizeof reason);
     CHECK(read.what == NVMESIM_NO_ROOM && controllers[0].host_low == UINT64_C(0x0707070707070707));
     read = READ(sizeof described - 1, 63, 16, sizeof reason);
@@ -419,7 +423,8 @@ static void again(int count) {
         nvmesim_close(&sim);
     }
     for (int i = 0; i < 10 * count; i++) {
-        CHECK(nvmesim_open(&sim, NVMESIM_VERSION, two, 0, one, 1, both, 0, blocks, sizeof blocks) == NVMESIM_OK);
+        CHECK(nvmesim_open(&sim, NVMESIM_VERSION, NVMESIM_SCRIPT_BLOCKS, two, 0, one, 1, both, 0, blocks,
+                           sizeof blocks) == NVMESIM_OK);
         nvmesim_close(&sim);
     }
 }

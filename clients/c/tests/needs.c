@@ -12,7 +12,8 @@ void needs(void) {
     enum { KINDS = sizeof kinds / sizeof *kinds };
     nvmesim sim = NVMESIM_NONE;
     uint8_t command[64];
-    CHECK(nvmesim_open(&sim, NVMESIM_VERSION, two, 2, spaces, 2, attached, 4, zeros, sizeof zeros) == NVMESIM_OK);
+    CHECK(nvmesim_open(&sim, NVMESIM_VERSION, NVMESIM_SCRIPT_BLOCKS, two, 2, spaces, 2, attached, 4, zeros,
+                       sizeof zeros) == NVMESIM_OK);
     up(&sim, 1);
     for (uint32_t i = 0; i < KINDS; i++) {
         entry(command, kinds[i].opcode, 2, DATA, 3, 0);

@@ -206,9 +206,10 @@ static void play_until(unsigned long most, int is_lent) {
     static uint8_t blocks[BLOCKS * 512];
     nvmesim sim = NVMESIM_NONE;
     taken = freed = 0;
-    MUST((is_lent ? nvmesim_open_lent(&sim, NVMESIM_VERSION, two, 2, shared, 1, both, 2,
+    MUST((is_lent ? nvmesim_open_lent(&sim, NVMESIM_VERSION, NVMESIM_SCRIPT_BLOCKS, two, 2, shared, 1, both, 2,
                                       (nvmesim_bytes){blocks, sizeof blocks})
-                  : nvmesim_open(&sim, NVMESIM_VERSION, two, 2, shared, 1, both, 2, blocks, sizeof blocks)) == NVMESIM_OK);
+                  : nvmesim_open(&sim, NVMESIM_VERSION, NVMESIM_SCRIPT_BLOCKS, two, 2, shared, 1, both, 2, blocks,
+                                 sizeof blocks)) == NVMESIM_OK);
     unsigned long at_first = taken, given_back = freed, begun = calls;
     while (calls < most && failures == 0)
         play(&sim);

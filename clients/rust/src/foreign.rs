@@ -1,6 +1,6 @@
 //! The calls of libnvmesim that take pointers, as `nvmesim.h` declares them. `raw.rs` makes them.
 
-use crate::layout::{Answer, Bytes, Event, Read, Sim, Written};
+use crate::layout::{Answer, Bytes, Change, Event, HostView, Notices, Read, Sim, Written};
 use crate::{Attachment, Controller, Namespace};
 
 macro_rules! opening {
@@ -8,6 +8,7 @@ macro_rules! opening {
         pub fn $name(
             sim: *mut Sim,
             version: u32,
+            max_blocks: u64,
             controllers: *const Controller,
             controller_count: usize,
             namespaces: *const Namespace,
@@ -31,6 +32,7 @@ extern "C" {
     pub fn nvmesim_read_configuration(
         text: *const u8,
         text_count: usize,
+        max_blocks: u64,
         medium_blocks: u64,
         controllers: *mut Controller,
         controller_count: usize,
@@ -66,5 +68,17 @@ extern "C" {
         answer: *mut u8,
         room: usize,
     ) -> Written;
+    pub fn nvmesim_notify(
+        sim: *mut Sim,
+        notices: *mut Notices,
+        cntlid: u16,
+        change: *const Change,
+        before: *const HostView,
+    ) -> u32;
+    pub fn nvmesim_notice_mask(notices: *const Notices, nsid: u32) -> u32;
+    pub fn nvmesim_set_notice_mask(notices: *mut Notices, nsid: u32, dw11: u32) -> u32;
+    pub fn nvmesim_count_notices(notices: *const Notices) -> u32;
+    pub fn nvmesim_notice_page(notices: *const Notices, page: *mut u8);
+    pub fn nvmesim_take_notice(notices: *mut Notices);
     pub fn nvmesim_answer_line(event: *const Event, answer: *const Answer, line: *mut u8, room: usize) -> Written;
 }

@@ -74,6 +74,38 @@ pub struct Registered {
 }
 
 #[repr(C)]
+#[derive(Clone, Copy)]
+pub struct HostView {
+    pub what: u32,
+    pub rtype: u8,
+    pub is_registrant: bool,
+}
+
+#[repr(C)]
+pub struct Change {
+    pub nsid: u32,
+    pub action: u32,
+    pub issuer: u16,
+}
+
+#[repr(C)]
+#[derive(Clone, Copy)]
+pub struct Notice {
+    pub count: u64,
+    pub nsid: u32,
+    pub kind: u8,
+}
+
+#[repr(C)]
+#[derive(Clone)]
+pub struct Notices {
+    pub count: u64,
+    pub places: [Notice; 64],
+    pub masks: [u32; 8],
+    pub kept: u32,
+}
+
+#[repr(C)]
 #[derive(Clone, Copy, Default)]
 pub struct Event {
     pub at: u64,

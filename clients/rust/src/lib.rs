@@ -51,10 +51,11 @@
 //! A configuration may be read from text, and events written as the lines of a script:
 //!
 //! ```
-//! # use nvmesim::{event_line, read_configuration, ConfigFault, Event};
-//! let config = read_configuration(b"controller 1 host 0xa1 raw\nnamespace 1 blocks 64 shared\n", 64)?;
+//! # use nvmesim::{event_line, read_configuration, ConfigFault, Event, ANY_SIZE};
+//! let text = b"controller 1 host 0xa1 raw\nnamespace 1 blocks 64 shared\n";
+//! let config = read_configuration(text, ANY_SIZE, 64)?;
 //! assert!(config.controllers[0].raw);
-//! let error = read_configuration(b"controller one host 1\n", 64).unwrap_err();
+//! let error = read_configuration(b"controller one host 1\n", ANY_SIZE, 64).unwrap_err();
 //! assert_eq!((error.name, error.line, error.column), (ConfigFault::BadLine, 1, 12));
 //! let mut line = [0; 64];
 //! let length = event_line(&Event::Fetch { cntlid: 1, qid: 0 }, &mut line).unwrap();
@@ -79,6 +80,7 @@ mod foreign;
 mod layout;
 mod lines;
 mod looks;
+mod notices;
 #[allow(unsafe_code)]
 mod raw;
 
@@ -86,11 +88,17 @@ use layout::Answer;
 use layout::Blocks;
 pub use lines::{answer_line, event_line, read_configuration, Answered, ConfigError, ConfigFault, Event, LineError};
 pub use looks::{status_name, Command, Holder, Need, Queue, Registrant, Reservation};
+pub use notices::{Action, Change, HostView, Notices};
 use raw::Handle;
 use std::fmt;
 
 /// The version of `nvmesim.h` that this crate is written for.
-const VERSION: u32 = 2;
+const VERSION: u32 = 3;
+
+/// The most blocks that a namespace of a script may have, unless the program gets `--any-size`.
+pub const SCRIPT_BLOCKS: u64 = 65_536;
+/// A limit of a namespace's blocks that allows every size.
+pub const ANY_SIZE: u64 = u64::MAX;
 
 /// A controller, and the host that it belongs to.
 #[repr(C)]
@@ -125,7 +133,7 @@ impl Controller {
 #[repr(C)]
 #[derive(Clone, Copy, Debug, PartialEq, Eq)]
 pub struct Namespace {
-    /// Its size in blocks of 512 bytes, 1 to 65,536.
+    /// Its size in blocks of 512 bytes, at least 1.
     pub blocks: u64,
     /// The namespace identifier, 1 to 8.
     pub nsid: u32,
@@ -162,7 +170,7 @@ pub enum OpenError {
     BadVersion,
     /// An identifier is wrong: of a controller, host or namespace, or of an attachment.
     BadId,
-    /// A namespace has no blocks, or more than 65,536.
+    /// A namespace has no blocks.
     BadSize,
     /// There are more than 16 controllers, 8 namespaces or 128 attachments.
     TooMany,
@@ -180,7 +188,7 @@ pub enum Refusal {
     NoController,
     /// Some of the bytes are outside the host's memory, or some of the blocks outside the namespace.
     Outside,
-    /// The bytes are no whole number of blocks.
+    /// The bytes are not a whole number of blocks.
     NotWhole,
     /// The medium failed.
     MediumFault,
@@ -194,7 +202,7 @@ pub enum Refusal {
     NoNamespace,
 }
 
-/// What came of a fetch.
+/// The result of a fetch.
 #[derive(Clone, Copy, Debug, PartialEq, Eq, Hash)]
 pub enum Fetched {
     /// A command was fetched.
@@ -228,7 +236,7 @@ impl Completion {
     }
 }
 
-/// What came of an execution.
+/// The result of an execution.
 #[derive(Clone, Copy, Debug, PartialEq, Eq, Hash)]
 pub enum Executed {
     /// The command was executed, and its completion posted.
@@ -256,6 +264,12 @@ impl<'a> Subsystem<'a> {
     /// a Flush was executed, before you return its completion.
     pub fn open_lent(config: &Config, bytes: &'a mut [u8]) -> Result<Self, OpenError> {
         opened(config, Blocks::Lent(bytes))
+    }
+
+    /// `count` of the borrowed bytes, from `place` on, as the calls so far have left them. `None` if these are not all
+    /// borrowed, as in a subsystem over a copy.
+    pub fn bytes(&mut self, place: usize, count: usize) -> Option<&[u8]> {
+        self.handle.bytes(place, count)
     }
 
     /// A hint, which changes nothing: a command will soon write `count` of the borrowed bytes, from `place` on. The
@@ -330,7 +344,7 @@ const FIRST_REFUSAL: u32 = 16;
 
 fn opened<'a>(config: &Config, blocks: Blocks<'_, 'a>) -> Result<Subsystem<'a>, OpenError> {
     let parts = (&config.controllers[..], &config.namespaces[..], &config.attached[..]);
-    let (answer, handle) = Handle::open(VERSION, parts, blocks);
+    let (answer, handle) = Handle::open((VERSION, ANY_SIZE), parts, blocks);
     match answer {
         OK => Ok(Subsystem { handle }),
         23 => Err(OpenError::BadId),
@@ -387,7 +401,7 @@ impl fmt::Display for OpenError {
         f.write_str(match self {
             OpenError::BadVersion => "libnvmesim is of another version",
             OpenError::BadId => "an identifier of the configuration is wrong",
-            OpenError::BadSize => "a namespace has no blocks, or more than 65536",
+            OpenError::BadSize => "a namespace has no blocks",
             OpenError::TooMany => "there are too many controllers, namespaces or attachments",
             OpenError::DoesNotFit => "the namespaces have more blocks than the bytes",
             OpenError::NoMemory => "out of memory",
@@ -400,7 +414,7 @@ impl fmt::Display for Refusal {
         f.write_str(match self {
             Refusal::NoController => "there is no such controller",
             Refusal::Outside => "some of it is outside",
-            Refusal::NotWhole => "the bytes are no whole number of blocks",
+            Refusal::NotWhole => "the bytes are not a whole number of blocks",
             Refusal::MediumFault => "the medium failed",
             Refusal::NoQueue => "the controller has no such queue",
             Refusal::NotReady => "the controller does not run",

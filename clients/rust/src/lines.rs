@@ -13,7 +13,7 @@ pub enum ConfigFault {
     BadLine,
     /// An identifier is wrong: of a controller, host or namespace, or of an attachment.
     BadId,
-    /// A namespace has no blocks, or more than 65,536.
+    /// A namespace has no blocks, or more than the limit.
     BadSize,
     /// There are more than 16 controllers, 8 namespaces or 128 attachments.
     TooMany,
@@ -34,7 +34,7 @@ pub enum ConfigFault {
 pub struct ConfigError {
     /// Which fault it is.
     pub name: ConfigFault,
-    /// The line that is at fault, from 1; 0 where memory was refused.
+    /// The line that is at fault, from 1; 0 if memory was refused.
     pub line: usize,
     /// Column in the line, in bytes from 1; 0 if memory was refused.
     pub column: usize,
@@ -98,7 +98,7 @@ pub enum Answered {
     Outside,
     /// The register is written.
     Wrote32,
-    /// What came of a fetch.
+    /// The result of a fetch.
     Fetched(Fetched),
     /// The result of an execution.
     Executed(Executed),
@@ -139,15 +139,16 @@ const REASON: usize = 1024;
 /// The longest answer.
 const ANSWER: usize = 262_240;
 
-/// Parses a configuration, the lines of a script before its `start`, and checks it for a medium of `blocks` blocks.
-/// `start` may be missing, and only blank lines and comments may follow it.
-pub fn read_configuration(text: &[u8], blocks: u64) -> Result<Config, ConfigError> {
+/// Parses a configuration, the lines of a script before its `start`, and checks it for a medium of `blocks` blocks and
+/// namespaces of at most `max_blocks` blocks, such as [`SCRIPT_BLOCKS`](crate::SCRIPT_BLOCKS). `start` may be missing,
+/// and only blank lines and comments may follow it.
+pub fn read_configuration(text: &[u8], max_blocks: u64, blocks: u64) -> Result<Config, ConfigError> {
     let mut controllers = vec![Controller::new(0, 0); MOST.0];
     let mut namespaces = vec![Namespace { blocks: 0, nsid: 0, shared: false }; MOST.1];
     let mut attached = vec![Attachment { nsid: 0, cntlid: 0 }; MOST.2];
     let mut reason = [0; REASON];
     let room = (&mut controllers[..], &mut namespaces[..], &mut attached[..]);
-    let read = raw::read_configuration(text, blocks, room, &mut reason);
+    let read = raw::read_configuration(text, (max_blocks, blocks), room, &mut reason);
     if read.what != OK {
         let reason = String::from_utf8_lossy(&reason[..read.length]).into_owned();
         return Err(ConfigError { name: fault(read.what), line: read.line, column: read.column, reason });

@@ -4,18 +4,20 @@
 //! when it is dropped; references and slices are never null, and have as many values as they say.
 
 use crate::foreign::{
-    nvmesim_answer_line, nvmesim_close, nvmesim_configuration_lines, nvmesim_event_line, nvmesim_load, nvmesim_look,
-    nvmesim_open, nvmesim_open_lent, nvmesim_read_blocks, nvmesim_read_configuration, nvmesim_status_name,
-    nvmesim_store, nvmesim_submit,
+    nvmesim_answer_line, nvmesim_close, nvmesim_configuration_lines, nvmesim_count_notices, nvmesim_event_line,
+    nvmesim_load, nvmesim_look, nvmesim_notice_mask, nvmesim_notice_page, nvmesim_notify, nvmesim_open,
+    nvmesim_open_lent, nvmesim_read_blocks, nvmesim_read_configuration, nvmesim_set_notice_mask, nvmesim_status_name,
+    nvmesim_store, nvmesim_submit, nvmesim_take_notice,
 };
 use crate::layout::{
-    Answer, Blocks, Bytes, Command, Event, Hold, Needed, Parts, Queue, Read, Registered, Sim, Written,
+    Answer, Blocks, Bytes, Change, Command, Event, Hold, HostView, Needed, Notices, Parts, Queue, Read, Registered,
+    Sim, Written,
 };
 use crate::{Attachment, Controller, Namespace};
 #[cfg(target_arch = "x86_64")]
 use std::arch::x86_64::{_mm_prefetch, _MM_HINT_T0};
 use std::marker::PhantomData;
-use std::ptr;
+use std::{ptr, slice};
 
 /// Declares the calls that take numbers alone, and makes each a method of a handle.
 macro_rules! plain_calls {
@@ -45,6 +47,7 @@ plain_calls! {
     is_attached = nvmesim_is_attached(cntlid: u16, nsid: u32) -> Answer;
     reservation = nvmesim_reservation(nsid: u32) -> Hold;
     registrant = nvmesim_registrant(nsid: u32, i: usize) -> Registered;
+    view = nvmesim_view(nsid: u32, cntlid: u16) -> HostView;
 }
 
 /// A subsystem that is open.
@@ -56,20 +59,21 @@ pub struct Handle<'a> {
 }
 
 impl<'a> Handle<'a> {
-    /// Opens a subsystem: what the call answered, and the handle.
-    pub fn open(version: u32, (cs, ns, at): Parts<'_>, blocks: Blocks<'_, 'a>) -> (u32, Self) {
+    /// Opens a subsystem for a version of the header, with a limit of a namespace's blocks: what the call answered, and
+    /// the handle.
+    pub fn open((version, most): (u32, u64), (cs, ns, at): Parts<'_>, blocks: Blocks<'_, 'a>) -> (u32, Self) {
         let sim = Sim { subsystem: ptr::null_mut(), is_open: false };
         let mut handle = Handle { sim, lent: (ptr::null(), 0), life: PhantomData };
         let it = &mut handle.sim;
         let (c, n, a) = ((cs.as_ptr(), cs.len()), (ns.as_ptr(), ns.len()), (at.as_ptr(), at.len()));
         let answer = match blocks {
             Blocks::Copied(bytes) => unsafe {
-                nvmesim_open(it, version, c.0, c.1, n.0, n.1, a.0, a.1, bytes.as_ptr(), bytes.len())
+                nvmesim_open(it, version, most, c.0, c.1, n.0, n.1, a.0, a.1, bytes.as_ptr(), bytes.len())
             },
             Blocks::Lent(bytes) => {
                 let bytes = Bytes { at: bytes.as_mut_ptr(), count: bytes.len() };
                 handle.lent = (bytes.at, bytes.count);
-                unsafe { nvmesim_open_lent(it, version, c.0, c.1, n.0, n.1, a.0, a.1, bytes) }
+                unsafe { nvmesim_open_lent(it, version, most, c.0, c.1, n.0, n.1, a.0, a.1, bytes) }
             }
         };
         (answer, handle)
@@ -94,6 +98,16 @@ impl<'a> Handle<'a> {
     pub fn look(&mut self, number: u64, line: &[u8], answer: &mut [u8]) -> Written {
         let (line, answer) = ((line.as_ptr(), line.len()), (answer.as_mut_ptr(), answer.len()));
         unsafe { nvmesim_look(&mut self.sim, number, line.0, line.1, answer.0, answer.1) }
+    }
+
+    pub fn notify(&mut self, notices: &mut Notices, cntlid: u16, change: &Change, before: &HostView) -> u32 {
+        unsafe { nvmesim_notify(&mut self.sim, notices, cntlid, change, before) }
+    }
+
+    /// The borrowed bytes of a range, as the calls so far have left them; `None` if some of it is not borrowed.
+    pub fn bytes(&mut self, place: usize, count: usize) -> Option<&[u8]> {
+        let end = place.checked_add(count).filter(|end| *end <= self.lent.1)?;
+        Some(unsafe { slice::from_raw_parts(self.lent.0.add(place), end - place) })
     }
 
     /// Prefetches borrowed bytes, if the processor can. That is no access, and may be done at any address.
@@ -121,14 +135,46 @@ pub fn status_name(sct: u8, sc: u8, bytes: &mut [u8]) -> usize {
     unsafe { nvmesim_status_name(sct, sc, bytes.as_mut_ptr(), bytes.len()) }
 }
 
+impl Notices {
+    pub fn mask(&self, nsid: u32) -> u32 {
+        unsafe { nvmesim_notice_mask(self, nsid) }
+    }
+
+    pub fn set_mask(&mut self, nsid: u32, dw11: u32) -> u32 {
+        unsafe { nvmesim_set_notice_mask(self, nsid, dw11) }
+    }
+
+    pub fn available(&self) -> u32 {
+        unsafe { nvmesim_count_notices(self) }
+    }
+
+    pub fn page(&self) -> [u8; 64] {
+        let mut page = [0; 64];
+        unsafe { nvmesim_notice_page(self, page.as_mut_ptr()) };
+        page
+    }
+
+    pub fn take(&mut self) {
+        unsafe { nvmesim_take_notice(self) }
+    }
+}
+
 /// Room for the parts of a configuration.
 pub type Room<'r> = (&'r mut [Controller], &'r mut [Namespace], &'r mut [Attachment]);
 
-/// Reads a configuration into its parts, or the reason why it is refused.
-pub fn read_configuration(text: &[u8], blocks: u64, (cs, ns, at): Room<'_>, reason: &mut [u8]) -> Read {
+/// Reads a configuration into its parts, or the reason why it is refused. The two numbers are the limit of a namespace's
+/// blocks and the blocks of the medium.
+pub fn read_configuration(
+    text: &[u8],
+    (most, blocks): (u64, u64),
+    (cs, ns, at): Room<'_>,
+    reason: &mut [u8],
+) -> Read {
     let (c, n, a) = ((cs.as_mut_ptr(), cs.len()), (ns.as_mut_ptr(), ns.len()), (at.as_mut_ptr(), at.len()));
     let (text, reason) = ((text.as_ptr(), text.len()), (reason.as_mut_ptr(), reason.len()));
-    unsafe { nvmesim_read_configuration(text.0, text.1, blocks, c.0, c.1, n.0, n.1, a.0, a.1, reason.0, reason.1) }
+    unsafe {
+        nvmesim_read_configuration(text.0, text.1, most, blocks, c.0, c.1, n.0, n.1, a.0, a.1, reason.0, reason.1)
+    }
 }
 
 /// The lines that describe a configuration.

@@ -2,7 +2,7 @@
 
 use nvmesim::{
     answer_line, event_line, read_configuration, Answered, Attachment, Completion, Config, ConfigFault, Controller,
-    Event, Executed, Fetched, LineError, Namespace, Subsystem,
+    Event, Executed, Fetched, LineError, Namespace, Subsystem, ANY_SIZE, SCRIPT_BLOCKS,
 };
 
 const TWO: &str =
@@ -10,13 +10,13 @@ const TWO: &str =
                    namespace 1 blocks 64 shared\nnamespace 3 blocks 0x8 private\nattached 2 1\nstart\n# the end\n\n";
 
 fn refused(text: &str) -> (ConfigFault, usize, usize, String) {
-    let error = read_configuration(text.as_bytes(), 72).unwrap_err();
+    let error = read_configuration(text.as_bytes(), SCRIPT_BLOCKS, 72).unwrap_err();
     (error.name, error.line, error.column, error.reason)
 }
 
 #[test]
 fn a_configuration_is_read_and_written() {
-    let read = read_configuration(TWO.as_bytes(), 72).unwrap();
+    let read = read_configuration(TWO.as_bytes(), SCRIPT_BLOCKS, 72).unwrap();
     let mut raw = Controller::new(2, u128::MAX);
     raw.raw = true;
     let namespaces = [(64, 1, true), (8, 3, false)].map(|(blocks, nsid, shared)| Namespace { blocks, nsid, shared });
@@ -30,24 +30,28 @@ fn a_configuration_is_read_and_written() {
     let wanted = "controller 1 host 0xa1\ncontroller 2 host 0xffffffffffffffffffffffffffffffff raw\n\
                   namespace 1 blocks 64 shared\nnamespace 3 blocks 8 private\nattached 2 1\n";
     assert_eq!(lines, wanted);
-    assert_eq!(read_configuration(lines.as_bytes(), 72), Ok(read.clone()));
+    assert_eq!(read_configuration(lines.as_bytes(), SCRIPT_BLOCKS, 72), Ok(read.clone()));
     assert!(Subsystem::open(&read, &[0; 72 * 512]).is_ok());
 }
 
 #[test]
 fn a_text_is_refused_by_name_and_place() {
-    let misfit = "2:14: word 2: C, a number below 2^16, and not 'a'; did you mean '0xa'?".to_owned();
+    let misfit = "2:14: word 2: C, a number below 2^16, not 'a'; did you mean '0xa'?".to_owned();
     assert_eq!(refused("\n  controller a host 1\n"), (ConfigFault::BadLine, 2, 14, misfit));
-    let early = "1:1: fetch needs a 'start' before it, and there is none".to_owned();
+    let early = "1:1: fetch needs a 'start' before it".to_owned();
     assert_eq!(refused("fetch 1 0\n"), (ConfigFault::BadLine, 1, 1, early));
-    let event = "3:2: this line is an event, and a configuration has none".to_owned();
+    let event = "3:2: this line is an event; a configuration has none".to_owned();
     assert_eq!(refused("controller 1 host 1\nstart\n fetch 1 0\nup 1\n"), (ConfigFault::HasEvent, 3, 2, event));
-    let late = "2:1: start stands in a script once".to_owned();
+    let late = "2:1: a script has only one start".to_owned();
     assert_eq!(refused("start\nstart\n"), (ConfigFault::BadLine, 2, 1, late));
-    let size = "3:1: namespace 2 has 18446744073709551615 blocks, and 65536 is the most".to_owned();
+    let size = "3:1: namespace 2 has 18446744073709551615 blocks; at most 65536 are allowed".to_owned();
     let text = "controller 1 host 1\n\nnamespace 2 blocks 18446744073709551615 shared\n";
     assert_eq!(refused(text), (ConfigFault::BadSize, 3, 1, size));
-    let room = "2:1: namespace 2 ends behind the 72 blocks of the medium, where the namespaces lie one after the other";
+    let large = b"controller 1 host 1\nnamespace 2 blocks 18446744073709551615 shared\n";
+    assert_eq!(read_configuration(large, ANY_SIZE, u64::MAX).map(|it| it.namespaces[0].blocks), Ok(u64::MAX));
+    let above = read_configuration(large, u64::MAX - 1, u64::MAX).unwrap_err();
+    assert!(above.reason.ends_with("blocks; at most 18446744073709551614 are allowed"), "{}", above.reason);
+    let room = "2:1: namespace 2 ends after the 72 blocks of the medium, on which namespaces follow one another";
     let text = "controller 1 host 1\nnamespace 2 blocks 73 shared\n";
     assert_eq!(refused(text), (ConfigFault::DoesNotFit, 2, 1, room.to_owned()));
     let empty = "1:1: there is no controller; add a line 'controller 1 host 1'".to_owned();
@@ -118,7 +122,7 @@ fn answers_have_their_lines() {
 
 #[test]
 fn lines_look() {
-    let config = read_configuration(TWO.as_bytes(), 72).unwrap();
+    let config = read_configuration(TWO.as_bytes(), SCRIPT_BLOCKS, 72).unwrap();
     let mut blocks = vec![0; 72 * 512];
     blocks[65 * 512] = 0xaf;
     let mut subsystem = Subsystem::open_lent(&config, &mut blocks).unwrap();
@@ -137,8 +141,8 @@ fn lines_look() {
         ("?help queues", "! line 9 word 1: the line is ?help [WORD]"),
         ("?help ?queues", "help ?queues C"),
         ("?driver 1", "! line 11 word 2: there is no such controller with a driver"),
-        ("?blocks 3 0 0", "! line 12 word 3: 1 to 256 blocks of the namespace are shown, and these are not all in it"),
-        ("?blocks 3 7 2", "! line 13 word 3: 1 to 256 blocks of the namespace are shown, and these are not all in it"),
+        ("?blocks 3 0 0", "! line 12 word 3: 1 to 256 blocks are shown, all of them in the namespace"),
+        ("?blocks 3 7 2", "! line 13 word 3: 1 to 256 blocks are shown, all of them in the namespace"),
         ("?queue 1", "! line 14 word 1: there is no line '?queue'; did you mean '?queues'?"),
     ];
     for (number, (line, wanted)) in lines.into_iter().enumerate() {

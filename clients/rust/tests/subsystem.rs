@@ -70,7 +70,7 @@ fn threads_take_turns() {
 }
 
 #[test]
-fn what_is_lent_comes_back() {
+fn borrowed_bytes_are_returned() {
     let mut bytes = vec![5; 4 * 512];
     let mut subsystem = Subsystem::open_lent(&config(), &mut bytes).unwrap();
     let mut read = [0; 512];
@@ -151,6 +151,22 @@ fn a_need_is_known_before_its_execution() {
         assert_eq!(subsystem.need(1, place), Ok(Some(need)));
     }
     assert_eq!(subsystem.need(3, 0), Err(Refusal::NoController));
+}
+
+#[test]
+fn borrowed_bytes_are_seen() {
+    let mut blocks = vec![0; 4 * 512];
+    let mut subsystem = Subsystem::open_lent(&config(), &mut blocks).unwrap();
+    up(&mut subsystem, 1);
+    subsystem.store(1, 0x10000, &[0x5a; 512]).unwrap();
+    assert_eq!(subsystem.bytes(3 * 512, 512), Some(&[0; 512][..]));
+    assert!(subsystem.submit(1, 1, &entry(1, 1, 0x10000, 3, 0)).unwrap().0.is_success());
+    assert_eq!(subsystem.bytes(3 * 512, 512), Some(&[0x5a; 512][..]));
+    assert_eq!(subsystem.bytes(0, 2048).map(|it| it[1535..1537].to_vec()), Some(vec![0, 0x5a]));
+    for (place, count) in [(0, 2049), (2049, 0), (2048, 1), (usize::MAX, 1), (1, usize::MAX)] {
+        assert_eq!(subsystem.bytes(place, count), None);
+    }
+    assert_eq!(Subsystem::open(&config(), &[0; 4 * 512]).unwrap().bytes(0, 1), None);
 }
 
 #[test]

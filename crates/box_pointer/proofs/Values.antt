@@ -1,5 +1,5 @@
--- The machine value of a `BoxPointer`: a struct of the pointer and the allocator's word. `opened` takes what it owns
--- apart, `packed` puts it together. Assumes `Logic`.
+-- For the proofs of `of` and `into_box`: the machine value of a `BoxPointer` is a struct of the pointer and the
+-- allocator's handle. `opened` splits what it owns, `packed` joins it again. Assumes `Logic`.
 use Rattle.std.proofs.Common.{◌≡◌, ℕ, List, [], ◌∷◌, ◌++◌, refl, subst}
 use mathlib.Core.Bool.{true, ◌&&◌}
 use lib.Dec.{T}
@@ -27,7 +27,7 @@ use Rattle.std_alloc.specs.Box.Ownership.{box_owns}
 use Rattle.std_alloc.proofs.ResultValues.{and_tt}
 use Rattle.box_pointer.specs.contracts.BoxPointer as pointer
 
--- a pointer into a block, and an allocator's word beside it
+-- the value of a `BoxPointer`: a pointer into a block, and the allocator's handle
 abbrev pub word : ℕ → ℕ → Val → Val
 word block offset handle = vstruct (vcons (vptr block offset) (vcons handle vnil))
 
@@ -74,5 +74,6 @@ module _ (R Z : RattleType) (laws : Laws Z) (g : Ghosts Z.Denot) where
         nothing t $ move t (2 ∷ 0 ∷ []) $ fjoin t $
         feq_i t (List Val) at at refl $ fjoin t $
         feq_i t (List Val) whole whole refl $ fjoin t $
-        fpack t (Valss (RawPtr ∷ Z ∷ [])) (within (shape (pointer.the_type R Z g)) (block_ptr block offset, (alloc, tt)) whole)
+        fpack t (Valss (RawPtr ∷ Z ∷ []))
+        (within (shape (pointer.the_type R Z g)) (block_ptr block offset, (alloc, tt)) whole)
         (at, (handle ∷ [], tt)) $ fjoin t $ rest)

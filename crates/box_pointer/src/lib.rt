@@ -1,4 +1,4 @@
-//! A box as its pointer, for structs that C holds: they may have a pointer, but no box.
+//! A box as a raw pointer, for structs that C code holds: they may contain a pointer, but not a `Box`.
 #![tactic(auto)]
 
 ghost use Rattle.std.specs.Prelude.{◌≡◌};
@@ -7,7 +7,7 @@ ghost use Rattle.std.specs.Box.Ownership.{box_owns};
 use std::alloc::Allocator;
 use std::marker::Model;
 
-/// What a box owned: where its value stands, and the allocator that the place is given back to.
+/// The parts of a box: the address of its value, and the allocator that frees it.
 pub struct BoxPointer<T, A: Allocator> {
     pub at: *mut T,
     pub alloc: A,
@@ -19,7 +19,7 @@ impl<T, A: Allocator> Model for BoxPointer<T, A> {
 }
 
 impl<T: Drop, A: Allocator> BoxPointer<T, A> {
-    /// Takes a box apart. The value stays where it is.
+    /// Splits a box into its parts. The value stays at its address.
     pub fn of(boxed: Box<T, A>) -> BoxPointer<T, A>
         ensures { result.value ≡ boxed.value }
     {
@@ -27,7 +27,7 @@ impl<T: Drop, A: Allocator> BoxPointer<T, A> {
         BoxPointer { at, alloc }
     }
 
-    /// The box again, over the same value.
+    /// Makes a box of the parts again, with the same value.
     pub fn into_box(self) -> Box<T, A>
         ensures { result.value ≡ self.value }
     {

@@ -1,5 +1,27 @@
--- The line of an answer is short.
-use Rattle.std.proofs.Common.{◌≡◌, ℕ, ◌+◌, ◌<◌, ◌≤◌, ◌-◌, ◌/◌, ◌%◌, Bool, true, false, nat_lt, List, [], ◌∷◌, ◌++◌, length, refl, ap, ◌∙◌, arith}
+-- For the answer of `put_told`: the line of an answer is short.
+use Rattle.std.proofs.Common.{
+  ◌≡◌,
+  ℕ,
+  ◌+◌,
+  ◌<◌,
+  ◌≤◌,
+  ◌-◌,
+  ◌/◌,
+  ◌%◌,
+  Bool,
+  true,
+  false,
+  nat_lt,
+  List,
+  [],
+  ◌∷◌,
+  ◌++◌,
+  length,
+  refl,
+  ap,
+  ◌∙◌,
+  arith,
+}
 use Rattle.std.specs.Prelude.{◌^◌, codes, decimal}
 use Rattle.std.specs.Fmt.{digits, digit_glyph, padded_integral, format_spec}
 use Rattle.std.proofs.lemmas.Bool.{false≢true, ltb-true, ltb-false}
@@ -29,13 +51,17 @@ kind-short n byte = by (nat_lt n 16) refl
 pub status-short : (s : Status) → s.sct < 256 → s.sc < 256 → length (status_text s) ≤ 5
 status-short s kind code =
     let two = kind-short s.sct kind in
-    let a = length-append (digits 16 false s.sct) (codes ":" ++ padded_integral (format_spec 32 0 4 2 (2 ^ 64 - 1)) false [] (digits 16 false s.sc)) in
-    let c = length-append (codes ":") (padded_integral (format_spec 32 0 4 2 (2 ^ 64 - 1)) false [] (digits 16 false s.sc)) in
-    let b : length (padded_integral (format_spec 32 0 4 2 (2 ^ 64 - 1)) false [] (digits 16 false s.sc)) ≡ 2 = ap length (hex_byte false s.sc code) in
+    let a = length-append (digits 16 false s.sct)
+    (codes ":" ++ padded_integral (format_spec 32 0 4 2 (2 ^ 64 - 1)) false [] (digits 16 false s.sc)) in
+    let c =
+    length-append (codes ":") (padded_integral (format_spec 32 0 4 2 (2 ^ 64 - 1)) false [] (digits 16 false s.sc)) in
+    let b : length (padded_integral (format_spec 32 0 4 2 (2 ^ 64 - 1)) false [] (digits 16 false s.sc)) ≡ 2 =
+    ap length (hex_byte false s.sc code) in
     omega (arith, two, a, b, c)
 
 pub controller-short : (e : FleetEvent) → controller_of e < 2 ^ 16 → length (controller_text e) ≤ 5
-controller-short e narrow = length-decimal-le 5 (controller_of e) (omega arith) (omega (arith, narrow)) (omega (arith, narrow))
+controller-short e narrow =
+    length-decimal-le 5 (controller_of e) (omega arith) (omega (arith, narrow)) (omega (arith, narrow))
 
 number-short : (n : ℕ) → n < 2 ^ 16 → length (decimal n) ≤ 26
 number-short n narrow =
@@ -62,7 +88,8 @@ subject-short (event.RawStore k address bytes) narrow wide = number-short k narr
 subject-short (event.RawWrite32 k offset value) narrow wide = number-short k narrow
 subject-short event.PowerCycle narrow wide = number-short 0 narrow
 
-three-short : (a b c : List ℕ) → length a ≤ 16 → length b ≤ 26 → length c ≤ 24 → length ((a ++ b ++ codes " " ++ c) ++ 10 ∷ []) ≤ 96
+three-short : (a b c : List ℕ) → length a ≤ 16 → length b ≤ 26 → length c ≤ 24
+    → length ((a ++ b ++ codes " " ++ c) ++ 10 ∷ []) ≤ 96
 three-short a b c one two three =
     let e = length-append (a ++ b ++ codes " " ++ c) (10 ∷ []) in
     let f = length-append (a ++ b ++ codes " ") c in
@@ -76,7 +103,8 @@ two-short a b one two =
     let f = length-append a b in
     omega (arith, one, two, e, f)
 
-posted-short : (o : BareOutcome) → (o.status.sct < 256) × (o.status.sc < 256) × (o.rule < 256) → length (codes "posted " ++ status_text o.status ++ codes " " ++ decimal o.rule) ≤ 24
+posted-short : (o : BareOutcome) → (o.status.sct < 256) × (o.status.sc < 256) × (o.rule < 256)
+    → length (codes "posted " ++ status_text o.status ++ codes " " ++ decimal o.rule) ≤ 24
 posted-short o (kind, code, rule) =
     let five = status-short o.status kind code in
     let three = length-decimal-le 3 o.rule (omega arith) (omega (arith, rule)) (omega (arith, rule)) in
@@ -85,17 +113,23 @@ posted-short o (kind, code, rule) =
     let c = length-append (codes "posted ") (status_text o.status) in
     omega (arith, five, three, a, b, c)
 
-pub told-short : (e : FleetEvent) (what : BareFleetSeen) → length (controller_text e) ≤ 5 → length (subject_text e) ≤ 26 → AreBytes what → is_short what ≡ true
+pub told-short : (e : FleetEvent) (what : BareFleetSeen) → length (controller_text e) ≤ 5 → length (subject_text e) ≤ 26
+    → AreBytes what → is_short what ≡ true
     → length (seen_line e (seen_of what) []) ≤ 96
 told-short e (seen.Up up) k s fits short = absurd (false≢true short)
 told-short e (seen.Placed placed) k s fits short = absurd (false≢true short)
 told-short e (seen.Rung rung) k s fits short = absurd (false≢true short)
-told-short e (seen.Fetched Took) k s fits short = three-short (codes "fetch ") (subject_text e) (codes "took") (omega arith) s (omega arith)
-told-short e (seen.Fetched Idle) k s fits short = three-short (codes "fetch ") (subject_text e) (codes "idle") (omega arith) s (omega arith)
+told-short e (seen.Fetched Took) k s fits short =
+    three-short (codes "fetch ") (subject_text e) (codes "took") (omega arith) s (omega arith)
+told-short e (seen.Fetched Idle) k s fits short =
+    three-short (codes "fetch ") (subject_text e) (codes "idle") (omega arith) s (omega arith)
 told-short e (seen.Executed (Posted o)) k s fits short =
-    three-short (codes "execute ") (subject_text e) (codes "posted " ++ status_text o.status ++ codes " " ++ decimal o.rule) (omega arith) s (posted-short o fits)
-told-short e (seen.Executed NoSuch) k s fits short = three-short (codes "execute ") (subject_text e) (codes "none") (omega arith) s (omega arith)
-told-short e (seen.Executed CqFull) k s fits short = three-short (codes "execute ") (subject_text e) (codes "full") (omega arith) s (omega arith)
+    three-short (codes "execute ") (subject_text e)
+    (codes "posted " ++ status_text o.status ++ codes " " ++ decimal o.rule) (omega arith) s (posted-short o fits)
+told-short e (seen.Executed NoSuch) k s fits short =
+    three-short (codes "execute ") (subject_text e) (codes "none") (omega arith) s (omega arith)
+told-short e (seen.Executed CqFull) k s fits short =
+    three-short (codes "execute ") (subject_text e) (codes "full") (omega arith) s (omega arith)
 told-short e (seen.Polled polled) k s fits short = absurd (false≢true short)
 told-short e seen.Reset k s fits short = absurd (false≢true short)
 told-short e seen.Stored k s fits short = two-short (codes "stored ") (controller_text e) (omega arith) k

@@ -1,4 +1,4 @@
--- The lines of transcripts that tell what events of raw hosts, of controllers and of all gave.
+-- The lines of transcripts for the results of events of raw hosts, of controllers and of all.
 use Rattle.std.specs.Prelude.{ℕ, ◌<◌, Bool, true, false, List, [], Option, Some, None, if◌then◌else◌}
 use Rattle.nvme_event.specs.Bare.{seen_of}
 use Rattle.nvme_event.specs.declared.bare.BareFleetSeen.{BareFleetSeen}
@@ -8,7 +8,7 @@ use Rattle.nvme_event.specs.declared.event.FleetEvent.TheVariants as event
 use Rattle.nvme_machine.specs.declared.bare.BareExecuted.TheVariants.{Posted}
 use Rattle.nvme_transcript.specs.Transcript.{seen_line}
 
--- whether such an event gives it
+-- whether such an event has this result
 abbrev pub is_short : BareFleetSeen → Bool
 is_short (seen.Fetched fetched) = true
 is_short (seen.Executed executed) = true
@@ -23,7 +23,7 @@ is_short what = false
 abbrev pub answer_line : FleetEvent → BareFleetSeen → Option (List ℕ)
 answer_line e what = if is_short what then Some (seen_line e (seen_of what) []) else None
 
--- the number behind that of the controller in an event's line
+-- the number after that of the controller in an event's line
 abbrev pub second_of : FleetEvent → ℕ
 second_of (event.Fetch cntlid qid) = qid
 second_of (event.Execute cntlid i) = i

@@ -1,5 +1,20 @@
--- The lines of scripts that say events of raw hosts, of controllers and of all, each with its line feed.
-use Rattle.std.specs.Prelude.{◌≡◌, ℕ, ◌^◌, nat_lt, List, [], ◌∷◌, ◌++◌, codes, Option, Some, None, Result, if◌then◌else◌}
+-- The lines of scripts for events of raw hosts, of controllers and of all, each with its line feed.
+use Rattle.std.specs.Prelude.{
+  ◌≡◌,
+  ℕ,
+  ◌^◌,
+  nat_lt,
+  List,
+  [],
+  ◌∷◌,
+  ◌++◌,
+  codes,
+  Option,
+  Some,
+  None,
+  Result,
+  if◌then◌else◌,
+}
 use Rattle.nvme_event.specs.declared.event.FleetEvent.{FleetEvent}
 use Rattle.nvme_event.specs.declared.event.FleetEvent.TheVariants as event
 use Rattle.nvme_grammar.specs.declared.keyword.Keyword.TheVariants as keyword
@@ -7,21 +22,21 @@ use Rattle.nvme_lines.specs.LineTexts as line
 use Rattle.library_text.specs.declared.putting.Unput.{Unput}
 use Rattle.library_text.specs.Putting.{Puts}
 
--- the line of an event, whichever it is
+-- the line of any event
 abbrev pub whole_line : FleetEvent → List ℕ
 whole_line e = line.event_line e ++ 10 ∷ []
 
--- what stands before the digits of a store's line
+-- the part before the digits of a store's line
 abbrev pub store_front : ℕ → ℕ → List ℕ
 store_front cntlid address =
     line.keyword_line keyword.Store (line.decimals (cntlid ∷ address ∷ []) ++ codes "hex:" ∷ [])
 
--- a line, where there are bytes
+-- a line, if there are bytes
 abbrev pub if_any : List ℕ → List ℕ → Option (List ℕ)
 if_any [] text = None
 if_any (b ∷ bs) text = Some text
 
--- The line that says an event. A store of no bytes has none, and the place of a command has 16 bits there.
+-- The line of an event. A store of no bytes has none, and the place of a command has 16 bits there.
 abbrev pub event_line : FleetEvent → Option (List ℕ)
 event_line (event.RawStore cntlid address bytes) = if_any bytes.now (whole_line (event.RawStore cntlid address bytes))
 event_line (event.RawWrite32 cntlid offset value) = Some (whole_line (event.RawWrite32 cntlid offset value))

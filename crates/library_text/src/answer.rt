@@ -1,4 +1,4 @@
-//! The lines of what events gave.
+//! The lines for results of events.
 
 ghost use Rattle.std.specs.Prelude.{◌≡◌, ◌<◌, [], true};
 ghost use Rattle.nvme_event.specs.Bare.{seen_of};
@@ -12,8 +12,8 @@ use nvme_event::{BareFleetSeen, FleetEvent};
 use nvme_machine::BareExecuted;
 use nvme_transcript::TranscriptLine;
 
-/// Puts the line of a transcript that tells what an event gave, and a line feed, at the front of a buffer, where it has
-/// room for them: how many bytes that are. `None` for what only a driver's events give.
+/// Writes the transcript line of an event's result, and a line feed, at the front of a buffer. Returns their length, or
+/// an error if they do not fit. `None` for a result that only a driver's events have.
 pub fn put_answer(
     event: &FleetEvent<'_>,
     seen: &BareFleetSeen,
@@ -33,7 +33,7 @@ pub fn put_answer(
     }
 }
 
-/// The number behind that of the controller in an event's line: of a queue, or of a place.
+/// The number after the controller's in an event's line: a queue, or the place of a fetched command.
 fn second_of(event: &FleetEvent<'_>) -> u64
     ensures { result ≡ second_of event.now }
 {
@@ -60,7 +60,7 @@ fn read_posted(seen: &BareFleetSeen)
     }
 }
 
-/// Puts such a line. It is short since its numbers are, each by its type.
+/// Puts such a line. It is short since its numbers fit their types.
 fn put_told(event: &FleetEvent<'_>, seen: &BareFleetSeen, line: &mut [u8]) -> Result<usize, Unput>
     requires { is_short seen.now ≡ true }
     ensures { Puts (seen_line event.now (seen_of seen.now) []) result line.old line.new }

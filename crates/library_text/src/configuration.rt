@@ -11,7 +11,7 @@ use nvme_lines::LineText;
 use nvme_spec::{Config, ControllerConfig, NsConfig};
 use script_text::{NoRoom, Page, Spell};
 
-/// A configuration, by the lines that describe it, each with its line feed.
+/// A configuration as the lines that describe it, each with its line feed.
 #[derive(Clone, Copy)]
 pub struct ConfigLines<'a>(pub &'a Config);
 

@@ -15,12 +15,12 @@ use nvme_grammar::Line;
 use nvme_lines::LineText;
 use script_text::{NoRoom, Page, Spell, encode_into};
 
-/// How many bytes stand before the digits of a store's line at most, and some more.
+/// The most bytes before the digits of a store's line, and some more.
 const MOST_FRONT: usize = 64;
 
-/// Puts the line of an event of a raw host, of a controller or of all, and a line feed, at the front of a buffer, where it
-/// has room for them: how many bytes that are. `None` where no line says the event: a store of no bytes, the execution at
-/// a place above 65,535, and what only a driver does.
+/// Puts the line of an event of a raw host, of a controller or of all, and a line feed, at the front of a buffer, if
+/// they fit, and returns their length. `None` if no line is this event: a store of no bytes, the execution at a place
+/// above 65,535, or an event of a driver.
 pub fn put_event(event: &FleetEvent<'_>, line: &mut [u8]) -> Option<Result<usize, Unput>>
     ensures { PutsLine (event_line event.now) result line.old line.new }
 {
@@ -79,7 +79,7 @@ fn put_execute(cntlid: u16, i: usize, line: &mut [u8]) -> Result<usize, Unput>
     )
 }
 
-/// Puts what stands before the digits of a store's line: the line of a store of no bytes.
+/// Puts the part before the digits of a store's line: the line of a store of no bytes.
 fn put_front<P: Page>(page: &mut P, cntlid: u16, address: u64) -> Result<(), NoRoom>
     ensures { Adds P.room result (P.written page.old) (store_front cntlid address) (P.written page.new) }
 {
@@ -97,7 +97,7 @@ fn put_store(cntlid: u16, address: u64, bytes: &[u8], line: &mut [u8]) -> Result
     }
 }
 
-/// Whether a line with so many bytes in front, digits of so many, and a line feed has room.
+/// Whether a line fits that has `front` bytes, the digits of `bytes` bytes, and a line feed.
 fn has_room(front: usize, bytes: usize, room: usize) -> bool
     ensures { result ≡ nat_lt (front + 2 * bytes) room }
 {

@@ -1,6 +1,6 @@
-//! The texts that the library for C reads and writes, apart from its calls so that they are proved without subsystems: the
-//! configuration of a text, or why it is refused; the lines that describe one; the line of an event; and texts on their
-//! way into a buffer.
+//! The texts that the library for C reads and writes: the configuration of a text, or why it is refused; the lines that
+//! describe one; the line of an event; and putting texts into a buffer. They are in a crate of their own, so that they
+//! are proved without subsystems.
 #![tactic(auto)]
 
 mod answer;

@@ -1,4 +1,4 @@
-//! Texts on their way into a buffer.
+//! Puts texts into a buffer.
 
 ghost use Rattle.std.specs.Prelude.{◌≡◌, ◌≤◌, ◌++◌, length};
 ghost use Rattle.script_text.specs.Pages.{Adds};
@@ -8,19 +8,19 @@ use arrayvec::ArrayString;
 use script_text::{NoRoom, Page, Spell, Text};
 use std::alloc::Global;
 
-/// How many bytes a short text has at most.
+/// The most bytes of a short text.
 const MOST_SHORT: usize = 96;
 
 /// Why a text was not put into a buffer.
 #[derive(Clone, Copy, Debug, PartialEq, Eq)]
 pub enum Unput {
-    /// The buffer has no room for it.
+    /// It does not fit the buffer.
     NoRoom,
     /// Memory was refused.
     NoMemory,
 }
 
-/// Puts bytes at the front of a buffer, where it has room for them: how many they are.
+/// Puts bytes at the front of a buffer, if they fit, and returns their number.
 #[inline(always)]
 pub fn put_bytes(bytes: &[u8], buffer: &mut [u8]) -> Result<usize, Unput>
     ensures { Puts bytes.now result buffer.old buffer.new }
@@ -32,7 +32,7 @@ pub fn put_bytes(bytes: &[u8], buffer: &mut [u8]) -> Result<usize, Unput>
     Ok(bytes.len())
 }
 
-/// Puts the text of a value, and what ends it, onto a page.
+/// Puts the text of a value, and its ending, onto a page.
 pub(crate) fn put_ended<T: Spell, P: Page>(value: &T, end: &str, page: &mut P) -> Result<(), NoRoom>
     ensures { Adds P.room result (P.written page.old) (T.spelled value.now ++ end.now) (P.written page.new) }
 {
@@ -40,8 +40,8 @@ pub(crate) fn put_ended<T: Spell, P: Page>(value: &T, end: &str, page: &mut P) -
     page.put_str(end)
 }
 
-/// Puts the text of a value, and what ends it, at the front of a buffer, where it has room for them. A text has 262,240
-/// bytes at most.
+/// Puts the text of a value, and its ending, at the front of a buffer, if they fit, and returns their length. A text
+/// has at most 262,240 bytes.
 pub fn put_text<T: Spell>(
     alloc: Global,
     value: &T,
@@ -59,7 +59,7 @@ pub fn put_text<T: Spell>(
     }
 }
 
-/// The same of a text of 96 bytes at most. No memory is taken.
+/// Like `put_text`, for a text of at most 96 bytes, without taking memory.
 #[inline]
 pub fn put_short<T: Spell>(value: &T, end: &str, buffer: &mut [u8]) -> Result<usize, Unput>
     requires { length (T.spelled value.now ++ end.now) ≤ most_short }

@@ -1,7 +1,8 @@
-//! A configuration's text is read and judged.
+//! Reads and checks a configuration's text.
 
 ghost use Rattle.std.specs.Prelude.{◌≡◌, ◌≤◌, is_some, length, IfOk, IfErr};
 ghost use Rattle.script_text.specs.Lines.{text_lines};
+ghost use Rattle.nvme_spec.specs.Configuration.{capacity};
 ghost use Rattle.nvme_ns.specs.Configured.{configuration};
 ghost use Rattle.script_text.specs.Words.{most_words};
 ghost use Rattle.nvme_grammar.specs.Kept.{line_event};
@@ -17,15 +18,21 @@ use nvme_spec::Config;
 use script_text::{behind_separators, front_line};
 use std::alloc::Global;
 
-/// How many bytes a script has at most.
+/// The most bytes of a script.
 const MOST_BYTES: usize = 4_194_304;
 
-/// The configuration that the lines of a text describe, judged over a medium of so many blocks, or why it is refused: the
-/// text is too long, a line is outside the grammar, a line breaks a rule, a line is an event, or there is no controller.
-/// `start` may end the lines.
-pub fn config_in(alloc: Global, text: &[u8], medium_blocks: u64) -> Result<Config, Refused<'_>>
-    ensures accepted { IfOk result (λ config. Accepts text.now medium_blocks (configuration config)) }
-    ensures refused { IfErr result (λ refused. Refuses text.now medium_blocks refused) }
+/// The configuration of a text, checked for a medium of `medium_blocks` blocks and namespaces of at most `max_blocks`
+/// blocks each; or why it is refused: the text is too long, a line is outside the grammar, a line breaks a rule, a line
+/// is an event, or there is no controller. `start` may end the lines.
+pub fn config_in(
+    alloc: Global,
+    text: &[u8],
+    max_blocks: u64,
+    medium_blocks: u64,
+) -> Result<Config, Refused<'_>>
+    ensures accepted { IfOk result
+        (λ config. Accepts text.now (capacity max_blocks medium_blocks) (configuration config)) }
+    ensures refused { IfErr result (λ refused. Refuses text.now (capacity max_blocks medium_blocks) refused) }
 {
     if text.len() > MOST_BYTES {
         return Err(Refused::TooLong);
@@ -34,7 +41,7 @@ pub fn config_in(alloc: Global, text: &[u8], medium_blocks: u64) -> Result<Confi
         return Err(Refused::NoMemory);
     };
     match read_lines(alloc, text, &mut buffers.bytes, &mut buffers.identifiers) {
-        Ok(script) => judged(text, medium_blocks, script, &mut buffers),
+        Ok(script) => judged(text, max_blocks, medium_blocks, script, &mut buffers),
         Err(ParseFault::Syntax(number, fault)) => Err(Refused::Line(number, fault)),
         Err(ParseFault::NoMemory) => Err(Refused::NoMemory),
     }
@@ -43,6 +50,7 @@ pub fn config_in(alloc: Global, text: &[u8], medium_blocks: u64) -> Result<Confi
 /// The configuration of a text that was read, or why it is refused.
 fn judged<'a>(
     text: &'a [u8],
+    max_blocks: u64,
     medium_blocks: u64,
     script: Script,
     buffers: &mut Buffers,
@@ -52,10 +60,12 @@ fn judged<'a>(
     requires begins { Begins (text_lines text.now) }
     requires few { length text.now ≤ 4194304 }
     requires read { configuration script.config ≡ set_up (text_lines text.now) }
-    ensures accepted { IfOk result (λ config. Accepts text.now medium_blocks (configuration config)) }
-    ensures refused { IfErr result (λ refused. RefusesLines (text_lines text.now) medium_blocks refused) }
+    ensures accepted { IfOk result
+        (λ config. Accepts text.now (capacity max_blocks medium_blocks) (configuration config)) }
+    ensures refused { IfErr result
+        (λ refused. RefusesLines (text_lines text.now) (capacity max_blocks medium_blocks) refused) }
 {
-    if let Some(reason) = refusal_of(&script.config, medium_blocks) {
+    if let Some(reason) = refusal_of(&script.config, max_blocks, medium_blocks) {
         return Err(rule_refused(text, reason, buffers));
     }
     if let Some((number, column)) = first_event(
@@ -72,7 +82,7 @@ fn judged<'a>(
     Ok(config)
 }
 
-/// Which line breaks the first rule that is broken.
+/// The line that breaks the first broken rule.
 fn rule_refused<'a>(text: &'a [u8], reason: ConfigReason, buffers: &mut Buffers) -> Refused<'a>
     requires bytes_room { HasTextRoom text.now buffers.old.bytes.items }
     requires identifiers_room { HasWordsRoom text.now buffers.old.identifiers.items }

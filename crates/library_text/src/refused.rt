@@ -2,7 +2,7 @@
 
 ghost use Rattle.std.specs.Prelude.{◌≡◌, ◌++◌, codes, decimal};
 ghost use Rattle.script_text.specs.Pages.{Adds};
-ghost use Rattle.library_text.specs.Refusals.{event_text, place_of, reason_text};
+ghost use Rattle.library_text.specs.Refusals.{event_text, position_of, reason_text};
 
 use nvme_grammar::LineFault;
 use nvme_ns::BrokenRule;
@@ -10,12 +10,12 @@ use nvme_program::sentence_of;
 use nvme_spec::ConfigFault;
 use script_text::{NoRoom, Page, Spell, put_number};
 
-/// Why a configuration's text is refused. Its text is what the programs print behind the name of the file and a colon.
+/// Why a configuration's text is refused. The programs print its text after the name of the file and a colon.
 #[derive(Clone, Copy)]
 pub enum Refused<'a> {
-    /// It has more bytes than a script may have.
+    /// It is longer than a script may be.
     TooLong,
-    /// A line is outside the grammar, or may not stand where it does: its number, from 1, and its fault.
+    /// A line is outside the grammar, or not allowed at its place: its number, from 1, and its fault.
     Line(usize, LineFault<'a>),
     /// A line breaks a rule of configurations: its number, from 1, the fault and the rule.
     Rule(usize, ConfigFault, BrokenRule),
@@ -28,9 +28,9 @@ pub enum Refused<'a> {
 }
 
 impl Refused<'_> {
-    /// The line that is at fault and where in it, in bytes, both from 1; 0 where memory was refused.
-    pub fn place(&self) -> (usize, usize)
-        ensures { result ≡ place_of self.now }
+    /// The line at fault and the column, both from 1; 0 if memory was refused.
+    pub fn position(&self) -> (usize, usize)
+        ensures { result ≡ position_of self.now }
     {
         match self {
             Refused::Line(number, fault) => (*number, fault.column),
@@ -77,10 +77,10 @@ fn put_place<P: Page>(page: &mut P, number: usize) -> Result<(), NoRoom>
     page.put_str(":")
 }
 
-/// Puts that a line is an event, behind its column.
+/// Puts that a line is an event, after its column.
 fn put_event<P: Page>(page: &mut P, column: usize) -> Result<(), NoRoom>
     ensures { Adds P.room result (P.written page.old) (event_text column) (P.written page.new) }
 {
     put_number(page, column as u64)?;
-    page.put_str(": this line is an event, and a configuration has none")
+    page.put_str(": this line is an event; a configuration has none")
 }

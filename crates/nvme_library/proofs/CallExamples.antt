@@ -1,11 +1,11 @@
--- Examples of calls, by computing.
+-- For `examples.rt`: calls of the medium, by computing.
 use Rattle.std.proofs.Common.{◌≡◌, ℕ, List, [], ◌∷◌, ◌++◌, None, Ok, Some, refl, sym, ap, subst, ◌∙◌, true}
 use Rattle.std.specs.Prelude.{replicate, slice_range}
 use Rattle.std.proofs.lemmas.List.{append-nil}
 use Rattle.nvme_wire.specs.Completion.{completion_entry}
 use Rattle.nvme_wire.specs.Submission.{cdw10, cdw11, cdw12, cid, fuse, nsid, opcode, prp1, prp2, psdt}
 use Rattle.nvme_spec.specs.Commands.{block_count, command_of, starting_lba}
-use Rattle.nvme_spec.specs.Configuration.{first_config_fault}
+use Rattle.nvme_spec.specs.Configuration.{config_fault, first_config_fault, script_capacity}
 use Rattle.nvme_spec.specs.DataRules.{data_addresses, pointer_rule}
 use Rattle.nvme_spec.specs.Entries.{command_entry, transfer_entry}
 use Rattle.nvme_spec.specs.Execution.{no_marks}
@@ -60,27 +60,29 @@ use Rattle.nvme_library.specs.CallExamples.{
 use Rattle.nvme_library.specs.Events.{Executing}
 use Rattle.nvme_library.proofs.LentLaws.{bytes_stay_the_content, looks_leave_the_medium}
 
--- all that executions are computed with: to unfold this word is to unfold them
+-- all definitions that executions compute with: unfolding this one unfolds them
 unfoldable computing : Unit {0}
 unfolding completion_entry cdw10 cdw11 cdw12 cid fuse nsid opcode prp1 prp2 psdt block_count command_of starting_lba
-    data_addresses pointer_rule command_entry transfer_entry fault_free_execution command_calls action_outcome action_rule
-    io_judgement reservation_outcome attachment_rule field_rule form_rule mark_rule nsid_rule opcode_rule protection_rule
+    data_addresses pointer_rule command_entry transfer_entry fault_free_execution command_calls
+    action_outcome action_rule
+    io_judgement reservation_outcome attachment_rule field_rule form_rule mark_rule nsid_rule opcode_rule
+    protection_rule
     range_rule reservation_rule qword fault_of first_fault judgement_by addresses with_scattered host_of is_attached
     namespace_of opening_world after_posting after_queue_change open_pair fault_free_command_execution after_completion
     after_execution controller_at flushing writing
 computing = tt
 
 fits : first_config_fault small 2 ≡ None
-unfolding first_config_fault
+unfolding config_fault
 fits = refl
 
 flushing-laid : IsLaidOut flushing.world flushing.device.content
 unfolding flushing
-flushing-laid = opening_is_laid_out small 2 _ refl fits
+flushing-laid = opening_is_laid_out small (script_capacity 2) _ refl fits
 
 writing-laid : IsLaidOut writing.world writing.device.content
 unfolding writing
-writing-laid = opening_is_laid_out small 2 _ refl fits
+writing-laid = opening_is_laid_out small (script_capacity 2) _ refl fits
 
 -- An execution.
 
@@ -109,11 +111,14 @@ executes : (m : OwnOrLent) → Executing 1 0 (over flushing m) is_done (over (af
 executes m = record {
   marks = no_marks;
   marked = refl;
-  executes = subst (λ seen. Step true flushing (Execute 1 0) seen (after flushing)) flush-seen (steps flushing (Execute 1 0) flushing-laid);
+  executes = subst (λ seen. Step true flushing (Execute 1 0) seen (after flushing)) flush-seen
+      (steps flushing (Execute 1 0) flushing-laid);
   calls = record {
     calls = Flushes (Ok tt) ∷ [];
-    are = subst (λ seen. AreCallsOfStep true flushing (Execute 1 0) seen (after flushing) (Flushes (Ok tt) ∷ [])) flush-seen
-        (subst (λ cs. AreCallsOfStep true flushing (Execute 1 0) (fault_free_step flushing (Execute 1 0)).seen (after flushing) cs) flush-calls
+    are = subst
+        (λ seen. AreCallsOfStep true flushing (Execute 1 0) seen (after flushing) (Flushes (Ok tt) ∷ [])) flush-seen
+        (subst (λ cs. AreCallsOfStep true flushing (Execute 1 0) (fault_free_step flushing (Execute 1 0)).seen
+        (after flushing) cs) flush-calls
         (its-calls flushing flushing-laid));
     made = (m, flush-step m, refl);
   };
@@ -123,13 +128,15 @@ is-flush : IsFlushAt flushing 1 0
 unfolding computing
 is-flush = record { controller = _; command = a_flush; at = refl; found = refl; io = refl; is = refl }
 
-flush-leaves : (m other : OwnOrLent) → Executing 1 0 (over flushing m) is_done (over (after flushing) other) → bytes_of other ≡ bytes_of m
+flush-leaves : (m other : OwnOrLent) → Executing 1 0 (over flushing m) is_done (over (after flushing) other)
+    → bytes_of other ≡ bytes_of m
 flush-leaves m other h =
     let one = flushed_is_one_flush true flushing (after flushing) 1 0 _ h.calls.calls h.calls.are is-flush refl in
     let made = bytes_follow m other (Flushes (Ok tt) ∷ []) (subst (λ cs. Calls step_of m cs other) one h.calls.made) in
     made.2 ∙ made.1.1
 
-quiet : (writing.device.failures ≡ 0) × ((after writing).device.failures ≡ 0) × ((after writing).device.content ≡ replicate 1024 0)
+quiet : (writing.device.failures ≡ 0) × ((after writing).device.failures ≡ 0)
+    × ((after writing).device.content ≡ replicate 1024 0)
 unfolding computing
 quiet = (refl, refl, refl)
 
@@ -137,7 +144,8 @@ pub executing_makes_its_calls : ExecutingMakesItsCalls
 executing_makes_its_calls = record {
   flushes = executes;
   no_write = λ m other differ h. differ (flush-leaves m other h);
-  writes = λ m other is h. bytes_stay_the_content 1 0 (over writing m) (over (after writing) other) is_done h writing-laid quiet.0 quiet.1 is ∙ quiet.2;
+  writes = λ m other is h. bytes_stay_the_content 1 0 (over writing m)
+      (over (after writing) other) is_done h writing-laid quiet.0 quiet.1 is ∙ quiet.2;
 }
 
 -- A power cycle.
@@ -148,7 +156,7 @@ cycling_makes_no_call = record {
   no_write = λ s other differ h. differ (ap bytes_of h.2);
 }
 
--- Looks.
+-- Reads of blocks.
 
 read-step : (m : OwnOrLent) → bytes_of m ≡ flushing.device.content → step_of m (Reads 0 (Ok (replicate 512 1))) m
 unfolding flushing
@@ -165,14 +173,22 @@ looks m is = record {
     world = refl;
     controllers = refl;
   };
-  calls = record { passed = 1; ends = refl; made = (m, read-step m is, refl); read = λ told. refl; behind = refl; long = refl };
+  calls = record {
+    passed = 1;
+    ends = refl;
+    made = (m, read-step m is, refl);
+    read = λ told. refl;
+    behind = refl;
+    long = refl;
+  };
 }
 
 first_byte : List ℕ → ℕ
 first_byte [] = 0
 first_byte (x ∷ xs) = x
 
-looked-bytes : (m other : OwnOrLent) → LooksAtFirst m (replicate 512 2) other → replicate {A = ℕ} 512 2 ≡ replicate 512 1
+looked-bytes : (m other : OwnOrLent) → LooksAtFirst m (replicate 512 2) other
+    → replicate {A = ℕ} 512 2 ≡ replicate 512 1
 unfolding computing
 looked-bytes m other h = h.looks.read refl
 
@@ -181,7 +197,8 @@ unfolding first_byte
 looks_make_their_reads = record {
   reads = looks;
   no_other_bytes = λ m other h. two-is-one (ap first_byte (looked-bytes m other h));
-  no_write = λ m other differ h. differ (ap bytes_of (looks_leave_the_medium 1 0 1 (over flushing m) (over flushing other) (replicate 512 7) (replicate 512 1) (Some (Ok tt)) h));
+  no_write = λ m other differ h. differ (ap bytes_of (looks_leave_the_medium 1 0 1 (over flushing m)
+      (over flushing other) (replicate 512 7) (replicate 512 1) (Some (Ok tt)) h));
 }
   where
     two-is-one : ◌≡◌ {A = ℕ} 2 1 → ⊥

@@ -1,22 +1,29 @@
--- Examples of openings, by computing.
+-- For `examples.rt`: openings, and events on a closed handle, by computing.
 use Rattle.std.proofs.Common.{◌≡◌, ℕ, [], refl, sym, ap, ◌∙◌, Option, None, Some, replicate}
 use Rattle.nvme_spec.specs.declared.config.ConfigFault.{ConfigFault}
 use Rattle.nvme_spec.specs.declared.config.ConfigFault.TheVariants.{BadId, DoesNotFit}
-use Rattle.nvme_spec.specs.Configuration.{first_config_fault}
+use Rattle.nvme_spec.specs.Configuration.{config_fault, first_config_fault}
 use Rattle.std.proofs.lemmas.Option.{none-some}
 use Rattle.nvme_lent.specs.OwnOrLent.{lent_of}
-use Rattle.nvme_library.specs.Examples.{one_block, OneBlockOpens, NoBlockDoesNotOpen, HostlessDoesNotOpen, CopyIsNotLent}
+use Rattle.nvme_library.specs.Examples.{
+  one_block,
+  OneBlockOpens,
+  NoBlockDoesNotOpen,
+  HostlessDoesNotOpen,
+  CopyIsNotLent,
+  ClosedStaysClosed,
+}
 
 accepted : first_config_fault (one_block 5) 1 ≡ None
-unfolding first_config_fault
+unfolding config_fault
 accepted = refl
 
 too-large : first_config_fault (one_block 5) 0 ≡ Some DoesNotFit
-unfolding first_config_fault
+unfolding config_fault
 too-large = refl
 
 hostless : first_config_fault (one_block 0) 1 ≡ Some BadId
-unfolding first_config_fault
+unfolding config_fault
 hostless = refl
 
 pub one_block_opens : OneBlockOpens
@@ -30,3 +37,10 @@ hostless_does_not_open lent new h = none-some _ (sym h.accepted ∙ hostless)
 
 pub copy_is_not_lent : CopyIsNotLent
 copy_is_not_lent c bytes new copy is h = none-some _ (sym (ap lent_of is) ∙ h.over)
+
+pub closed_stays_closed : ClosedStaysClosed
+closed_stays_closed = record {
+  happens = (refl, refl);
+  answered = λ answer new h. h.0;
+  stays = λ answer new h. h.1;
+}

@@ -1,5 +1,5 @@
--- The machine values of a `Slot` and of a `BoxPointer`: a pointer, and an allocator's word, which has no bytes. What
--- each owns is taken apart and put together here. Assumes `Logic`.
+-- For the proofs of `Slot`: the machine values of a `Slot` and of a `BoxPointer` are a pointer and an allocator's word,
+-- which has no bytes. This file takes apart, and puts together, what each owns. Assumes `Logic`.
 use Rattle.std.proofs.Common.{◌≡◌, List, [], ◌∷◌, ◌++◌, refl, ◌∙◌, lit<, Option, Some, None, true, is_some}
 use seplogic.Ra.Ura.{Ura}
 use mir.Syntax.{ty_ptr, ty_struct, tcons, tnil}

@@ -1,5 +1,28 @@
--- What every subsystem keeps that C holds: it holds at the opening, and after each event.
-use Rattle.std.proofs.Common.{◌≡◌, ℕ, zero, suc, ◌+◌, Bool, true, false, List, [], ◌∷◌, length, map, Option, None, Some, Result, refl, sym, ap, subst, ◌∙◌}
+-- For the answers of all exports: the invariant of an open subsystem holds at the opening and after each event.
+use Rattle.std.proofs.Common.{
+  ◌≡◌,
+  ℕ,
+  zero,
+  suc,
+  ◌+◌,
+  Bool,
+  true,
+  false,
+  List,
+  [],
+  ◌∷◌,
+  length,
+  map,
+  Option,
+  None,
+  Some,
+  Result,
+  refl,
+  sym,
+  ap,
+  subst,
+  ◌∙◌,
+}
 use Rattle.std.specs.Prelude.{if◌then◌else◌, nat_le, slice_get}
 use Rattle.std.proofs.lemmas.List.{length-set}
 use Rattle.std.proofs.lemmas.Option.{none-some, same_Some}
@@ -19,7 +42,22 @@ use Rattle.nvme_machine.specs.declared.fetched.FetchedCommand.{FetchedCommand}
 use Rattle.nvme_machine.specs.declared.seen.Seen.{Seen}
 use Rattle.nvme_machine.specs.declared.seen.Seen.TheVariants.{Stored, Outside}
 use Rattle.nvme_machine.specs.CommandExecutions.{CommandExecution}
-use Rattle.nvme_machine.specs.Controllers.{Controller, SubmissionQueue, QueuePair, with_admin_queues, taking_effect, after_store, after_write32, after_fetch, fetchable, fetched_from, reaction, after_posting, after_queue_change, new_controller}
+use Rattle.nvme_machine.specs.Controllers.{
+  Controller,
+  SubmissionQueue,
+  QueuePair,
+  with_admin_queues,
+  taking_effect,
+  after_store,
+  after_write32,
+  after_fetch,
+  fetchable,
+  fetched_from,
+  reaction,
+  after_posting,
+  after_queue_change,
+  new_controller,
+}
 use Rattle.nvme_machine.specs.Subsystems.{Subsystem, Step, numbered, controller_at, opening, after_completion}
 use Rattle.nvme_machine.specs.Windows.{HasItsWindow}
 use Rattle.nvme_machine.proofs.Everywhere.{Keeps, step-keeps}
@@ -35,7 +73,8 @@ stores : (address : ℕ) (bytes : List ℕ) (c : Controller) → Places c → Pl
 unfolding after_store
 stores address bytes c p = by (nat_le (address + length bytes) window_size)
   where
-    by : (b : Bool) → Places (if b then reaction (record c { window = with_bytes c.window address bytes }) Stored else reaction c Outside).controller
+    by : (b : Bool) → Places (if b then reaction (record c { window = with_bytes c.window address bytes }) Stored
+        else reaction c Outside).controller
     by true = p
     by false = p
 
@@ -54,7 +93,8 @@ effects (CqHead q v) c p = (p.0, length-set c.completion q _ ∙ p.1)
 
 writes : (offset v : ℕ) (c : Controller) → Places c → Places (after_write32 offset v c)
 unfolding after_write32
-writes offset v c p = effects (after_write c.registers offset v).effect (record c { registers = (after_write c.registers offset v).registers }) p
+writes offset v c p = effects (after_write c.registers offset v).effect
+    (record c { registers = (after_write c.registers offset v).registers }) p
 
 fetches-from : (q : ℕ) (c : Controller) (o : Option SubmissionQueue) → Places c → Places (fetched_from q c o).controller
 fetches-from q c None p = p
@@ -72,10 +112,12 @@ changes (MakeSq qid size at to) c p = (length-set c.submission qid _ ∙ p.0, p.
 changes (DropCq qid) c p = (p.0, length-set c.completion qid _ ∙ p.1)
 changes (DropSq qid) c p = (length-set c.submission qid _ ∙ p.0, p.1)
 
-finishes : (i : ℕ) (t : FetchedCommand) (p : QueuePair) (a : CommandExecution) (c : Controller) → Places c → Places (after_completion i t p a c)
+finishes : (i : ℕ) (t : FetchedCommand) (p : QueuePair) (a : CommandExecution) (c : Controller)
+    → Places c → Places (after_completion i t p a c)
 unfolding after_completion after_posting
 finishes i t p a c places =
-    changes a.change (after_posting i t p a.outcome.status a.outcome.dw0 (record c { window = a.left.window })) (places.0, length-set c.completion p.submission.cqid _ ∙ places.1)
+    changes a.change (after_posting i t p a.outcome.status a.outcome.dw0 (record c { window = a.left.window }))
+    (places.0, length-set c.completion p.submission.cqid _ ∙ places.1)
 
 whole : (c : Controller) → IsWhole c → Places c
 whole c w = (w.submission, w.completion)
@@ -85,24 +127,30 @@ is-whole c window p = record { window = window; submission = p.0; completion = p
 
 keeps_whole : Keeps IsWhole
 keeps_whole = record {
-  marks = λ n c w. record { window = keeps_its_window.marks n c w.window; submission = w.submission; completion = w.completion };
-  store = λ address bytes c w. is-whole _ (keeps_its_window.store address bytes c w.window) (stores address bytes c (whole c w));
+  marks = λ n c w.
+      record { window = keeps_its_window.marks n c w.window; submission = w.submission; completion = w.completion };
+  store = λ address bytes c w.
+      is-whole _ (keeps_its_window.store address bytes c w.window) (stores address bytes c (whole c w));
   write = λ offset v c w. is-whole _ (keeps_its_window.write offset v c w.window) (writes offset v c (whole c w));
   fetch = λ q c w. is-whole _ (keeps_its_window.fetch q c w.window) (fetches q c (whole c w));
   cycle = λ c w. record { window = keeps_its_window.cycle c w.window; submission = refl; completion = refl };
-  finish = λ tells w d k i c t p a room comes is. is-whole _ (keeps_its_window.finish tells w d k i c t p a room comes is.window) (finishes i t p a c (whole c is));
+  finish = λ tells w d k i c t p a room comes is.
+      is-whole _ (keeps_its_window.finish tells w d k i c t p a room comes is.window) (finishes i t p a c (whole c is));
 }
 
--- after an event all are whole as before
-pub step_keeps_whole : (tells : Bool) (old new : Subsystem) (event : Event) (seen : Seen) → Step tells old event seen new → AreWhole old → AreWhole new
+-- after an event all controllers are as whole as before
+pub step_keeps_whole : (tells : Bool) (old new : Subsystem) (event : Event) (seen : Seen)
+    → Step tells old event seen new → AreWhole old → AreWhole new
 step_keeps_whole tells old new event seen step all = step-keeps IsWhole keeps_whole tells old new event seen step all
 
-new-places : (ks : List ControllerConfig) (i : ℕ) (c : Controller) → slice_get (map (λ (k : ControllerConfig). new_controller k.cntlid) ks) i ≡ Some c → Places c
+new-places : (ks : List ControllerConfig) (i : ℕ) (c : Controller)
+    → slice_get (map (λ (k : ControllerConfig). new_controller k.cntlid) ks) i ≡ Some c → Places c
 new-places [] i c h = absurd (none-some _ h)
 new-places (k ∷ ks) zero c h = subst Places (same_Some _ _ h) (refl, refl)
 new-places (k ∷ ks) (suc i) c h = new-places ks i c h
 
-opening-places : (config : Configuration) (d : Device) (k : ℕ) (c : Controller) → controller_at (opening config d) k ≡ Some c → Places c
+opening-places : (config : Configuration) (d : Device) (k : ℕ) (c : Controller)
+    → controller_at (opening config d) k ≡ Some c → Places c
 unfolding opening controller_at
 opening-places config d zero c h = absurd (none-some _ h)
 opening-places config d (suc i) c h = new-places config.controllers i c h
@@ -110,9 +158,12 @@ opening-places config d (suc i) c h = new-places config.controllers i c h
 pub opening_is_whole : (config : Configuration) (d : Device) → AreWhole (opening config d)
 opening_is_whole config d k c at = is-whole c (opening_has_its_windows config d k c at) (opening-places config d k c at)
 
--- a look at blocks leaves the controllers
-pub looks_whole : (tells : Bool) (place : Option ℕ) (old new : Subsystem) (bytes : List ℕ) (result : Option (Result (Unit {0}) MediumFault)) → Looks tells place old bytes result new → AreWhole old → AreWhole new
+-- a read of blocks leaves the controllers unchanged
+pub looks_whole : (tells : Bool)
+    (place : Option ℕ) (old new : Subsystem) (bytes : List ℕ) (result : Option (Result (Unit {0}) MediumFault))
+    → Looks tells place old bytes result new → AreWhole old → AreWhole new
 unfolding controller_at
 looks_whole tells None old new bytes result h all = subst AreWhole (sym h.1) all
 looks_whole tells (Some first) old new bytes None h all = absurd h
-looks_whole tells (Some first) old new bytes (Some r) h all = λ k c at. all k c (ap (λ cs. numbered cs k) (sym h.controllers) ∙ at)
+looks_whole tells (Some first) old new bytes (Some r) h all =
+    λ k c at. all k c (ap (λ cs. numbered cs k) (sym h.controllers) ∙ at)

@@ -1,4 +1,4 @@
--- What C sees of the access state: who is attached to a namespace, who is registered with it, and who holds it.
+-- The access state for C: attachments, registrants and holders, as contracts of `access.rt` cite them.
 use Rattle.std.specs.Prelude.{ℕ, ◌/◌, ◌%◌, ◌^◌, length, false, if◌then◌else◌, Option, Some, None, slice_get}
 use Rattle.nvme_spec.specs.declared.access.Hold.{Hold as Holding}
 use Rattle.nvme_spec.specs.declared.access.Hold.TheVariants.{Free, One, All}
@@ -16,7 +16,7 @@ abbrev pub attachment : ℕ → ℕ → Option Inside → Answer
 attachment cntlid nsid None = closed
 attachment cntlid nsid (Some s) = value_answer (if is_attached s.state.world cntlid nsid then 1 else 0)
 
--- the type of a reservation and the one host that holds it, 0 each where there is none
+-- the type of a reservation and its one holder, 0 each if there is none
 abbrev pub holder_of : Holding → ℕ × ℕ
 holder_of Free = (0, 0)
 holder_of (One type holder) = (type, holder)

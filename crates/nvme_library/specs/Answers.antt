@@ -1,17 +1,26 @@
--- What an event gave, as C sees it.
+-- The result of an event for C.
 use Rattle.std.specs.Prelude.{ℕ}
 use Rattle.nvme_machine.specs.declared.bare.BareOutcome.{BareOutcome}
 use Rattle.nvme_machine.specs.declared.bare.BareExecuted.TheVariants.{Posted, NoSuch, CqFull}
 use Rattle.nvme_machine.specs.declared.bare.BareSeen.{BareSeen}
-use Rattle.nvme_machine.specs.declared.bare.BareSeen.TheVariants.{Stored, Outside, Wrote, Value, Fetched, Executed, Cycled, NoController}
+use Rattle.nvme_machine.specs.declared.bare.BareSeen.TheVariants.{
+  Stored,
+  Outside,
+  Wrote,
+  Value,
+  Fetched,
+  Executed,
+  Cycled,
+  NoController,
+}
 use Rattle.nvme_machine.specs.declared.seen.Fetched.TheVariants.{Took, Idle}
 use Rattle.nvme_library.specs.declared.answer.Answer.{Answer}
 
--- a number alone
+-- a code without values
 abbrev pub plain : ℕ → Answer
 plain what = record { what = what; value = 0; sct = 0; sc = 0; rule = 0 }
 
--- a number is the answer
+-- the value of a register
 abbrev pub value_answer : ℕ → Answer
 value_answer v = record (plain 3) { value = v }
 
@@ -19,7 +28,7 @@ value_answer v = record (plain 3) { value = v }
 abbrev pub posted : BareOutcome → Answer
 posted o = record { what = 6; value = o.dw0; sct = o.status.sct; sc = o.status.sc; rule = o.rule }
 
--- how C is told what an event gave
+-- the result of an event as an answer
 abbrev pub answer_of : BareSeen → Answer
 answer_of Stored = plain 1
 answer_of Wrote = plain 2

@@ -1,4 +1,4 @@
--- Which calls of the medium an execution, a power cycle and a look at blocks make, by example.
+-- Statements of worked examples: which calls of the medium an execution, a power cycle and a read of blocks make.
 use Rattle.std.specs.Prelude.{◌≡◌, ◌≢◌, [], ◌∷◌, List, Ok, Some, ℕ, replicate}
 use Rattle.nvme_spec.specs.Statuses as status
 use Rattle.nvme_lent.specs.OwnOrLent.{bytes_of}
@@ -28,7 +28,7 @@ after s = (fault_free_step s (Execute 1 0)).left
 abbrev pub is_done : BareSeen
 is_done = Executed (Posted (record { status = status.successful_completion; dw0 = 0; rule = 0 }))
 
--- The Flush is executed over any medium, which it leaves; so it is not where the medium has other bytes behind it. The
+-- The Flush is executed over any medium, and leaves it unchanged; no execution of it ends with another medium. The
 -- Write leaves its bytes.
 pub record ExecutingMakesItsCalls : Type 0 where
   pub flushes : (m : OwnOrLent) → Executing 1 0 (over flushing m) is_done (over (after flushing) m)
@@ -37,13 +37,13 @@ pub record ExecutingMakesItsCalls : Type 0 where
   pub writes : (m other : OwnOrLent) → bytes_of m ≡ writing.device.content
       → Executing 1 0 (over writing m) is_done (over (after writing) other) → bytes_of other ≡ replicate 1024 0
 
--- A power cycle leaves the medium: it is none where the medium has other bytes behind it.
+-- A power cycle leaves the medium unchanged: a step to another medium is not one.
 pub record CyclingMakesNoCall : Type 0 where
   pub leaves : (s : Inside) → Cycling s Cycled (over (after_power_cycle s.state) s.medium)
   pub no_write : (s : Inside) → (other : OwnOrLent) → bytes_of other ≢ bytes_of s.medium
       → Cycling s Cycled (over (after_power_cycle s.state) other) → ⊥
 
--- A look at the first block of two gives its bytes, and no others, and leaves the medium.
+-- A read of the first of two blocks gives its bytes, and no others, and leaves the medium unchanged.
 abbrev pub LooksAtFirst : OwnOrLent → List ℕ → OwnOrLent → Type 0
 LooksAtFirst m left other =
     LooksAt 1 0 1 (over flushing m) (replicate 512 7) left (Some (Ok tt)) (over flushing other)

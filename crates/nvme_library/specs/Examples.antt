@@ -1,6 +1,6 @@
--- Configurations of which examples speak, and what the examples say.
-use Rattle.std.specs.Prelude.{◌≡◌, ℕ, [], ◌∷◌, replicate, false, Option, Some}
-use Rattle.nvme_spec.specs.Configuration.{Configuration}
+-- Configurations of the worked examples, and their statements.
+use Rattle.std.specs.Prelude.{◌≡◌, ℕ, [], ◌∷◌, replicate, false, Option, None, Some}
+use Rattle.nvme_spec.specs.Configuration.{Configuration, script_capacity}
 use Rattle.nvme_medium.specs.declared.memory.MemMedium.{MemMedium}
 use Rattle.nvme_lent.specs.OwnOrLent.{bytes_of, lent_of}
 use Rattle.nvme_lent.specs.declared.bytes.LentBytes.{LentBytes}
@@ -8,6 +8,9 @@ use Rattle.nvme_lent.specs.declared.either.OwnOrLent.{OwnOrLent}
 use Rattle.nvme_lent.specs.declared.either.OwnOrLent.TheVariants.{Own}
 use Rattle.nvme_machine.specs.Subsystems.{opening}
 use Rattle.nvme_subsys.specs.OverMedium.{over}
+use Rattle.nvme_library.specs.declared.answer.Answer.{Answer}
+use Rattle.nvme_library.specs.Answers.{closed}
+use Rattle.nvme_library.specs.Events.{Cycling, Happens}
 use Rattle.nvme_library.specs.Holding.{Inside}
 use Rattle.nvme_library.specs.Opening.{OpensOver}
 
@@ -23,19 +26,28 @@ one_block host = record {
 abbrev pub OneBlockOpens : Type 0
 OneBlockOpens =
     (m : OwnOrLent) → bytes_of m ≡ replicate 512 7
-    → OpensOver (one_block 5) (replicate 512 7) 1 (lent_of m)
+    → OpensOver (one_block 5) (replicate 512 7) (script_capacity 1) (lent_of m)
     (over (opening (one_block 5) (record { content = replicate 512 7; failures = 0 })) m)
 
--- It does not over a medium of none, nor does a controller of no host.
+-- It does not open over a medium without blocks, nor does a controller of host 0.
 abbrev pub NoBlockDoesNotOpen : Type 0
-NoBlockDoesNotOpen = (lent : Option LentBytes) → (new : Inside) → OpensOver (one_block 5) [] 0 lent new → ⊥
+NoBlockDoesNotOpen =
+    (lent : Option LentBytes) → (new : Inside) → OpensOver (one_block 5) [] (script_capacity 0) lent new → ⊥
 
 abbrev pub HostlessDoesNotOpen : Type 0
 HostlessDoesNotOpen =
-    (lent : Option LentBytes) → (new : Inside) → OpensOver (one_block 0) (replicate 512 7) 1 lent new → ⊥
+    (lent : Option LentBytes) → (new : Inside)
+    → OpensOver (one_block 0) (replicate 512 7) (script_capacity 1) lent new → ⊥
 
--- A copy of lent bytes is not a medium over them, whatever the configuration; and one over none that were lent is its own.
+-- A copy of the borrowed bytes is not a medium over them, whatever the configuration; a medium of its own blocks
+-- borrows none.
 abbrev pub CopyIsNotLent : Type 0
 CopyIsNotLent =
     (c : Configuration) → (bytes : LentBytes) → (new : Inside) → (copy : MemMedium) → new.medium ≡ Own copy
-    → OpensOver c bytes.items 1 (Some bytes) new → ⊥
+    → OpensOver c bytes.items (script_capacity 1) (Some bytes) new → ⊥
+
+-- An event on a closed handle is answered `closed` and leaves it closed; no other answer comes, and it does not open.
+pub record ClosedStaysClosed : Type 0 where
+  pub happens : Happens Cycling None closed None
+  pub answered : (answer : Answer) → (new : Option Inside) → Happens Cycling None answer new → answer ≡ closed
+  pub stays : (answer : Answer) → (new : Option Inside) → Happens Cycling None answer new → new ≡ None

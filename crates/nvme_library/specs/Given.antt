@@ -1,4 +1,4 @@
--- A configuration as C gives it.
+-- A configuration as C passes it, and as the model has it.
 use Rattle.std.specs.Prelude.{ℕ, ◌+◌, ◌*◌, ◌/◌, ◌%◌, ◌^◌, List, map}
 use Rattle.nvme_spec.specs.declared.config.ControllerConfig.{ControllerConfig}
 use Rattle.nvme_spec.specs.declared.config.NsConfig.{NsConfig}
@@ -23,7 +23,7 @@ configuration_of controllers namespaces attached = record {
   attached = map pair_of attached;
 }
 
--- the same the other way
+-- and back
 abbrev pub given_controller : ControllerConfig → Controller
 given_controller k = record { host_low = k.host % 2 ^ 64; host_high = k.host / 2 ^ 64; cntlid = k.cntlid; raw = k.raw }
 

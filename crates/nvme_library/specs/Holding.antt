@@ -1,4 +1,4 @@
--- What C holds: nothing, or a subsystem on the heap, and the right to free its place.
+-- What a handle of C owns: nothing, or a subsystem on the heap with the right to free its memory.
 use Rattle.std.specs.Prelude.{Option, Some, None}
 use base.Fml.{Fml, ftrue}
 use denote.RattleType.{RattleType}
@@ -8,7 +8,7 @@ use Rattle.std.specs.Global.{Global}
 use Rattle.std.specs.contracts.impls.GlobalAllocator.TheImpl.{ghosts}
 use Rattle.nvme_library.specs.contracts.held.Held as held
 
--- a subsystem over a medium of its own blocks or of lent ones
+-- a subsystem over a medium of its own blocks or of borrowed bytes
 abbrev pub Row : RattleType
 Row = held.the_row
 

@@ -1,11 +1,11 @@
--- What the clauses of the calls say together of the bytes that C lends.
+-- Statements of `laws.rt`: what the contracts of the calls say together of the bytes that a C program provides.
 use Rattle.std.specs.Prelude.{◌≡◌, ℕ, List, Option, Result, true}
 use Rattle.nvme_spec.specs.declared.medium.MediumFault.{MediumFault}
 use Rattle.nvme_spec.specs.declared.outcome.Marks.{Marks}
 use Rattle.nvme_spec.specs.FaultFreeCalls.{content_step}
 use Rattle.nvme_spec.specs.MediumCalls.{MakesCalls}
 use Rattle.nvme_spec.specs.Layout.{IsLaidOut}
-use Rattle.nvme_lent.specs.OwnOrLent.{bytes_of, place_of}
+use Rattle.nvme_lent.specs.OwnOrLent.{bytes_of, extent_of}
 use Rattle.nvme_machine.specs.declared.bare.BareSeen.{BareSeen}
 use Rattle.nvme_machine.specs.Bare.{seen_with}
 use Rattle.nvme_machine.specs.EventCalls.{CallingAt}
@@ -17,18 +17,18 @@ use Rattle.nvme_library.specs.Holding.{Inside}
 use Rattle.nvme_library.specs.Looking.{LooksAt}
 use Rattle.nvme_library.specs.Submitting.{TakesTurn}
 
--- An execution, and a host's turn, leave lent bytes where they are, as many.
+-- An execution, and a host's turn, leave the borrowed bytes at their address, with their length.
 abbrev pub ExecutionsStayInPlace : Type 0
 ExecutionsStayInPlace =
     (cntlid i : ℕ) → (old new : Inside) → (seen : BareSeen) → Executing cntlid i old seen new
-    → place_of new.medium ≡ place_of old.medium
+    → extent_of new.medium ≡ extent_of old.medium
 
 abbrev pub TurnsStayInPlace : Type 0
 TurnsStayInPlace =
     (k qid : ℕ) → (turn : Turn) → (entry : List ℕ) → (old new : Inside) → (answer : Answer) → (before left : List ℕ)
-    → TakesTurn k qid turn entry old answer before left new → place_of new.medium ≡ place_of old.medium
+    → TakesTurn k qid turn entry old answer before left new → extent_of new.medium ≡ extent_of old.medium
 
--- What an execution leaves in the blocks is what the calls of its command leave there.
+-- The blocks after an execution are what the calls of its command leave.
 abbrev pub ExecutionsReachTheBytes : Type 0
 ExecutionsReachTheBytes =
     (cntlid i : ℕ) → (old new : Inside) → (seen : BareSeen) → Executing cntlid i old seen new
@@ -36,7 +36,7 @@ ExecutionsReachTheBytes =
     (CallingAt (controller_at old.state cntlid) true old.state cntlid i (seen_with marks seen) new.state)
     (bytes_of old.medium) (bytes_of new.medium)
 
--- Where the blocks have the content of the state, and no call has failed, they have it after an execution too.
+-- If the blocks have the content of the state, and no call has failed, they have it after an execution too.
 abbrev pub BytesStayTheContent : Type 0
 BytesStayTheContent =
     (cntlid i : ℕ) → (old new : Inside) → (seen : BareSeen) → Executing cntlid i old seen new
@@ -44,7 +44,7 @@ BytesStayTheContent =
     → new.state.device.failures ≡ 0 → bytes_of old.medium ≡ old.state.device.content
     → bytes_of new.medium ≡ new.state.device.content
 
--- A power cycle, and a look at blocks, leave the medium as it was.
+-- A power cycle, and a read of blocks, leave the medium unchanged.
 abbrev pub PowerCyclesLeaveTheMedium : Type 0
 PowerCyclesLeaveTheMedium = (old new : Inside) → (seen : BareSeen) → Cycling old seen new → new.medium ≡ old.medium
 

@@ -10,6 +10,7 @@ pub mod Lines
 pub mod Looking
 pub mod LookingLines
 pub mod Needs
+pub mod Noticing
 pub mod Opening
 pub mod Queues
 pub mod Reading

@@ -1,4 +1,4 @@
--- What C sees of a fetched command's needs.
+-- What a fetched command needs of the medium, for C.
 use Rattle.std.specs.Prelude.{ℕ, Option, Some, None, slice_get}
 use Rattle.nvme_machine.specs.declared.fetched.FetchedCommand.{FetchedCommand}
 use Rattle.nvme_machine.specs.declared.need.Need.{Need}
@@ -28,7 +28,7 @@ abbrev pub needed_of_its : World → ℕ → ℕ → Option Controller → Neede
 needed_of_its w cntlid i None = without_need 17
 needed_of_its w cntlid i (Some c) = needed_of w cntlid (slice_get c.fetched i)
 
--- what the i-th of the commands needs that a controller has fetched, if there is one; else which of these is not so
+-- what the i-th fetched command needs, or which of controller and command does not exist
 abbrev pub needed_at : Subsystem → ℕ → ℕ → Needed
 needed_at s cntlid i = needed_of_its s.world cntlid i (controller_at s cntlid)
 

@@ -1,4 +1,4 @@
--- What C sees of a controller: its queues, and the commands that it has fetched.
+-- A controller's queues and fetched commands, for C.
 use Rattle.std.specs.Prelude.{ℕ, ◌+◌, length, replicate, false, Option, Some, None, slice_get}
 use Rattle.nvme_spec.specs.Queues as ring
 use Rattle.nvme_machine.specs.declared.fetched.FetchedCommand.{FetchedCommand}
@@ -9,7 +9,7 @@ use Rattle.nvme_library.specs.declared.queues.Command.{Command}
 use Rattle.nvme_library.specs.Holding.{Inside}
 use Rattle.nvme_library.specs.Turns.{head_of, tail_of}
 
--- what is seen of a controller, where a subsystem is open and has it; else which of these is not so
+-- what C reads of a controller, or an error if no subsystem is open or it lacks that controller
 abbrev pub of_its : {A : Type 0} → (ℕ → A) → (Controller → A) → Option Controller → A
 of_its without f None = without 17
 of_its without f (Some c) = f c
@@ -67,6 +67,6 @@ command_of count None = without_command count 7
 command_of count (Some t) =
     record { count = count; what = 0; qid = t.queue; marked = t.marked; entry = t.entry }
 
--- the i-th of the fetched commands, and how many there are
+-- the i-th of the fetched commands, and their number
 abbrev pub command_at : ℕ → Controller → Command
 command_at i c = command_of (length c.fetched) (slice_get c.fetched i)

@@ -1,9 +1,9 @@
--- What C is told of a configuration's text that is read.
+-- The result of reading a configuration's text, for C.
 use Rattle.std.specs.Prelude.{◌≡◌, ◌⊎◌, ◌&&◌, ℕ, nat_le, Bool, true, false, List, ◌++◌, length, map, drop, Result}
-use Rattle.nvme_spec.specs.Configuration.{Configuration}
+use Rattle.nvme_spec.specs.Configuration.{Capacity, Configuration}
 use Rattle.library_text.specs.Putting.{PutsIf}
 use Rattle.library_text.specs.Reading.{Accepts, Refuses}
-use Rattle.library_text.specs.Refusals.{place_of, reason_text}
+use Rattle.library_text.specs.Refusals.{position_of, reason_text}
 use Rattle.library_text.specs.declared.putting.Unput.{Unput}
 use Rattle.library_text.specs.declared.refused.Refused.{Refused}
 use Rattle.library_text.specs.declared.refused.Refused.TheVariants.{TooLong, Line, Rule, Event, Empty, NoMemory}
@@ -15,7 +15,7 @@ use Rattle.nvme_library.specs.Given.{given_controller, given_namespace, given_pa
 use Rattle.nvme_library.specs.Opening.{fault_number}
 use Rattle.nvme_library.specs.Written.{length_of}
 
--- the number of a refusal
+-- the code of a refusal
 abbrev pub code_of : Refused → ℕ
 code_of TooLong = 38
 code_of (Line n fault) = 35
@@ -24,7 +24,7 @@ code_of (Event n column) = 36
 code_of Empty = 37
 code_of NoMemory = 27
 
--- what C has room in: three arrays, and a buffer for a reason
+-- the buffers of C: three arrays, and a text for a reason
 pub record Rooms : Type 0 where
   pub controllers : List Controller
   pub namespaces : List Namespace
@@ -51,8 +51,8 @@ read_of c = record (without_read 0) {
 
 abbrev pub refused_read : Refused → ℕ → Read
 refused_read r len = record (without_read (code_of r)) {
-  line = (place_of r).0;
-  column = (place_of r).1;
+  line = (position_of r).0;
+  column = (position_of r).1;
   length = len;
 }
 
@@ -77,7 +77,7 @@ GivesWhere false c read old new = (read ≡ without_read 33) × (new ≡ old)
 abbrev pub Gives : Configuration → Read → Rooms → Rooms → Type 0
 Gives c read old new = GivesWhere (has_room c old) c read old new
 
--- what is wrong is answered, and the buffer has the reason where that has room
+-- the answer is an error, and the buffer has the reason if it fits
 abbrev pub Told : Refused → Read → List ℕ → List ℕ → Type 0
 Told r read old new =
     (put : Result ℕ Unput) × (read ≡ refused_read r (length_of put)) × PutsIf (reason_text r) put old new
@@ -85,8 +85,8 @@ Told r read old new =
 abbrev pub Tells : Refused → Read → Rooms → Rooms → Type 0
 Tells r read old new = Told r read old.reason new.reason × (new ≡ record old { reason = new.reason })
 
--- A text is read: it gives a configuration, or what is wrong with it is told.
-abbrev pub ReadsText : List ℕ → ℕ → Read → Rooms → Rooms → Type 0
-ReadsText text blocks read old new =
-    ((c : Configuration) × Accepts text blocks c × Gives c read old new)
-    ⊎ ((r : Refused) × Refuses text blocks r × Tells r read old new)
+-- A text is read: the result is a configuration, or an error with its reason.
+abbrev pub ReadsText : List ℕ → Capacity → Read → Rooms → Rooms → Type 0
+ReadsText text size read old new =
+    ((c : Configuration) × Accepts text size c × Gives c read old new)
+    ⊎ ((r : Refused) × Refuses text size r × Tells r read old new)

@@ -1,4 +1,4 @@
--- One command from its entry to its completion: the events of a host's turn, in a row.
+-- One command from its entry to its completion: the events of a host's turn, in order.
 use Rattle.std.specs.Prelude.{◌≡◌, ℕ, List, Option, Some, None, Result, Ok, Err}
 use Rattle.nvme_wire.specs.Completion.{completion_entry}
 use Rattle.nvme_wire.specs.Submission.{cid}
@@ -17,7 +17,7 @@ use Rattle.nvme_library.specs.Holding.{Inside}
 use Rattle.nvme_library.specs.Looking.{LoadsFrom}
 use Rattle.nvme_library.specs.Turns.{turn_of, tail_doorbell, head_doorbell}
 
--- an event happens, whatever it gives
+-- an event happens, with any result
 abbrev pub Does : Event → Inside → Inside → Type 0
 Does E old new = (seen : BareSeen) × E old seen new
 
@@ -35,7 +35,7 @@ pub record Consuming (k : ℕ) (turn : Turn) (old : Inside) (before left : List 
   pub loads : (answer : ℕ) × LoadsFrom (controller_at old.state k) turn.completion_at before answer left
   pub rings : Does (Reacting k (wrote (head_doorbell turn.cqid) turn.head)) old new
 
--- a completion is consumed where one was posted; else that is answered, and nothing more happens
+-- a completion is consumed if one was posted; else the turn ends with that answer
 abbrev pub Consumes : BareSeen → ℕ → Turn → Inside → List ℕ → List ℕ → Inside → Type 0
 Consumes (Executed (Posted o)) k turn old before left new = Consuming k turn old before left new
 Consumes other k turn old before left new = (left ≡ before) × (new ≡ old)
@@ -44,17 +44,17 @@ pub record Completing (k : ℕ) (turn : Turn) (old : Inside) (answer : Answer) (
     : Type 0 where
   pub seen : BareSeen
   pub executed : Inside
-  pub executes : Executing k turn.place old seen executed
+  pub executes : Executing k turn.index old seen executed
   pub consumes : Consumes seen k turn executed before left new
   pub answers : answer ≡ answer_of seen
 
--- the command is executed where it was fetched; else that is answered, and nothing more happens
+-- the command is executed if it was fetched; else the turn ends with that answer
 abbrev pub Completes : BareSeen → ℕ → Turn → Inside → Answer → List ℕ → List ℕ → Inside → Type 0
 Completes (Fetched Took) k turn old answer before left new = Completing k turn old answer before left new
 Completes other k turn old answer before left new =
     (answer ≡ answer_of other) × (left ≡ before) × (new ≡ old)
 
--- a host's turn: five events in a row, and no other
+-- a host's turn: five events one after the other, and no others
 pub record TakesTurn (k qid : ℕ) (turn : Turn) (entry : List ℕ) (old : Inside) (answer : Answer) (before left : List ℕ)
     (new : Inside) : Type 0 where
   pub seen : BareSeen
@@ -62,7 +62,7 @@ pub record TakesTurn (k qid : ℕ) (turn : Turn) (entry : List ℕ) (old : Insid
   pub fetches : Fetching k qid turn entry old seen fetched
   pub completes : Completes seen k turn fetched answer before left new
 
--- where there is no turn, nothing happens, and why is answered
+-- if no turn is possible, nothing happens, and the answer gives the reason
 abbrev pub SubmitsBy : Result Turn ℕ → ℕ → ℕ → List ℕ → Inside → Answer → List ℕ → List ℕ → Inside → Type 0
 SubmitsBy (Err why) k qid entry old answer before left new = (answer ≡ plain why) × (left ≡ before) × (new ≡ old)
 SubmitsBy (Ok turn) k qid entry old answer before left new = TakesTurn k qid turn entry old answer before left new
@@ -79,10 +79,9 @@ Submits k qid entry (Some old) answer before left None = ⊥
 Submits k qid entry (Some old) answer before left (Some new) =
     SubmitsTo (controller_at old.state k) k qid entry old answer before left new
 
--- The command was answered: what C is told is that its completion was posted, and in the buffer stands the entry of the
--- completion queue that answers this very command, by the command identifier of its entry. It comes from the submission
--- queue, whose head is behind the command; it has the phase tag that was next, and double word 0 and the status that C
--- is told.
+-- The command was answered: the result is that its completion was posted, and the buffer has the completion queue entry
+-- with this command's identifier. The entry has the submission queue's identifier and its head after the command, the
+-- next phase tag, and Dword 0 and the status of the answer.
 pub record IsAnswered (c : Controller) (qid : ℕ) (turn : Turn) (entry : List ℕ) (answer : Answer) (left : List ℕ)
     : Type 0 where
   pub posted : answer.what ≡ 6
@@ -97,7 +96,7 @@ pub record IsAnswered (c : Controller) (qid : ℕ) (turn : Turn) (entry : List �
     status = record { sct = answer.sct; sc = answer.sc };
   })
 
--- where there is a turn, the command was answered
+-- if a turn is possible, the command is answered
 abbrev pub AnswersBy : Controller → Result Turn ℕ → ℕ → List ℕ → Answer → List ℕ → Type 0
 AnswersBy c (Err why) qid entry answer left = Unit {0}
 AnswersBy c (Ok turn) qid entry answer left = IsAnswered c qid turn entry answer left

@@ -1,34 +1,61 @@
--- A host's turn at a pair of queues in which nothing waits: where it stores a command, and where it finds the completion.
-use Rattle.std.specs.Prelude.{ℕ, ◌+◌, ◌*◌, ◌==◌, nat_lt, nat_le, Bool, not, ◌&&◌, ◌||◌, if◌then◌else◌, length, Option, Some, None, Result, Ok, Err}
+-- A host's turn at a pair of empty queues: the slots of the command and of its completion.
+use Rattle.std.specs.Prelude.{
+  ℕ,
+  ◌+◌,
+  ◌*◌,
+  ◌==◌,
+  nat_lt,
+  nat_le,
+  Bool,
+  not,
+  ◌&&◌,
+  ◌||◌,
+  if◌then◌else◌,
+  length,
+  Option,
+  Some,
+  None,
+  Result,
+  Ok,
+  Err,
+}
 use Rattle.nvme_spec.specs.Queues as ring
 use Rattle.nvme_spec.specs.Registers.{value_at}
-use Rattle.nvme_machine.specs.Controllers.{Controller, SubmissionQueue, CompletionQueue, submission_at, completion_at, completion_slot}
+use Rattle.nvme_machine.specs.Controllers.{
+  Controller,
+  SubmissionQueue,
+  CompletionQueue,
+  submission_at,
+  completion_at,
+  completion_slot,
+}
 use Rattle.nvme_library.specs.declared.turn.Turn.{Turn}
 
--- the slot behind one
+-- the next slot of a ring
 abbrev pub next_slot : ℕ → ℕ → ℕ
 next_slot size slot = if slot + 1 == size then 0 else slot + 1
 
--- the slot of the next completion, and the head, as the host has told it
+-- the slot of the next completion, and the head as the host has written it
 abbrev pub tail_of : CompletionQueue → ℕ
 tail_of x = ring.slot_of x.tail.size x.tail.posted
 
 abbrev pub head_of : CompletionQueue → ℕ
 head_of x = ring.ahead x.tail.size (tail_of x) x.tail.unread
 
--- no command waits at the one, and no completion at the other
+-- no command waits in the submission queue, and no completion in the completion queue
 abbrev pub is_quiet : SubmissionQueue → CompletionQueue → Bool
 is_quiet s x = not (nat_lt 0 s.head.waiting) && (head_of x == tail_of x)
 
--- the command is stored at the tail of the submission queue, and its completion is posted at that of the other
+-- the command is stored at the tail of the submission queue, and its completion is posted at the tail of the completion
+-- queue
 abbrev pub turn_with : ℕ → SubmissionQueue → CompletionQueue → Turn
-turn_with place s x = record {
+turn_with index s x = record {
   entry_at = ring.submission_place s.base s.head.size s.head.fetched;
   tail = next_slot s.head.size s.head.fetched;
   cqid = s.cqid;
   completion_at = completion_slot x;
   head = next_slot x.tail.size (tail_of x);
-  place = place;
+  index = index;
 }
 
 abbrev pub turn_between : Controller → SubmissionQueue → Option CompletionQueue → Result Turn ℕ

@@ -1,5 +1,5 @@
--- What every subsystem keeps that C holds: its controllers have their whole windows, in which their queues lie, and the
--- places of five queues of each kind.
+-- The invariant of an open subsystem: its controllers have their whole windows, which contain their queues, and five
+-- queues of each kind.
 use Rattle.std.specs.Prelude.{◌≡◌, ℕ, length, Option, Some, IfSome}
 use Rattle.nvme_machine.specs.Controllers.{Controller}
 use Rattle.nvme_machine.specs.Subsystems.{Subsystem, controller_at}

@@ -1,4 +1,4 @@
--- What C is told of a text that is put into a buffer.
+-- The result of putting a text into a buffer, for C.
 use Rattle.std.specs.Prelude.{◌≡◌, ℕ, List, Option, Some, None, Result, Ok, Err}
 use Rattle.library_text.specs.Putting.{PutsIf}
 use Rattle.library_text.specs.EventLines.{PutsLine}
@@ -22,10 +22,10 @@ abbrev pub length_of : Result ℕ Unput → ℕ
 length_of (Ok len) = len
 length_of (Err why) = 0
 
--- a text is put into the buffer, where it has room for it and there is memory
+-- a text is put into the buffer, if it fits and there is memory
 abbrev pub Writes : List ℕ → Written → List ℕ → List ℕ → Type 0
 Writes text w old new = (put : Result ℕ Unput) × (w ≡ text_written put) × PutsIf text put old new
 
--- the same of a line that may lack, and takes no memory
+-- the same for a line that may be missing, and takes no memory
 abbrev pub WritesLine : Option (List ℕ) → Written → List ℕ → List ℕ → Type 0
 WritesLine line w old new = (put : Option (Result ℕ Unput)) × (w ≡ line_written put) × PutsLine line put old new

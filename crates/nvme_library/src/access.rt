@@ -1,7 +1,19 @@
-//! What C sees of the access state: who is attached to a namespace, who is registered with it, and who holds it.
+//! The access state for C: attachments, registrants and holders.
 
 ghost use Rattle.std.specs.Prelude.{◌≡◌, ◌/◌, ◌%◌, ◌^◌, Some};
-ghost use Rattle.nvme_library.specs.Access.{attachment, holder_of, hold_of, hold_seen, registrant_of, registrant_at, registrant_seen, without_hold, without_registrant, registrant_in, reservation_in};
+ghost use Rattle.nvme_library.specs.Access.{
+  attachment,
+  holder_of,
+  hold_of,
+  hold_seen,
+  registrant_of,
+  registrant_at,
+  registrant_seen,
+  without_hold,
+  without_registrant,
+  registrant_in,
+  reservation_in,
+};
 
 use crate::answer::Answer;
 use crate::codes;
@@ -14,22 +26,22 @@ use std::alloc::Global;
 #[repr(C)]
 #[derive(Clone, Copy)]
 pub struct Hold {
-    /// The identifier of the host that holds it, its lower 64 bits: 0 where nobody does, and under types 5 and 6, where
+    /// The lower 64 bits of its holder's host identifier: 0 if there is no holder, and under types 5 and 6, under which
     /// each registrant holds it.
     pub host_low: u64,
-    /// Its higher 64 bits.
+    /// The higher 64 bits.
     pub host_high: u64,
-    /// How many hosts are registered.
+    /// The number of registered hosts.
     pub registrants: usize,
-    /// `OK`; else why there is none, and the other fields are 0.
+    /// `OK`; else why there is no such namespace, and the other fields are 0.
     pub what: u32,
     /// The generation counter (PRgeneration).
     pub generation: u32,
-    /// The write protection of the namespace: 0 none, 1 write protected, 2 that until a power cycle.
+    /// The write protection of the namespace: 0 none, 1 write protected, 2 write protected until a power cycle.
     pub protection: u32,
-    /// The reservation type, 1 to 6, or 0 where nobody holds it.
+    /// The reservation type, 1 to 6, or 0 if nobody holds it.
     pub rtype: u8,
-    /// Whether all this persists through power loss (PTPL).
+    /// Whether it persists through power loss (PTPL).
     pub ptpl: bool,
 }
 
@@ -37,18 +49,18 @@ pub struct Hold {
 #[repr(C)]
 #[derive(Clone, Copy)]
 pub struct Registrant {
-    /// Its identifier, the lower 64 bits.
+    /// The lower 64 bits of its host identifier.
     pub host_low: u64,
     /// The higher 64 bits.
     pub host_high: u64,
     /// Its reservation key.
     pub key: u64,
-    /// `OK`; else why there is none, and the other fields are 0.
+    /// `OK`; else why there is no such registrant, and the other fields are 0.
     pub what: u32,
 }
 
-/// Whether a controller is attached to a namespace: `VALUE`, with 1 or 0; or `CLOSED`. It is not where there is no such
-/// controller or namespace.
+/// Whether a controller is attached to a namespace: `VALUE`, with 1 or 0; or `CLOSED`. The value is 0 if there is no
+/// such controller or namespace.
 #[unsafe(no_mangle)]
 pub extern "C" fn nvmesim_is_attached(
     alloc: Global,
@@ -81,7 +93,7 @@ pub extern "C" fn nvmesim_reservation(alloc: Global, sim: &mut Handle, nsid: u32
     hold
 }
 
-/// The i-th, from 0, of the hosts that are registered with a namespace, by rising identifier: `OK`, `NO_REGISTRANT`,
+/// The `i`-th, from 0, of the hosts that are registered with a namespace, by rising identifier: `OK`, `NO_REGISTRANT`,
 /// `NO_NAMESPACE` or `CLOSED`.
 #[unsafe(no_mangle)]
 pub extern "C" fn nvmesim_registrant(
@@ -111,7 +123,7 @@ fn halves(host: HostId) -> (u64, u64)
     (high as u64, low as u64)
 }
 
-/// The type of a reservation and the one host that holds it, 0 each where there is none.
+/// The type of a reservation and its one holder, 0 each if there is none.
 fn held(hold: Holding) -> (u8, HostId)
     ensures { result ≡ holder_of hold }
 {
@@ -123,7 +135,7 @@ fn held(hold: Holding) -> (u8, HostId)
 }
 
 impl Hold {
-    /// There is none.
+    /// No reservation.
     fn without(what: u32) -> Self
         ensures { result ≡ without_hold what }
     {
@@ -139,7 +151,7 @@ impl Hold {
         }
     }
 
-    /// That of a namespace.
+    /// The reservation of this namespace.
     fn of(namespace: &Namespace) -> Self
         ensures { result ≡ hold_of namespace.now }
     {
@@ -158,7 +170,7 @@ impl Hold {
         }
     }
 
-    /// That of the namespace of an identifier.
+    /// The reservation of the namespace with this identifier.
     fn at(spaces: &Spaces, nsid: u32) -> Self
         ensures { result ≡ reservation_in nsid spaces.now }
     {
@@ -170,7 +182,7 @@ impl Hold {
 }
 
 impl Registrant {
-    /// There is none.
+    /// No registrant.
     fn without(what: u32) -> Self
         ensures { result ≡ without_registrant what }
     {
@@ -182,7 +194,7 @@ impl Registrant {
         }
     }
 
-    /// One of a reservation.
+    /// The registrant of a reservation.
     fn of(registrant: &Registered) -> Self
         ensures { result ≡ registrant_of registrant.now }
     {
@@ -195,7 +207,7 @@ impl Registrant {
         }
     }
 
-    /// The i-th of a namespace.
+    /// The `i`-th registrant of a namespace.
     fn in_namespace(namespace: &Namespace, i: usize) -> Self
         ensures { result ≡ registrant_at i (Some namespace.now) }
     {
@@ -205,7 +217,7 @@ impl Registrant {
         }
     }
 
-    /// The i-th of the namespace of an identifier.
+    /// The `i`-th registrant of the namespace with this identifier.
     fn at(spaces: &Spaces, nsid: u32, i: usize) -> Self
         ensures { result ≡ registrant_in nsid i spaces.now }
     {

@@ -1,4 +1,4 @@
-//! What an event gave, as C sees it.
+//! The result of an event for C.
 
 ghost use Rattle.std.specs.Prelude.{◌≡◌};
 ghost use Rattle.nvme_library.specs.Answers.{answer_of, plain, value_answer, posted, closed};
@@ -6,24 +6,24 @@ ghost use Rattle.nvme_library.specs.Answers.{answer_of, plain, value_answer, pos
 use crate::codes;
 use nvme_machine::{BareExecuted, BareOutcome, BareSeen, Fetched};
 
-/// What an event gave: which answer it is, and what comes with it. What does not come with it is 0.
+/// The result of an event: its code and its values. Values that it does not have are 0.
 #[repr(C)]
 #[derive(Clone, Copy)]
 pub struct Answer {
     /// The value of the register, or double word 0 of the completion queue entry.
     pub value: u32,
-    /// Which answer it is: one of the numbers of `codes`.
+    /// One of the numbers of `codes`.
     pub what: u32,
     /// The Status Code Type of the completion queue entry.
     pub sct: u8,
     /// Its Status Code.
     pub sc: u8,
-    /// The number of the rule that denied the command, or 0 where it was allowed.
+    /// The number of the rule that denied the command, or 0 if it was allowed.
     pub rule: u8,
 }
 
 impl Answer {
-    /// An answer with nothing beside it.
+    /// A code without values.
     #[inline(always)]
     pub(crate) fn plain(what: u32) -> Self
         ensures { result ≡ plain what }
@@ -37,7 +37,7 @@ impl Answer {
         }
     }
 
-    /// A number is the answer.
+    /// The value of a register.
     #[inline(always)]
     pub(crate) fn value(value: u32) -> Self
         ensures { result ≡ value_answer value }
@@ -73,7 +73,7 @@ impl Answer {
         Answer::plain(codes::CLOSED)
     }
 
-    /// What an event gave.
+    /// The result of an event.
     #[inline(always)]
     pub(crate) fn of(seen: BareSeen) -> Self
         ensures { result ≡ answer_of seen }

@@ -1,6 +1,6 @@
-//! The numbers of answers: up to 9 what a call gave, from 16 on why it did nothing. `nvmesim.h` has the same.
+//! The codes of answers: up to 9 results, from 16 refusals. `nvmesim.h` has the same.
 
-/// It was done, and there is no more to say.
+/// The call succeeded, and returns no more.
 pub const OK: u32 = 0;
 /// The bytes are stored.
 pub const STORED: u32 = 1;
@@ -16,18 +16,18 @@ pub const IDLE: u32 = 5;
 pub const POSTED: u32 = 6;
 /// There is no such command.
 pub const NO_SUCH: u32 = 7;
-/// The completion queue has no room; the command waits.
+/// The completion queue is full; the command waits.
 pub const CQ_FULL: u32 = 8;
-/// Power was lost, and came back.
+/// Power was lost, and has returned.
 pub const CYCLED: u32 = 9;
 
 /// No subsystem is open.
 pub const CLOSED: u32 = 16;
 /// There is no such controller.
 pub const NO_CONTROLLER: u32 = 17;
-/// Not all the bytes lie in the memory, or not all the blocks in such a namespace.
+/// Some of the bytes are not in the memory, or some of the blocks not in such a namespace.
 pub const OUTSIDE: u32 = 18;
-/// The bytes are no whole number of blocks.
+/// The number of bytes is not a multiple of the block length.
 pub const NOT_WHOLE: u32 = 19;
 /// The medium failed.
 pub const MEDIUM_FAULT: u32 = 20;
@@ -49,23 +49,23 @@ pub const NO_MEMORY: u32 = 27;
 pub const NO_QUEUE: u32 = 28;
 /// The controller does not run: its CSTS is not 1.
 pub const NOT_READY: u32 = 29;
-/// Something waits at the queue already, or the controller keeps as many commands as it can.
+/// The queue is not empty, or the controller holds as many commands as it can.
 pub const BUSY: u32 = 30;
 /// There is no such namespace.
 pub const NO_NAMESPACE: u32 = 31;
 /// There is no such registrant.
 pub const NO_REGISTRANT: u32 = 32;
-/// The text has more bytes than the buffer.
+/// The text does not fit the buffer.
 pub const NO_ROOM: u32 = 33;
 /// There is no such line.
 pub const NO_LINE: u32 = 34;
 /// A line of the text is outside the grammar.
 pub const BAD_LINE: u32 = 35;
-/// A line of the text is an event, and a configuration has none.
+/// A line of the text is an event, which a configuration can't have.
 pub const HAS_EVENT: u32 = 36;
 /// The configuration has no controller.
 pub const EMPTY: u32 = 37;
-/// The text has more bytes than a script may have.
+/// The text is longer than a script may be.
 pub const TOO_LONG: u32 = 38;
 
 /// A host stores bytes in its memory.
@@ -78,7 +78,7 @@ pub const EVENT_READ32: u32 = 3;
 pub const EVENT_FETCH: u32 = 4;
 /// A controller executes a command.
 pub const EVENT_EXECUTE: u32 = 5;
-/// Power is lost, and comes back.
+/// Power is lost, and returns.
 pub const EVENT_POWER_CYCLE: u32 = 6;
 
 /// The execution of a command makes no call of the medium.
@@ -92,5 +92,16 @@ pub const NEEDS_ZERO: u32 = 3;
 /// It flushes.
 pub const NEEDS_FLUSH: u32 = 4;
 
-/// The version of the interface. It changes whenever a program that was built for it would have to change.
-pub const VERSION: u32 = 2;
+/// Each action of Reservation Register.
+pub const ACTION_REGISTER: u32 = 0;
+/// Acquire.
+pub const ACTION_ACQUIRE: u32 = 1;
+/// Preempt, and Preempt and Abort.
+pub const ACTION_PREEMPT: u32 = 2;
+/// Release.
+pub const ACTION_RELEASE: u32 = 3;
+/// Clear.
+pub const ACTION_CLEAR: u32 = 4;
+
+/// The version of the interface. It changes whenever a program built for it has to change.
+pub const VERSION: u32 = 3;

@@ -1,13 +1,21 @@
-//! A configuration as C gives it.
+//! A configuration as C passes it.
 
 ghost use Rattle.std.specs.Prelude.{◌≡◌, ◌≤◌, ◌++◌, drop, length, map, IfOk};
 ghost use Rattle.nvme_ns.specs.Configured.{configuration};
-ghost use Rattle.nvme_library.specs.Given.{configuration_of, controller_of, given_controller, given_namespace, given_pair, namespace_of, pair_of};
+ghost use Rattle.nvme_library.specs.Given.{
+  configuration_of,
+  controller_of,
+  given_controller,
+  given_namespace,
+  given_pair,
+  namespace_of,
+  pair_of,
+};
 
 use nvme_spec::{Config, ControllerConfig, HostId, NsConfig};
 use std::alloc::{AllocError, Global};
 
-/// A controller, and the host that it belongs to.
+/// A controller and its host.
 #[repr(C)]
 #[derive(Clone, Copy)]
 pub struct Controller {
@@ -17,7 +25,7 @@ pub struct Controller {
     pub host_high: u64,
     /// The controller identifier: k for the k-th controller of a configuration, from 1.
     pub cntlid: u16,
-    /// Whether its line says `raw`. Nothing but that line hangs on it, since each host is raw here.
+    /// Whether its line says `raw`. This affects only the line, since each host is raw here.
     pub raw: bool,
 }
 
@@ -29,7 +37,7 @@ pub struct Namespace {
     pub blocks: u64,
     /// The namespace identifier, 1 to 8.
     pub nsid: u32,
-    /// Whether more than one controller may be attached to it at a time.
+    /// Whether several controllers may be attached to it at a time.
     pub shared: bool,
 }
 
@@ -99,11 +107,11 @@ fn attached_pairs(alloc: Global, attached: &[Attached]) -> Result<Vec<(u16, u32)
     Ok(pairs)
 }
 
-/// The configuration that these make.
+/// The configuration of these controllers, namespaces and attachments.
 ///
 /// # Errors
 ///
-/// Where the allocator has no room for it.
+/// `AllocError` if memory for it is refused.
 pub(crate) fn config_of(
     alloc: Global,
     controllers: &[Controller],
@@ -134,7 +142,7 @@ impl Controller {
     }
 }
 
-/// Puts controllers at the front of an array that has room for them.
+/// Puts controllers at the front of an array, which must be long enough.
 pub(crate) fn put_controllers(configs: &[ControllerConfig], controllers: &mut [Controller])
     requires { length configs.now ≤ length controllers.old }
     ensures { controllers.new ≡ map given_controller configs.now ++ drop (length configs.now) controllers.old }
@@ -144,7 +152,7 @@ pub(crate) fn put_controllers(configs: &[ControllerConfig], controllers: &mut [C
     }
 }
 
-/// Puts namespaces at the front of an array that has room for them.
+/// Puts namespaces at the front of an array, which must be long enough.
 pub(crate) fn put_namespaces(configs: &[NsConfig], namespaces: &mut [Namespace])
     requires { length configs.now ≤ length namespaces.old }
     ensures { namespaces.new ≡ map given_namespace configs.now ++ drop (length configs.now) namespaces.old }
@@ -158,7 +166,7 @@ pub(crate) fn put_namespaces(configs: &[NsConfig], namespaces: &mut [Namespace])
     }
 }
 
-/// Puts attachments at the front of an array that has room for them.
+/// Puts attachments at the front of an array, which must be long enough.
 pub(crate) fn put_attached(pairs: &[(u16, u32)], attached: &mut [Attached])
     requires { length pairs.now ≤ length attached.old }
     ensures { attached.new ≡ map given_pair pairs.now ++ drop (length pairs.now) attached.old }

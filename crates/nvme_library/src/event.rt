@@ -1,4 +1,4 @@
-//! An event as C gives it, apart from its call: what lines of scripts and transcripts are of.
+//! An event as C passes it to the calls that make lines of scripts and transcripts.
 
 ghost use Rattle.std.specs.Prelude.{◌≡◌, option_map};
 ghost use Rattle.nvme_grammar.specs.Lent.{event_by_value};
@@ -14,20 +14,20 @@ use nvme_wire::Status;
 #[repr(C)]
 #[derive(Clone, Copy)]
 pub struct Event {
-    /// The address of a store, the offset of a register, or the place of the command that is executed, from 0.
+    /// The address of a store, the offset of a register, or the place of the executed command, from 0.
     pub at: u64,
-    /// Which event it is: one of the numbers of `codes`.
+    /// The kind of event: one of the numbers of `codes`.
     pub kind: u32,
     /// The value that is written to a register.
     pub value: u32,
-    /// The identifier of the controller; of a power cycle, none.
+    /// The identifier of the controller; unused by a power cycle.
     pub cntlid: u16,
-    /// The identifier of the queue that is fetched from.
+    /// The identifier of the queue of a fetch.
     pub qid: u16,
 }
 
 impl Event {
-    /// The event of a fleet that it is, with the bytes of a store. `None` where it is none.
+    /// This event as an event of a fleet, with the bytes of a store. `None` if there is no such event.
     pub(crate) fn said<'a>(&self, bytes: &'a [u8]) -> Option<FleetEvent<'a>>
         ensures { option_map event_by_value result ≡ fleet_event self.now bytes.now }
     {
@@ -44,7 +44,7 @@ impl Event {
     }
 }
 
-/// What an execution gave, by its answer.
+/// The result of an execution, from its answer.
 fn executed_by(answer: &Answer) -> Option<BareExecuted>
     ensures { result ≡ executed_by answer.now }
 {
@@ -63,7 +63,7 @@ fn executed_by(answer: &Answer) -> Option<BareExecuted>
     }
 }
 
-/// What an event gave, by its answer. `None` where no such event gives this answer.
+/// The result of an event, from its answer. `None` if no such event has this result.
 pub(crate) fn seen_by(event: &FleetEvent<'_>, answer: &Answer) -> Option<BareFleetSeen>
     ensures { result ≡ seen_by event.now answer.now }
 {

@@ -1,10 +1,16 @@
-//! Worked examples of the definitions. The functions do nothing: their contracts are proved by computing.
+//! Worked examples of the definitions. Each is the contract of an empty function, proved by computing.
 
 ghost use Rattle.nvme_library.specs.CallExamples.{CyclingMakesNoCall, ExecutingMakesItsCalls, LooksMakeTheirReads};
-ghost use Rattle.nvme_library.specs.Examples.{OneBlockOpens, NoBlockDoesNotOpen, HostlessDoesNotOpen, CopyIsNotLent};
+ghost use Rattle.nvme_library.specs.Examples.{
+  OneBlockOpens,
+  NoBlockDoesNotOpen,
+  HostlessDoesNotOpen,
+  CopyIsNotLent,
+  ClosedStaysClosed,
+};
 
-/// A controller of host 5 and a namespace of one block open over any medium of one block, and over none of no block. A
-/// controller of no host does not open. A copy of lent bytes is not a medium over them.
+/// A controller of host 5 and a namespace of one block open over any medium of one block, but not over an empty one. A
+/// controller of host 0 does not open. A copy of the borrowed bytes is not a medium over them.
 #[tactic(auto, using(crate::proofs::OpeningExamples::one_block_opens, crate::proofs::OpeningExamples::no_block_does_not_open, crate::proofs::OpeningExamples::hostless_does_not_open, crate::proofs::OpeningExamples::copy_is_not_lent))]
 pub fn one_block_is_opened()
     ensures opens { OneBlockOpens }
@@ -13,10 +19,17 @@ pub fn one_block_is_opened()
     ensures copy { CopyIsNotLent }
 {}
 
-/// An executed Flush makes one flush, and a Write its writes; a power cycle makes no call, and a look at a block one read.
+/// An executed Flush makes one flush, and a Write its writes; a power cycle makes no call, and a read of a block one
+/// read.
 #[tactic(auto, using(crate::proofs::CallExamples::executing_makes_its_calls, crate::proofs::CallExamples::cycling_makes_no_call, crate::proofs::CallExamples::looks_make_their_reads))]
 pub fn calls_are_made()
     ensures execution { ExecutingMakesItsCalls }
     ensures cycle { CyclingMakesNoCall }
     ensures look { LooksMakeTheirReads }
+{}
+
+/// An event on a closed handle is answered `closed`, and the handle stays closed.
+#[tactic(auto, using(crate::proofs::OpeningExamples::closed_stays_closed))]
+pub fn closed_handle_stays_closed()
+    ensures { ClosedStaysClosed }
 {}

@@ -1,4 +1,4 @@
-//! What C holds of a subsystem.
+//! A handle of C: a subsystem that may be open.
 
 ghost use Rattle.std.specs.Prelude.{◌≡◌, Some, None, is_some, IfSome, IfNone};
 ghost use Rattle.std.proofs.Props.{props};
@@ -12,8 +12,8 @@ use nvme_lent::{OwnOrLent, ReturnedBytes};
 use std::alloc::Global;
 use std::mem;
 
-/// A subsystem that is open, or none: `is_open` says which. And the right to lent bytes that C has back from the call
-/// that returns, which takes no room: C takes it from there before its next call.
+/// A subsystem that is open, or none: `is_open` reports which. It also has the right to borrowed bytes that the last
+/// call returned, which has no size; C takes them before its next call.
 #[repr(C)]
 #[derive(Drop)]
 pub struct Handle {
@@ -24,13 +24,13 @@ pub struct Handle {
     ghost whole: { HoldsWhole slot.value } by { Prim.hlevel props },
 }
 
-/// What C may hand from one thread to another. That it is so is proved where a type has this trait.
+/// A type that C may pass from one thread to another. Each implementation of this trait is proved to be `Send`.
 trait Crosses: Send {}
 
 impl Crosses for Handle {}
 
 impl Handle {
-    /// None.
+    /// No open subsystem.
     #[inline(always)]
     pub(crate) fn closed(alloc: Global) -> Handle
         ensures closed { result.slot.value ≡ None }
@@ -43,7 +43,7 @@ impl Handle {
         }
     }
 
-    /// This subsystem.
+    /// This open subsystem.
     #[inline(always)]
     pub(crate) fn of(subsystem: Box<Held>) -> Handle
         requires { AreWhole subsystem.value.state }
@@ -57,7 +57,7 @@ impl Handle {
         }
     }
 
-    /// Whether one is open.
+    /// Whether a subsystem is open.
     #[inline(always)]
     pub(crate) fn is_open(&self) -> bool
         ensures { result ≡ is_some self.now.slot.value }
@@ -82,7 +82,7 @@ impl Handle {
         }
     }
 
-    /// Gives the bytes back that were lent to this medium, if any were.
+    /// Returns the borrowed bytes of this medium to C, if there are any.
     pub(crate) fn give_back(&mut self, medium: OwnOrLent)
         ensures kept { self.new.slot ≡ self.old.slot }
         ensures returned { self.new.returned.bytes ≡ lent_of medium }

@@ -1,4 +1,4 @@
-//! What stands behind a handle: a subsystem, and room for what its executions mark.
+//! What a handle owns: a subsystem, and a list for the marks of its executions.
 
 ghost use Rattle.std.specs.Prelude.{◌≡◌, ◌%◌, ◌/◌, true, length, None, Some, IfNone, IfSome};
 ghost use Rattle.nvme_spec.specs.World.{namespace_of};
@@ -7,7 +7,7 @@ ghost use Rattle.nvme_machine.specs.Bare.{seen_of};
 ghost use Rattle.nvme_machine.specs.EventCalls.{ExecutesNothing};
 ghost use Rattle.nvme_machine.specs.Needs.{need_at};
 ghost use Rattle.nvme_machine.specs.Subsystems.{Step, controller_at};
-ghost use Rattle.nvme_subsys.specs.Looking.{Looks, LooksBy, place_in};
+ghost use Rattle.nvme_subsys.specs.Looking.{Looks, LooksBy, block_in};
 ghost use Rattle.nvme_library.specs.Events.{Executing};
 
 use nvme_ctrl::Controller;
@@ -19,8 +19,8 @@ use nvme_spec::Marks;
 use nvme_subsys::{Event, Need, Subsystem};
 use std::marker::Model;
 
-/// A subsystem that C holds, which is what contracts see of it. The room for what an execution marks stands beside it,
-/// empty, since to make it costs as much as a fetch.
+/// An open subsystem. Contracts see only the subsystem. The list for marks is empty between calls; it is kept here
+/// since making one costs as much as a fetch.
 #[derive(Drop)]
 pub struct Held {
     subsystem: Subsystem<OwnOrLent>,
@@ -52,7 +52,7 @@ impl Held {
         }
     }
 
-    /// An event that is no execution.
+    /// Applies an event other than an execution.
     #[inline(always)]
     pub(crate) fn react(&mut self, event: Event) -> BareSeen
         requires quiet { ExecutesNothing event }
@@ -67,13 +67,13 @@ impl Held {
     pub(crate) fn execute(&mut self, cntlid: u16, i: usize) -> BareSeen
         ensures { Executing cntlid i self.old result self.new }
     {
-        let seen = self.subsystem.execute_marking(cntlid, i, &mut self.marks);
+        let seen = self.subsystem.execute_into(cntlid, i, &mut self.marks);
         self.marks.nsid = 0;
         self.marks.hosts.clear();
         seen
     }
 
-    /// The controller of an identifier, if there is one.
+    /// The controller with an identifier, if there is one.
     #[inline(always)]
     pub(crate) fn controller(&self, cntlid: u16) -> Option<&Controller>
         ensures none { IfNone result (controller_at self.now.state cntlid ≡ None) }
@@ -98,7 +98,7 @@ impl Held {
         self.subsystem.spaces()
     }
 
-    /// Reads blocks of a namespace as the medium has them.
+    /// Reads blocks of a namespace from the medium.
     #[inline(always)]
     pub(crate) fn read_blocks(
         &mut self,
@@ -107,10 +107,10 @@ impl Held {
         buffer: &mut [u8],
     ) -> Option<Result<(), MediumFault>>
         requires whole { length buffer.old % 512 ≡ 0 }
-        ensures look { Looks true (place_in (namespace_of self.old.state.world nsid) slba (length buffer.old / 512))
+        ensures look { Looks true (block_in (namespace_of self.old.state.world nsid) slba (length buffer.old / 512))
             self.old.state buffer.new result self.new.state }
         ensures calls { LooksBy step_of true self.old.state.device.content
-            (place_in (namespace_of self.old.state.world nsid) slba (length buffer.old / 512))
+            (block_in (namespace_of self.old.state.world nsid) slba (length buffer.old / 512))
             (length buffer.old / 512) buffer.old buffer.new self.old.medium result self.new.medium }
     {
         self.subsystem.read_blocks(nsid, slba, buffer)

@@ -1,9 +1,16 @@
-//! What follows from the clauses of the calls. Each law is the contract of a function that does nothing.
+//! Laws of the calls. Each law is the contract of an empty function.
 
-ghost use Rattle.nvme_library.specs.LentLaws.{ExecutionsStayInPlace, TurnsStayInPlace, ExecutionsReachTheBytes, BytesStayTheContent, PowerCyclesLeaveTheMedium, LooksLeaveTheMedium};
+ghost use Rattle.nvme_library.specs.LentLaws.{
+  ExecutionsStayInPlace,
+  TurnsStayInPlace,
+  ExecutionsReachTheBytes,
+  BytesStayTheContent,
+  PowerCyclesLeaveTheMedium,
+  LooksLeaveTheMedium,
+};
 
-/// Commands reach the bytes that C lends: they stay where they are, as many, and what a command's calls leave in the
-/// blocks is there, which is the content that the events leave.
+/// Commands act on the bytes that a C program provides: these keep their address and length, the blocks are what each
+/// command's calls leave, and that is the content of the state.
 pub fn commands_reach_lent_bytes()
     ensures executions { ExecutionsStayInPlace }
     ensures turns { TurnsStayInPlace }
@@ -11,7 +18,7 @@ pub fn commands_reach_lent_bytes()
     ensures content { BytesStayTheContent }
 {}
 
-/// A power cycle, and a look at blocks, leave the medium as it was.
+/// A power cycle, and a read of blocks, leave the medium unchanged.
 #[tactic(auto, using(crate::proofs::LentLaws::power_cycles_leave_the_medium, crate::proofs::LentLaws::looks_leave_the_medium))]
 pub fn cycles_and_looks_leave_the_medium()
     ensures cycles { PowerCyclesLeaveTheMedium }

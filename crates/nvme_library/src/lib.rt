@@ -1,5 +1,5 @@
-//! The subsystem as a library for C. Each export is one call of `Subsystem`, and repeats what that call promises. What
-//! is wrong with a call is its answer: no export has a `requires`, since nothing checks that C meets one.
+//! The subsystem as a library for C. Each export is one call of `Subsystem`, and repeats that call's contract. A wrong
+//! argument is answered by a code: no export has a `requires`, since nothing would check that C meets it.
 #![tactic(auto)]
 
 pub mod access;
@@ -17,6 +17,7 @@ pub mod looking;
 pub mod looking_line;
 pub mod naming;
 pub mod needs;
+pub mod noticing;
 pub mod opening;
 pub mod queues;
 pub mod reading;
@@ -32,6 +33,7 @@ pub use configuration::{Attached, Controller, Namespace};
 pub use event::Event;
 pub use handle::Handle;
 pub use needs::Needed;
+pub use noticing::{Change, HostView};
 pub use queues::{Command, Queue};
 pub use reading::Read;
 pub use written::Written;

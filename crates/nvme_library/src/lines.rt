@@ -14,8 +14,8 @@ use crate::written::Written;
 use library_text::{ConfigLines, put_answer, put_event, put_text};
 use std::alloc::Global;
 
-/// Puts the line of a script that says an event, and a line feed, at the front of a buffer: `OK`; or `NO_ROOM`, or
-/// `NO_LINE` where no line says it, and the buffer is as it was. The bytes are those of a store.
+/// Puts an event's line of a script, and a line feed, at the front of a buffer: `OK`; or `NO_ROOM`, or `NO_LINE` if no
+/// line is this event, and the buffer is unchanged. `bytes` are those of a store.
 #[unsafe(no_mangle)]
 pub extern "C" fn nvmesim_event_line(event: &Event, bytes: &[u8], line: &mut [u8]) -> Written
     ensures { WritesLine (said_line event.now bytes.now) result line.old line.new }
@@ -26,8 +26,8 @@ pub extern "C" fn nvmesim_event_line(event: &Event, bytes: &[u8], line: &mut [u8
     }
 }
 
-/// Puts the line of a transcript that tells what an event gave, and a line feed, at the front of a buffer: `OK`; or
-/// `NO_ROOM`, or `NO_LINE` where no such event gives this answer, and the buffer is as it was.
+/// Puts the line of a transcript for an event's answer, and a line feed, at the front of a buffer: `OK`; or `NO_ROOM`,
+/// or `NO_LINE` if no such event has this answer, and the buffer is unchanged.
 #[unsafe(no_mangle)]
 pub extern "C" fn nvmesim_answer_line(event: &Event, answer: &Answer, line: &mut [u8]) -> Written
     ensures { WritesLine (told_line event.now answer.now) result line.old line.new }
@@ -41,8 +41,8 @@ pub extern "C" fn nvmesim_answer_line(event: &Event, answer: &Answer, line: &mut
     }
 }
 
-/// Puts the lines of a script that describe a configuration, each with its line feed, at the front of a buffer: `OK`; or
-/// `NO_ROOM` or `NO_MEMORY`, and the buffer is as it was.
+/// Puts the lines of a script that describe a configuration, each with its line feed, at the front of a buffer: `OK`;
+/// or `NO_ROOM` or `NO_MEMORY`, and the buffer is unchanged.
 #[unsafe(no_mangle)]
 pub extern "C" fn nvmesim_configuration_lines(
     alloc: Global,
@@ -51,7 +51,8 @@ pub extern "C" fn nvmesim_configuration_lines(
     attached: &[Attached],
     lines: &mut [u8],
 ) -> Written
-    ensures { Writes (lines_of (configuration_of controllers.now namespaces.now attached.now)) result lines.old lines.new }
+    ensures { Writes (lines_of (configuration_of controllers.now namespaces.now attached.now)) result
+        lines.old lines.new }
 {
     match config_of(alloc, controllers, namespaces, attached) {
         Ok(config) => Written::of(put_text(alloc, &ConfigLines(&config), "", lines)),

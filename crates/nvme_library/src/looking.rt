@@ -1,4 +1,4 @@
-//! What C reads of a host's memory and of the medium.
+//! Reads of a host's memory and of the medium.
 
 ghost use Rattle.std.specs.Prelude.{◌≡◌, ◌%◌, ◌/◌, length};
 ghost use Rattle.nvme_machine.specs.Subsystems.{controller_at};
@@ -10,8 +10,8 @@ use crate::held::Held;
 use nvme_medium::MediumFault;
 use std::alloc::Global;
 
-/// Loads bytes of the memory of a controller's host, from this address on: `OK`; or `OUTSIDE`, `NO_CONTROLLER` or
-/// `CLOSED`, and the buffer is as it was.
+/// Loads bytes of the memory of a controller's host, from an address: `OK`; or `OUTSIDE`, `NO_CONTROLLER` or `CLOSED`,
+/// and the buffer is unchanged.
 #[unsafe(no_mangle)]
 pub extern "C" fn nvmesim_load(
     alloc: Global,
@@ -31,9 +31,9 @@ pub extern "C" fn nvmesim_load(
     answer
 }
 
-/// Reads blocks of a namespace as the medium has them: `OK`; or `OUTSIDE` where they do not all lie in such a namespace,
-/// `NOT_WHOLE` or `CLOSED`, and the buffer is as it was; or `MEDIUM_FAULT`, and it has the blocks before the fault. No
-/// host reads here, so no reservation is asked.
+/// Reads blocks of a namespace from the medium: `OK`; or `OUTSIDE` if the namespace does not have all of them,
+/// `NOT_WHOLE` or `CLOSED`, and the buffer is unchanged; or `MEDIUM_FAULT`, and the buffer has the blocks before the
+/// fault. No host reads here, so no reservation is checked.
 #[unsafe(no_mangle)]
 pub extern "C" fn nvmesim_read_blocks(
     alloc: Global,
@@ -69,7 +69,7 @@ pub(crate) fn load_from(subsystem: &Held, cntlid: u16, address: u64, bytes: &mut
     codes::OK
 }
 
-/// The number of what a look at blocks came to.
+/// The code for the outcome of a read of blocks.
 fn number_of(looked: Option<Result<(), MediumFault>>) -> u32
     ensures { result ≡ look_number looked }
 {

@@ -1,4 +1,4 @@
-//! Lines that look, each answered by the text of a session over the same subsystem.
+//! Query lines, each answered by the text of a session over the same subsystem.
 
 ghost use Rattle.std.specs.Prelude.{◌≡◌, ◌*◌, ◌≤◌, ◌∷◌, ◌++◌, [], IfOk, length, option_map, true};
 ghost use Rattle.live_text.specs.Asking.{asked, asked_by_value, is_mark};
@@ -22,9 +22,9 @@ use nvme_lines::Reading;
 use script_text::Spell;
 use std::alloc::{AllocError, Global};
 
-/// Answers a line that looks, such as `?queues 1`, as a session over the same subsystem does, and puts the answer and a
-/// line feed at the front of a buffer: `OK`; or `NO_ROOM`, `NO_MEMORY`, `CLOSED`, or `NO_LINE` where the line does not
-/// begin with `?`, and the buffer is as it was. A refusal names the line by its number. No host has a driver here.
+/// Answers a query line, such as `?queues 1`, as a session over the same subsystem does, and puts the answer and a line
+/// feed at the front of a buffer: `OK`; or `NO_ROOM`, `NO_MEMORY`, `CLOSED`, or `NO_LINE` if the line does not begin
+/// with `?`, and the buffer is unchanged. A refusal names the line by its number. No host has a driver here.
 #[unsafe(no_mangle)]
 pub extern "C" fn nvmesim_look(
     alloc: Global,
@@ -43,7 +43,7 @@ pub extern "C" fn nvmesim_look(
     written
 }
 
-/// Answers a line, if it looks.
+/// Answers a line, if it is a query.
 fn answer_line(
     alloc: Global,
     subsystem: &mut Held,
@@ -68,7 +68,7 @@ fn answer_line(
     answer_asked(alloc, subsystem, number, asked, answer)
 }
 
-/// Answers what a line asks.
+/// Answers a parsed query, or the fault of one.
 fn answer_asked(
     alloc: Global,
     subsystem: &mut Held,
@@ -87,7 +87,7 @@ fn answer_asked(
     }
 }
 
-/// Answers a looking line.
+/// Answers a query.
 fn answer_look(
     alloc: Global,
     subsystem: &mut Held,
@@ -112,7 +112,7 @@ fn answer_look(
     }
 }
 
-/// The controller that a line looks at, if it names one that is there.
+/// The controller that a query names, if it exists.
 fn named(looking: Looking, subsystem: &Held) -> Option<&Controller>
     ensures { option_map (λ c. c.now) result ≡ named_in subsystem.now.state looking }
 {
@@ -122,7 +122,7 @@ fn named(looking: Looking, subsystem: &Held) -> Option<&Controller>
     }
 }
 
-/// Room for so many blocks, 256 at most.
+/// A buffer of `count` blocks, at most 256.
 fn room_for_blocks(alloc: Global, count: u32) -> Result<Vec<u8>, AllocError>
     requires { count ≤ 256 }
     ensures { IfOk result (λ room. length room.items ≡ 512 * count) }
@@ -130,18 +130,18 @@ fn room_for_blocks(alloc: Global, count: u32) -> Result<Vec<u8>, AllocError>
     vec![in alloc; 0; 512 * count as usize]
 }
 
-/// Answers a line that looks at blocks of a namespace.
+/// Answers a query of a namespace's blocks.
 fn answer_blocks(
     alloc: Global,
     subsystem: &mut Held,
     number: u64,
-    place: (u32, u64, u32),
+    range: (u32, u64, u32),
     answer: &mut [u8],
 ) -> Written
-    ensures { Answers number (Looks (look.Blocks place.0 place.1 place.2)) subsystem.old result answer.old answer.new
+    ensures { Answers number (Looks (look.Blocks range.0 range.1 range.2)) subsystem.old result answer.old answer.new
         subsystem.new }
 {
-    let (nsid, slba, count) = place;
+    let (nsid, slba, count) = range;
     if count == 0 || count > 256 {
         return answer_with(alloc, &nothing(number, Why::OutsideNamespace), answer);
     }
@@ -150,7 +150,7 @@ fn answer_blocks(
     };
     let bytes = room.as_mut_slice();
     let looked = subsystem.read_blocks(nsid, slba, bytes);
-    answer_with(alloc, &blocks_shown(number, place, looked, bytes), answer)
+    answer_with(alloc, &blocks_shown(number, range, looked, bytes), answer)
 }
 
 /// Puts the text of a value and a line feed at the front of a buffer.

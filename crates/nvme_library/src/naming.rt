@@ -5,8 +5,8 @@ ghost use Rattle.nvme_wire.specs.StatusNames.{name_of};
 
 use nvme_wire::Status;
 
-/// The standard's name of a status, `Unlisted` for one that no command answers: its bytes, as many as the buffer takes,
-/// and zeros behind them. The result is the length of the name, which is below 48.
+/// Puts the standard's name of a status into a buffer, `Unlisted` for one that no command answers: the bytes that fit,
+/// then zeros. Returns the length of the name, which is below 48.
 #[unsafe(no_mangle)]
 pub extern "C" fn nvmesim_status_name(sct: u8, sc: u8, bytes: &mut [u8]) -> usize
     ensures length { result ≡ length (name_of (record { sct = sct; sc = sc })) }

@@ -1,4 +1,4 @@
-//! What C sees of a fetched command's needs: the calls of the medium that its execution may make.
+//! What a fetched command needs, for C: the calls of the medium that its execution may make.
 
 ghost use Rattle.std.specs.Prelude.{◌≡◌};
 ghost use Rattle.nvme_library.specs.Needs.{needed_at, needed_in, told, without_need};
@@ -23,7 +23,7 @@ pub struct Needed {
     pub kind: u32,
 }
 
-/// What the i-th command, from 0, that a controller has fetched needs of the medium, if it is executed now: `OK`,
+/// What the `i`-th command, from 0, that a controller has fetched needs of the medium if it is executed now: `OK`,
 /// `NO_SUCH`, `NO_CONTROLLER` or `CLOSED`. Its execution makes no other calls; a rule on its data may still deny it.
 #[unsafe(no_mangle)]
 pub extern "C" fn nvmesim_needs(alloc: Global, sim: &mut Handle, cntlid: u16, i: usize) -> Needed
@@ -39,7 +39,7 @@ pub extern "C" fn nvmesim_needs(alloc: Global, sim: &mut Handle, cntlid: u16, i:
 }
 
 impl Needed {
-    /// There is no such command.
+    /// No such command.
     fn without(what: u32) -> Self
         ensures { result ≡ without_need what }
     {
@@ -51,7 +51,7 @@ impl Needed {
         }
     }
 
-    /// On these blocks of the medium.
+    /// A need of these blocks of the medium.
     fn on(kind: u32, first: u64, blocks: u32) -> Self
         ensures { result ≡ record { first = first; blocks = blocks; what = 0; kind = kind } }
     {
@@ -63,7 +63,7 @@ impl Needed {
         }
     }
 
-    /// As C is told.
+    /// The need in the form for C.
     fn of(need: Need) -> Self
         ensures { result ≡ told need }
     {
@@ -76,7 +76,7 @@ impl Needed {
         }
     }
 
-    /// Of the command at a place.
+    /// The need of the command at a place.
     fn at(subsystem: &Held, cntlid: u16, i: usize) -> Self
         ensures { result ≡ needed_at subsystem.now.state cntlid i }
     {

@@ -1,10 +1,19 @@
-//! A subsystem is opened and closed.
+//! Opens and closes a subsystem.
 
 ghost use Rattle.std.specs.Prelude.{◌≡◌, None, Some, IfOk, IfErr};
+ghost use Rattle.nvme_spec.specs.Configuration.{capacity};
 ghost use Rattle.nvme_spec.specs.declared.config.ConfigFault.TheVariants.{NoMemory};
 ghost use Rattle.nvme_lent.specs.OwnOrLent.{bytes_of, blocks_of, lent_of};
 ghost use Rattle.nvme_library.specs.Given.{configuration_of};
-ghost use Rattle.nvme_library.specs.Opening.{Opens, OpensOver, IsFault, fault_number, returned_by, lent_by, HasLastState};
+ghost use Rattle.nvme_library.specs.Opening.{
+  Opens,
+  OpensOver,
+  IsFault,
+  fault_number,
+  returned_by,
+  lent_by,
+  HasLastState,
+};
 
 use crate::codes;
 use crate::configuration::{Attached, Controller, Namespace, config_of};
@@ -16,22 +25,23 @@ use nvme_spec::ConfigFault;
 use nvme_subsys::{NewFault, Subsystem};
 use std::alloc::Global;
 
-/// Opens a subsystem over a copy of the whole blocks of these bytes.
+/// Opens a subsystem over a copy of the whole blocks of these bytes. A namespace has at most `max_blocks` blocks.
 ///
-/// It answers `OK`; or `BAD_VERSION`, `ALREADY_OPEN`, the first fault of the configuration, or `NO_MEMORY`, and then all
-/// is as it was.
+/// Returns `OK`; or `BAD_VERSION`, `ALREADY_OPEN`, the first fault of the configuration, or `NO_MEMORY`, and then
+/// nothing has changed.
 #[unsafe(no_mangle)]
 pub extern "C" fn nvmesim_open(
     alloc: Global,
     sim: &mut Handle,
     version: u32,
+    max_blocks: u64,
     controllers: &[Controller],
     namespaces: &[Namespace],
     attached: &[Attached],
     bytes: &[u8],
 ) -> u32
-    ensures { Opens version sim.old.slot.value (configuration_of controllers.now namespaces.now attached.now) bytes.now
-        None result sim.new.slot.value }
+    ensures { Opens version sim.old.slot.value max_blocks
+        (configuration_of controllers.now namespaces.now attached.now) bytes.now None result sim.new.slot.value }
 {
     if version != codes::VERSION {
         return codes::BAD_VERSION;
@@ -43,7 +53,7 @@ pub extern "C" fn nvmesim_open(
         return codes::NO_MEMORY;
     };
     let medium = OwnOrLent::Own(medium);
-    match opened(alloc, controllers, namespaces, attached, medium) {
+    match opened(alloc, max_blocks, controllers, namespaces, attached, medium) {
         Ok(subsystem) => {
             *sim = Handle::of(subsystem);
             codes::OK
@@ -52,22 +62,24 @@ pub extern "C" fn nvmesim_open(
     }
 }
 
-/// Opens a subsystem over the whole blocks of these bytes themselves, at their own address, which C lends until it is
-/// closed. Where none is opened, C has all of them back at once, as they were.
+/// Opens a subsystem in place, over the whole blocks of these bytes. The library uses them until the close returns
+/// them. If it opens none, C gets all of them back at once, unchanged.
 ///
-/// It answers as `nvmesim_open` does.
+/// Returns what `nvmesim_open` does.
 #[unsafe(no_mangle)]
 pub extern "C" fn nvmesim_open_lent(
     alloc: Global,
     sim: &mut Handle,
     version: u32,
+    max_blocks: u64,
     controllers: &[Controller],
     namespaces: &[Namespace],
     attached: &[Attached],
     bytes: LentBytes,
 ) -> u32
-    ensures opens { Opens version sim.old.slot.value (configuration_of controllers.now namespaces.now attached.now)
-        bytes.items (Some bytes) result sim.new.slot.value }
+    ensures opens { Opens version sim.old.slot.value max_blocks
+        (configuration_of controllers.now namespaces.now attached.now) bytes.items (Some bytes) result
+        sim.new.slot.value }
     ensures returned { sim.new.returned.bytes ≡ returned_by result bytes }
 {
     let medium = OwnOrLent::Lent(LentMedium::of(bytes));
@@ -79,7 +91,7 @@ pub extern "C" fn nvmesim_open_lent(
         sim.give_back(medium);
         return codes::ALREADY_OPEN;
     }
-    match opened(alloc, controllers, namespaces, attached, medium) {
+    match opened(alloc, max_blocks, controllers, namespaces, attached, medium) {
         Ok(subsystem) => {
             *sim = Handle::of(subsystem);
             codes::OK
@@ -91,8 +103,7 @@ pub extern "C" fn nvmesim_open_lent(
     }
 }
 
-/// Closes a subsystem, if one is open, and gives its memory back. C has the bytes back that it lent, as the commands
-/// have left them.
+/// Closes a subsystem, if one is open, and frees its memory. C gets its bytes back, as the commands have left them.
 #[unsafe(no_mangle)]
 pub extern "C" fn nvmesim_close(alloc: Global, sim: &mut Handle)
     ensures closed { sim.new.slot.value ≡ None }
@@ -104,10 +115,10 @@ pub extern "C" fn nvmesim_close(alloc: Global, sim: &mut Handle)
     }
 }
 
-/// The version of the interface, which `nvmesim_open` asks for.
+/// The version of the interface, which `nvmesim_open` requires.
 #[unsafe(no_mangle)]
 pub extern "C" fn nvmesim_version() -> u32
-    ensures { result ≡ 2 }
+    ensures { result ≡ 3 }
 {
     codes::VERSION
 }
@@ -115,6 +126,7 @@ pub extern "C" fn nvmesim_version() -> u32
 /// Opens a configuration over a medium, on the heap.
 fn opened(
     alloc: Global,
+    max_blocks: u64,
     controllers: &[Controller],
     namespaces: &[Namespace],
     attached: &[Attached],
@@ -122,23 +134,23 @@ fn opened(
 ) -> Result<Box<Held>, NewFault<OwnOrLent>>
     ensures opened { IfOk result
         (λ subsystem. OpensOver (configuration_of controllers.now namespaces.now attached.now) (bytes_of medium)
-        (blocks_of medium) (lent_of medium) subsystem.value) }
+        (capacity max_blocks (blocks_of medium)) (lent_of medium) subsystem.value) }
     ensures fault { IfErr result
-        (λ refused. IsFault (configuration_of controllers.now namespaces.now attached.now) (blocks_of medium)
-        refused.fault) }
+        (λ refused. IsFault (configuration_of controllers.now namespaces.now attached.now)
+        (capacity max_blocks (blocks_of medium)) refused.fault) }
     ensures kept { IfErr result (λ refused. refused.medium ≡ medium) }
 {
     let Ok(config) = config_of(alloc, controllers, namespaces, attached) else {
         return Err(without_memory(medium));
     };
-    let subsystem = Subsystem::new(alloc, &config, medium)?;
+    let subsystem = Subsystem::within(alloc, &config, max_blocks, medium)?;
     match Box::new(alloc, Held::of(subsystem)) {
         Ok(boxed) => Ok(boxed),
         Err(refused) => Err(without_memory(refused.value.into_medium())),
     }
 }
 
-/// Memory was refused, and the medium is as it was.
+/// Memory was refused, and the medium is unchanged.
 fn without_memory(medium: OwnOrLent) -> NewFault<OwnOrLent>
     ensures { result ≡ record { fault = NoMemory; medium = medium } }
 {
@@ -148,7 +160,7 @@ fn without_memory(medium: OwnOrLent) -> NewFault<OwnOrLent>
     }
 }
 
-/// The number of a fault.
+/// The code of a fault.
 pub(crate) fn number_of(fault: ConfigFault) -> u32
     ensures { result ≡ fault_number fault }
 {

@@ -1,46 +1,55 @@
-//! What C sees of a controller: its queues, and the commands that it has fetched.
+//! A controller's queues and fetched commands, for C.
 
 ghost use Rattle.std.specs.Prelude.{◌≡◌};
-ghost use Rattle.nvme_library.specs.Queues.{command_at, completion_of, completion_queue_at, of_controller, without_command, without_queue, submission_of, submission_queue_at};
+ghost use Rattle.nvme_library.specs.Queues.{
+  command_at,
+  completion_of,
+  completion_queue_at,
+  of_controller,
+  without_command,
+  without_queue,
+  submission_of,
+  submission_queue_at,
+};
 
 use crate::codes;
 use crate::handle::Handle;
 use nvme_ctrl::{CompletionQueue, Controller, SubmissionQueue};
 use std::alloc::Global;
 
-/// A queue, as its controller has it.
+/// A queue of a controller.
 #[repr(C)]
 #[derive(Clone, Copy)]
 pub struct Queue {
     /// Its address in the memory of the host.
     pub base: u64,
-    /// `OK`; else why there is none, and the other fields are 0.
+    /// `OK`; else why there is no such queue, and the other fields are 0.
     pub what: u32,
-    /// How many entries it has.
+    /// The number of entries.
     pub size: u16,
-    /// The head: of a submission queue the slot of the next command to fetch; of a completion queue that of the first
-    /// completion that the host has not consumed, as far as it told.
+    /// The head: in a submission queue the slot of the next command to fetch; in a completion queue that of the first
+    /// completion that the host has not consumed, by the doorbell.
     pub head: u16,
-    /// The tail: of a submission queue the slot behind the last command, as far as the host told; of a completion queue
-    /// that of the next completion.
+    /// The tail: in a submission queue the slot after the last command, by the doorbell; in a completion queue that of
+    /// the next completion.
     pub tail: u16,
-    /// The completion queue: itself, or where the completions of a submission queue go.
+    /// The completion queue: this one, or the one for the completions of this submission queue.
     pub cqid: u16,
-    /// Of a completion queue, the phase tag of the next completion.
+    /// In a completion queue, the phase tag of the next completion.
     pub phase: bool,
 }
 
-/// A command that was fetched and not executed.
+/// A command that was fetched and not yet executed.
 #[repr(C)]
 #[derive(Clone, Copy)]
 pub struct Command {
-    /// How many there are.
+    /// The number of such commands.
     pub count: usize,
-    /// `OK`; else why there is none, and what follows is 0.
+    /// `OK`; else why there is no such command, and the fields after it are 0.
     pub what: u32,
     /// Its submission queue.
     pub qid: u16,
-    /// Whether a Preempt and Abort has caught it.
+    /// Whether a Preempt and Abort has marked it.
     pub marked: bool,
     /// Its submission queue entry.
     pub entry: [u8; 64],
@@ -90,8 +99,8 @@ pub extern "C" fn nvmesim_completion_queue(
     queue
 }
 
-/// The i-th, from 0, of the commands that a controller has fetched and not executed, in the order of their fetches:
-/// `OK`, `NO_SUCH`, `NO_CONTROLLER` or `CLOSED`.
+/// The `i`-th, from 0, of the commands that a controller has fetched and not yet executed, in the order of their
+/// fetches: `OK`, `NO_SUCH`, `NO_CONTROLLER` or `CLOSED`.
 #[unsafe(no_mangle)]
 pub extern "C" fn nvmesim_fetched(alloc: Global, sim: &mut Handle, cntlid: u16, i: usize) -> Command
     ensures command { result ≡ of_controller (without_command 0) (command_at i) sim.old.slot.value cntlid }
@@ -109,7 +118,7 @@ pub extern "C" fn nvmesim_fetched(alloc: Global, sim: &mut Handle, cntlid: u16, 
 }
 
 impl Queue {
-    /// There is none.
+    /// No queue.
     fn without(what: u32) -> Self
         ensures { result ≡ without_queue what }
     {
@@ -154,7 +163,7 @@ impl Queue {
         }
     }
 
-    /// The submission queue of an identifier.
+    /// The submission queue with an identifier.
     fn submission_at(controller: &Controller, qid: u16) -> Self
         ensures { result ≡ submission_queue_at qid controller.now }
     {
@@ -164,7 +173,7 @@ impl Queue {
         }
     }
 
-    /// The completion queue of an identifier.
+    /// The completion queue with an identifier.
     fn completion_at(controller: &Controller, qid: u16) -> Self
         ensures { result ≡ completion_queue_at qid controller.now }
     {
@@ -176,7 +185,7 @@ impl Queue {
 }
 
 impl Command {
-    /// There is none.
+    /// No command.
     fn without(count: usize, what: u32) -> Self
         ensures { result ≡ without_command count what }
     {

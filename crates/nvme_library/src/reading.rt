@@ -1,6 +1,7 @@
-//! A configuration's text is read.
+//! Reads the text of a configuration.
 
 ghost use Rattle.std.specs.Prelude.{◌≡◌, List, ℕ};
+ghost use Rattle.nvme_spec.specs.Configuration.{capacity};
 ghost use Rattle.nvme_ns.specs.Configured.{configuration};
 ghost use Rattle.nvme_library.specs.Reading.{Gives, ReadsText, Told, code_of, without_read};
 
@@ -13,43 +14,44 @@ use library_text::{Refused, config_in, put_text};
 use nvme_spec::Config;
 use std::alloc::Global;
 
-/// What came of reading a configuration.
+/// The result of reading a configuration.
 #[repr(C)]
 #[derive(Clone, Copy)]
 pub struct Read {
-    /// How many controllers it has, which stand at the front of their array; 0 where it is refused.
+    /// The number of its controllers, at the front of their array; 0 if it is refused.
     pub controllers: usize,
-    /// The same of namespaces.
+    /// The same for namespaces.
     pub namespaces: usize,
-    /// The same of attachments.
+    /// The same for attachments.
     pub attached: usize,
-    /// The number of the line that is at fault, from 1; 0 where none is.
+    /// The number of the line at fault, from 1; 0 if there is none.
     pub line: usize,
-    /// Where in that line, in bytes from 1; 0 where no line is at fault.
+    /// The column of the fault in that line, in bytes from 1; 0 if no line is at fault.
     pub column: usize,
-    /// How many bytes the reason has, which stand at the front of its buffer: 0 where it is not there.
+    /// The length of the reason in bytes, at the front of its buffer; 0 if it is missing.
     pub length: usize,
-    /// `OK`; else why it is refused.
+    /// `OK`, or why the text is refused.
     pub what: u32,
 }
 
-/// Reads the lines of a script that describe a configuration, and judges it over a medium of so many blocks. `start` may
-/// end them, and no event may follow.
+/// Parses the lines of a script that describe a configuration, and checks it for a medium of `medium_blocks` blocks and
+/// namespaces of at most `max_blocks` blocks each. `start` may end them, and no event may follow.
 ///
-/// `OK`, and the arrays begin with its controllers, namespaces and attachments; or `TOO_LONG`, `BAD_LINE`, `TOO_MANY`,
-/// `BAD_ID`, `BAD_SIZE`, `DOES_NOT_FIT`, `HAS_EVENT`, `EMPTY` or `NO_MEMORY`, and the buffer begins with the reason,
-/// where it has room; or `NO_ROOM` where an array has none. Unless it is `OK` the arrays are as they were.
+/// Returns `OK`, and the arrays begin with its controllers, namespaces and attachments; or `TOO_LONG`, `BAD_LINE`,
+/// `TOO_MANY`, `BAD_ID`, `BAD_SIZE`, `DOES_NOT_FIT`, `HAS_EVENT`, `EMPTY` or `NO_MEMORY`, and the buffer begins with
+/// the reason if it fits; or `NO_ROOM` if an array is too short. The arrays are unchanged unless the result is `OK`.
 #[unsafe(no_mangle)]
 pub extern "C" fn nvmesim_read_configuration(
     alloc: Global,
     text: &[u8],
+    max_blocks: u64,
     medium_blocks: u64,
     controllers: &mut [Controller],
     namespaces: &mut [Namespace],
     attached: &mut [Attached],
     reason: &mut [u8],
 ) -> Read
-    ensures { ReadsText text.now medium_blocks result
+    ensures { ReadsText text.now (capacity max_blocks medium_blocks) result
         (record {
           controllers = controllers.old;
           namespaces = namespaces.old;
@@ -63,13 +65,13 @@ pub extern "C" fn nvmesim_read_configuration(
           reason = reason.new;
         }) }
 {
-    match config_in(alloc, text, medium_blocks) {
+    match config_in(alloc, text, max_blocks, medium_blocks) {
         Ok(config) => give(&config, controllers, namespaces, attached),
         Err(refused) => tell(alloc, &refused, reason),
     }
 }
 
-/// Hands a configuration to C, where its arrays have room.
+/// Copies a configuration to the arrays of C, if it fits.
 fn give(
     config: &Config,
     controllers: &mut [Controller],
@@ -110,11 +112,11 @@ fn give(
     }
 }
 
-/// Tells C why a text is refused, with the reason where its buffer has room.
+/// Reports why a text is refused, with the reason if it fits the buffer.
 fn tell(alloc: Global, refused: &Refused<'_>, reason: &mut [u8]) -> Read
     ensures { Told refused.now result reason.old reason.new }
 {
-    let (line, column) = refused.place();
+    let (line, column) = refused.position();
     Read {
         controllers: 0,
         namespaces: 0,
@@ -127,7 +129,7 @@ fn tell(alloc: Global, refused: &Refused<'_>, reason: &mut [u8]) -> Read
 }
 
 impl Read {
-    /// There is none.
+    /// No configuration, for this reason.
     fn without(what: u32) -> Self
         ensures { result ≡ without_read what }
     {
@@ -143,7 +145,7 @@ impl Read {
     }
 }
 
-/// The number of a refusal.
+/// The code of a refusal.
 fn code_of(refused: &Refused<'_>) -> u32
     ensures { result ≡ code_of refused.now }
 {

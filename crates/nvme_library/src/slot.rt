@@ -1,4 +1,4 @@
-//! Where a subsystem stands that C holds.
+//! Owns the subsystem of a handle.
 
 ghost use Rattle.std.specs.Prelude.{◌≡◌, Option, Some, None, true, is_some};
 ghost use Rattle.nvme_library.specs.Holding.{Inside, holds};
@@ -9,7 +9,7 @@ use std::alloc::Global;
 use std::marker::Model;
 use std::ptr;
 
-/// The place of a subsystem on the heap, or nothing.
+/// The address of a subsystem on the heap, or nothing.
 #[repr(C)]
 #[derive(Drop)]
 pub struct Slot {
@@ -22,11 +22,11 @@ impl Model for Slot {
     ghost also_owns = { λ slot. holds slot.alloc slot.at slot.value };
 }
 
-// The subsystem may go to another thread, and so may the right to free its place.
+// The subsystem may move to another thread, and so may the right to free its memory.
 unsafe impl Send for Slot {}
 
 impl Slot {
-    /// The place of this one.
+    /// The address of this one.
     pub(crate) fn of(pointer: BoxPointer<Held, Global>) -> Slot
         ensures { result.value ≡ Some pointer.value }
     {
@@ -37,7 +37,7 @@ impl Slot {
         }
     }
 
-    /// The one that stands there.
+    /// The subsystem's pointer.
     pub(crate) fn into_pointer(self) -> BoxPointer<Held, Global>
         requires { is_some self.value ≡ true }
         ensures { self.value ≡ Some result.value }

@@ -4,7 +4,17 @@ ghost use Rattle.nvme_machine.specs.Subsystems.{controller_at};
 ghost use Rattle.nvme_machine.specs.Controllers.{after_store, wrote};
 ghost use Rattle.nvme_library.specs.Events.{Reacting};
 ghost use Rattle.nvme_library.specs.Turns.{tail_doorbell};
-ghost use Rattle.nvme_library.specs.Submitting.{Submits, AlwaysAnswers, SubmitsTo, TakesTurn, Does, Fetching, Completing, Completes, Consumes};
+ghost use Rattle.nvme_library.specs.Submitting.{
+  Submits,
+  AlwaysAnswers,
+  SubmitsTo,
+  TakesTurn,
+  Does,
+  Fetching,
+  Completing,
+  Completes,
+  Consumes,
+};
 
 use crate::answer::Answer;
 use crate::codes;
@@ -16,12 +26,12 @@ use nvme_machine::{BareExecuted, BareSeen, Fetched};
 use nvme_subsys::Event;
 use std::alloc::Global;
 
-/// A host takes its turn at a pair of queues in which nothing waits: it stores a command at the tail of the submission
-/// queue and writes the doorbell, the controller fetches the command, executes it and posts the completion, and the
-/// host reads that, of 16 bytes, and writes the head doorbell. No other event comes between.
+/// A host takes its turn at a pair of empty queues. It stores a command at the tail of the submission queue and writes
+/// the doorbell. The controller fetches and executes the command and posts the completion. The host reads its 16 bytes
+/// and writes the head doorbell. No other event comes between these.
 ///
-/// `POSTED`, with the status, and the buffer has the completion of this very command; or `NOT_READY`, `NO_QUEUE`, `BUSY`,
-/// `NO_CONTROLLER` or `CLOSED`, and nothing has happened.
+/// Returns `POSTED` with the status, and the buffer has the completion of this command; or `NOT_READY`, `NO_QUEUE`,
+/// `BUSY`, `NO_CONTROLLER` or `CLOSED`, and nothing has happened.
 #[unsafe(no_mangle)]
 pub extern "C" fn nvmesim_submit(
     alloc: Global,
@@ -43,7 +53,7 @@ pub extern "C" fn nvmesim_submit(
     answer
 }
 
-/// A command is submitted, where its host has a turn.
+/// Submits a command, if a turn is possible.
 fn submit_to(
     subsystem: &mut Held,
     cntlid: u16,
@@ -95,14 +105,14 @@ fn store_entry(subsystem: &mut Held, cntlid: u16, turn: Turn, entry: &[u8; 64])
     subsystem.react(Event::Store(cntlid, turn.entry_at, entry));
 }
 
-/// The host writes the doorbell of the tail.
+/// The host writes the tail doorbell.
 fn ring_tail(subsystem: &mut Held, cntlid: u16, qid: u16, turn: Turn)
     ensures { Does (Reacting cntlid (wrote (tail_doorbell qid) turn.tail)) subsystem.old subsystem.new }
 {
     subsystem.react(Event::Write32(cntlid, tail_doorbell(qid), turn.tail));
 }
 
-/// What was fetched is executed, where a command was.
+/// Executes the command if one was fetched.
 fn finish(
     subsystem: &mut Held,
     cntlid: u16,
@@ -123,12 +133,12 @@ fn finish(
 fn complete(subsystem: &mut Held, cntlid: u16, turn: Turn, completion: &mut [u8; 16]) -> Answer
     ensures { Completing cntlid turn subsystem.old result completion.old completion.new subsystem.new }
 {
-    let seen = subsystem.execute(cntlid, turn.place);
+    let seen = subsystem.execute(cntlid, turn.index);
     consume(subsystem, cntlid, turn, seen, completion);
     Answer::of(seen)
 }
 
-/// The host reads the completion and writes the head doorbell, where one was posted.
+/// If a completion was posted, the host reads it and writes the head doorbell.
 fn consume(subsystem: &mut Held, cntlid: u16, turn: Turn, seen: BareSeen, completion: &mut [u8; 16])
     ensures { Consumes seen cntlid turn subsystem.old completion.old completion.new subsystem.new }
 {

@@ -1,4 +1,4 @@
-//! What C is told of a text that is put into a buffer.
+//! The result of putting a text into a buffer, for C.
 
 ghost use Rattle.std.specs.Prelude.{◌≡◌};
 ghost use Rattle.nvme_library.specs.Written.{line_written, text_written, without_text};
@@ -6,18 +6,18 @@ ghost use Rattle.nvme_library.specs.Written.{line_written, text_written, without
 use crate::codes;
 use library_text::Unput;
 
-/// What came of putting a text into a buffer.
+/// The result of putting a text into a buffer.
 #[repr(C)]
 #[derive(Clone, Copy)]
 pub struct Written {
-    /// How many bytes the text has, which stand at the front of the buffer; 0 where it is not put there.
+    /// The length in bytes of the text at the front of the buffer; 0 if there is none.
     pub length: usize,
-    /// `OK`; else why it is not, and the buffer is as it was.
+    /// `OK`, or why there is none; the buffer is then unchanged.
     pub what: u32,
 }
 
 impl Written {
-    /// There is none.
+    /// No text, for this reason.
     #[inline(always)]
     pub(crate) fn without(what: u32) -> Self
         ensures { result ≡ without_text what }
@@ -25,7 +25,7 @@ impl Written {
         Written { length: 0, what }
     }
 
-    /// What came of a text.
+    /// The result for a text.
     #[inline(always)]
     pub(crate) fn of(put: Result<usize, Unput>) -> Self
         ensures { result ≡ text_written put }
@@ -40,7 +40,7 @@ impl Written {
         }
     }
 
-    /// What came of a line, if there is one.
+    /// The result for a line, if there is one.
     #[inline(always)]
     pub(crate) fn of_line(put: Option<Result<usize, Unput>>) -> Self
         ensures { result ≡ line_written put }

@@ -6,7 +6,33 @@ use mir.MapTy.{inst_fn}
 use base.Logic.{SProp, ent, id⊢}
 use base.Fml.{ftrue, flft}
 use prog.Wp.{WpFn}
-use types.Kit.{‵, raw, ◌⊛◌, some, later, at_ret, ◌$◌, ◌∵◌, !, qed, by, move, keep, drop, split, split3, join, fsplit, fjoin, pick, suffices, use1, await, rewrite, feq_i}
+use types.Kit.{
+  ‵,
+  raw,
+  ◌⊛◌,
+  some,
+  later,
+  at_ret,
+  ◌$◌,
+  ◌∵◌,
+  !,
+  qed,
+  by,
+  move,
+  keep,
+  drop,
+  split,
+  split3,
+  join,
+  fsplit,
+  fjoin,
+  pick,
+  suffices,
+  use1,
+  await,
+  rewrite,
+  feq_i,
+}
 use types.Run.{stop, fld, of_opd, no_more, and_then, first, blocks, exec, returns, enter}
 use types.ByLocal.{alloc_all, pass_all, free_all, look_at, get, get_in, sets, lands_last, env}
 use types.Part.{sub, whole}
@@ -51,35 +77,43 @@ into_box_spec 𝓤 𝓛 𝓜 𝓡 wired T A L LA g d dx dd allocator glue glued 
     let from_raw = triple_of 𝓛 (callee.signature T A g d dd) (callee.spec T A g d dd 𝓛 𝓜.mem 𝓡.returns) in
     let known = met 𝓤 𝓛 𝓜 𝓡 (code.calls-std_alloc::boxed::Box::from_raw 𝓡.env wired) T A L LA g d dd allocator glued in
     let Boxed : RattleType = box.B E in
-    proved_at 𝓛 done stays says 𝓜 𝓡 (Goes-blank 𝓛 2 (plain (λ _. Row R Z LZ g)) no (λ κs x f. tt), tt) (#self args) fn (code.unfolded 𝓤 H 𝓜 𝓡 wired (T, (A, tt)) d dx dd) (λ z are.
+    proved_at 𝓛 done stays says 𝓜 𝓡 (Goes-blank 𝓛 2 (plain (λ _. Row R Z LZ g)) no (λ κs x f. tt), tt) (#self args) fn
+    (code.unfolded 𝓤 H 𝓜 𝓡 wired (T, (A, tt)) d dx dd) (λ z are.
     let κs = z.0.0 in let shares = z.0.1 in let p = z.0.3.0 in let alloc = p.alloc in
     let Post : Val → SProp 𝓤 = (walk_of 𝓛 done stays says).post z in
     let Run : List Val → SProp 𝓤 = λ vs. WpFn 𝓤 H 𝓣.C 𝓣.Λ fn vs Post in
     let tokens = ‵ (flft κs.0 shares.0) ⊛ ‵ (flft κs.1.0 shares.1.0) ⊛ ‵ ftrue in
-    qed 𝓛 ((tokens ⊛ ‵ (owns (types_at done.signature.params κs) z.0.3 z.0.4)) ∷ raw ((says κs z.0.3).requires z.1) ∷ []) ∵
+    qed 𝓛
+    ((tokens ⊛ ‵ (owns (types_at done.signature.params κs) z.0.3 z.0.4)) ∷ raw ((says κs z.0.3).requires z.1) ∷ []) ∵
     split ! $ move ! (1 ∷ []) $ fsplit ! $
     opened R Z LZ g ! p z.0.4.0 (λ b o handle at words good.
     let v : Val = word b o handle in let typed = word_good R Z LZ g b o handle good in
-    let given : from_raw.Ghost = ((κs, shares, tt, (alloc, (block_ptr b o, tt)), (handle ∷ [], (vptr b o ∷ [], tt))), p.value) in
-    -- how long the value and the allocator live is for the caller to know
+    let given : from_raw.Ghost =
+    ((κs, shares, tt, (alloc, (block_ptr b o, tt)), (handle ∷ [], (vptr b o ∷ [], tt))), p.value) in
+    -- the caller knows how long the value and the allocator live
     move ! (4 ∷ []) $ use1 𝓛 (raw (fact 𝓤 (κs.0 ⊑ T.lives)) ⊛ raw (fact 𝓤 (κs.1.0 ⊑ A.lives)) ⊛ ‵ ftrue) (id⊢ 𝓤 _) $
     split3 ! $ move ! (2 ∷ []) $ drop ! $ move ! (1 ∷ 2 ∷ []) $ join ! $ move ! (1 ∷ 0 ∷ []) $ join ! $
-    move ! (2 ∷ []) $ feq_i ! (List Val) (vptr b o ∷ []) (vptr b o ∷ []) refl $ fjoin ! $ move ! (2 ∷ 0 ∷ []) $ fjoin ! $
+    move ! (2 ∷ []) $ feq_i ! (List Val) (vptr b o ∷ []) (vptr b o ∷ []) refl $ fjoin ! $
+    move ! (2 ∷ 0 ∷ []) $ fjoin ! $
     move ! (2 ∷ 0 ∷ []) $ join ! $ join ! $ use1 𝓛 (raw (from_raw.pre given)) (id⊢ 𝓤 _) $
-    suffices ! (Run (v ∷ [])) (subst (λ (us : List Val). ent 𝓤 (Run (v ∷ [])) (Run us)) (sym (λ i. words i ++ [])) (id⊢ 𝓤 (Run (v ∷ [])))) $
+    suffices ! (Run (v ∷ []))
+    (subst (λ (us : List Val). ent 𝓤 (Run (v ∷ [])) (Run us)) (sym (λ i. words i ++ [])) (id⊢ 𝓤 (Run (v ∷ [])))) $
     enter ! 𝓣.C 𝓣.Λ fn (v ∷ []) Post $ alloc_all ! (λ l. pass_all ! refl (typed, tt) $ let locals = env fn.locals l in
     sets ! (of_opd ! (get_in ! (fld ! refl (stop !)) (sub ! 0 refl (whole !)))) refl (tt, tt) $
     sets ! (of_opd ! (get_in ! (fld ! refl (stop !)) (sub ! 1 refl (whole !)))) refl good $
     first ! $ blocks ! $ sets ! (of_opd ! (get ! refl)) refl good $
     -- the call, and the box that it returns
-    calls_at_last ! (fm 𝓛 𝓜 𝓡) from_raw known given (and_then ! (get ! refl) (and_then ! (get ! refl) (no_more !))) (λ u.
+    calls_at_last ! (fm 𝓛 𝓜 𝓡) from_raw known given
+    (and_then ! (get ! refl) (and_then ! (get ! refl) (no_more !))) (λ u.
     use1 𝓛 (later (some (λ (r : Boxed.Denot). (tokens ⊛ ‵ (Boxed.own_val r (u ∷ []))) ⊛
     some (λ (ls : Lasts (callee.ended T A g d dd) κs given.0.3). ‵ (lasts (callee.ended T A g d dd) κs given.0.3 ls) ⊛
     (raw (fact 𝓤 (r.value ≡ p.value)) ⊛ raw (fact 𝓤 (r.alloc ≡ alloc))))))) (id⊢ 𝓤 (from_raw.post given u)) $
-    await ! tt $ pick ! (λ r. split ! $ move ! (1 ∷ []) $ pick ! (λ _. split3 ! $ drop ! $ move ! (2 ∷ []) $ split ! $ move ! (1 ∷ []) $
+    await ! tt $ pick !
+    (λ r. split ! $ move ! (1 ∷ []) $ pick ! (λ _. split3 ! $ drop ! $ move ! (2 ∷ []) $ split ! $ move ! (1 ∷ []) $
     box_out E ! r (u ∷ []) (λ b' o' handle' at' words' good'. box_in E ! r b' o' r.value at' refl $
     rewrite ! 0 (λ (vs : List Val). ‵ (Boxed.own_val r vs)) (sym words') refl $
-    let typed' : Good (layout Boxed) u = subst (Good (layout Boxed)) (sym (ap only words')) (word_good R Z LZ g b' o' handle' good') in
+    let typed' : Good (layout Boxed) u =
+    subst (Good (layout Boxed)) (sym (ap only words')) (word_good R Z LZ g b' o' handle' good') in
     lands_last ! refl typed' $ exec ! 𝓣.C 𝓣.Λ locals (after 3 fn.body) (at_ret locals Post) $
     sets ! (of_opd ! (get ! refl)) refl typed' $ nothing ! $ nothing ! $ fjoin ! $
     returns ! (look_at ! 0 refl) $ free_all ! refl $ keep ! (2 ∷ 0 ∷ 1 ∷ 3 ∷ []) $

@@ -10,4 +10,5 @@ put_short-requires c =
     let e = c.args.event.now in
     let narrow : controller_of e < 2 ^ 16 = search rules in
     let wide : second_of e < 2 ^ 64 = search rules in
-    told-short e c.args.seen.now (controller-short e narrow) (subject-short e narrow wide) c.read_posted.ensures c.requires
+    told-short e c.args.seen.now (controller-short e narrow)
+    (subject-short e narrow wide) c.read_posted.ensures c.requires

@@ -7,11 +7,15 @@ use Rattle.library_text.proofs.configuration.put_controllers.Goals as goal
 pub loop-first-preserved : goal.loop-first-preserved
 loop-first-preserved g c =
     let joined : c.loop-first.rest.now ≡ c.in-Some.first.now ∷ c.in-Some.behind.now = search rules in
-    next_piece _ _ (controller_line c.in-Some.first.now) (flat_map controller_line c.in-Some.behind.now) (flat_map controller_line c.loop-first.rest.now) _
+    next_piece _ _ (controller_line c.in-Some.first.now) (flat_map controller_line c.in-Some.behind.now)
+    (flat_map controller_line c.loop-first.rest.now) _
     c.in_ok-put_ended.ensures (ap (flat_map controller_line) joined) c.loop-first.invariant
 
 pub returns-in_err-put_ended : goal.returns-in_err-put_ended
 returns-in_err-put_ended g c =
     let joined : c.loop-first.rest.now ≡ c.in-Some.first.now ∷ c.in-Some.behind.now = search rules in
-    lacks_piece g.P.Page.room c.from_residual.result (g.P.Page.written c.loop-first.page) (controller_line c.in-Some.first.now) (flat_map controller_line c.in-Some.behind.now) (flat_map controller_line c.loop-first.rest.now) (g.P.Page.written c.args.page.now) (flat_map controller_line c.args.controllers.now) (g.P.Page.written c.put_ended.new.page) (search rules)
+    lacks_piece g.P.Page.room c.from_residual.result (g.P.Page.written c.loop-first.page)
+    (controller_line c.in-Some.first.now) (flat_map controller_line c.in-Some.behind.now)
+    (flat_map controller_line c.loop-first.rest.now) (g.P.Page.written c.args.page.now)
+    (flat_map controller_line c.args.controllers.now) (g.P.Page.written c.put_ended.new.page) (search rules)
     c.in_err-put_ended.ensures (ap (flat_map controller_line) joined) c.loop-first.invariant

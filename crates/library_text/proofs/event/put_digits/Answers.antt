@@ -1,4 +1,26 @@
-use Rattle.std.proofs.Common.{rules, ◌≡◌, ◌+◌, ◌*◌, ◌-◌, ◌≤◌, ◌<◌, ◌++◌, ◌∷◌, ◌∙◌, ap, refl, sym, [], true, false, nat_lt, length, drop, slice_set, arith}
+use Rattle.std.proofs.Common.{
+  rules,
+  ◌≡◌,
+  ◌+◌,
+  ◌*◌,
+  ◌-◌,
+  ◌≤◌,
+  ◌<◌,
+  ◌++◌,
+  ◌∷◌,
+  ◌∙◌,
+  ap,
+  refl,
+  sym,
+  [],
+  true,
+  false,
+  nat_lt,
+  length,
+  drop,
+  slice_set,
+  arith,
+}
 use Rattle.std.proofs.lemmas.Bool.{ltb-false, ltb-true}
 use Rattle.std.specs.List.{flat_map}
 use borrow.Rule.Slice.PartMut.{put_mid}
@@ -13,7 +35,8 @@ returns-then-not-has_room c =
     let line = c.args.line.now in
     let none : nat_lt (length front + 2 * length c.args.bytes.now) (length line) ≡ false = search rules in
     let lacks : length line ≤ length front + 2 * length c.args.bytes.now = ltb-false _ _ none in
-    let long = line-length front hex (length front) (2 * length c.args.bytes.now) refl (length-pairs c.args.bytes.now) in
+    let long =
+    line-length front hex (length front) (2 * length c.args.bytes.now) refl (length-pairs c.args.bytes.now) in
     puts-no (front ++ hex ++ 10 ∷ []) line (omega (arith, lacks, long))
 
 pub returns : goal.returns
@@ -30,7 +53,9 @@ returns c =
     let within : n + (n + b - n) < length line = omega (arith, below, k-is) in
     let long = line-length front hex n (n + b - n) refl wide in
     let ends : n + b + 1 ≡ n + (n + b - n) + 1 = omega (arith, k-is) in
-    let put : slice_set (put_mid n (n + b - n) (front ++ drop n line) hex) (n + b) 10 ≡ (front ++ hex ++ 10 ∷ []) ++ drop (length (front ++ hex ++ 10 ∷ [])) line =
-    rw long (line-put-at front hex line n (n + b - n) refl wide within (n + b) (omega (arith, k-is)) ∙ ap (λ m. (front ++ hex ++ 10 ∷ []) ++ drop m line) ends) in
+    let put : slice_set (put_mid n (n + b - n) (front ++ drop n line) hex) (n + b) 10 ≡ (front ++ hex ++ 10 ∷ [])
+    ++ drop (length (front ++ hex ++ 10 ∷ [])) line =
+    rw long (line-put-at front hex line n (n + b - n) refl wide within (n + b) (omega (arith, k-is))
+    ∙ ap (λ m. (front ++ hex ++ 10 ∷ []) ++ drop m line) ends) in
     puts-ok (front ++ hex ++ 10 ∷ []) line _ (n + b + 1) (omega (arith, below, long, k-is)) (omega (arith, long, k-is))
     (rw (c.copy_from_slice.ensures.after, c.encode_into.ensures) put)

@@ -8,8 +8,10 @@ use Rattle.library_text.proofs.event.put_store.Goals as goal
 
 pub returns-in-Ok : goal.returns-in-Ok
 returns-in-Ok c =
-    let put : Puts (store_front c.args.cntlid c.args.address ++ flat_map hex_pair c.args.bytes.now ++ 10 ∷ []) c.put_digits.result c.args.line.now c.put_digits.new.line = search rules in
-    subst (λ t. Puts t c.put_digits.result c.args.line.now c.put_digits.new.line) (store-parts c.args.cntlid c.args.address c.args.bytes.now) put
+    let put : Puts (store_front c.args.cntlid c.args.address ++ flat_map hex_pair c.args.bytes.now ++ 10 ∷ [])
+    c.put_digits.result c.args.line.now c.put_digits.new.line = search rules in
+    subst (λ t. Puts t c.put_digits.result c.args.line.now c.put_digits.new.line)
+    (store-parts c.args.cntlid c.args.address c.args.bytes.now) put
 
 pub returns-in-Err : goal.returns-in-Err
 returns-in-Err c =

@@ -6,7 +6,7 @@ use Rattle.nvme_program.proofs.Left.{left_length, IsWithin}
 use Rattle.library_text.specs.Reading.{first_event}
 use Rattle.library_text.proofs.reading.first_event.Given as goal
 
--- what is left decides, of the lines from this number on
+-- the remaining lines decide, from this number
 abbrev pub invariant-loop-rest : goal.invariant-loop-rest
 invariant-loop-rest l = record {
   within : IsWithin l.rest (length l.text);

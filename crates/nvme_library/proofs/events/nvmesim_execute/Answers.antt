@@ -10,4 +10,5 @@ pub of-requires : goal.of-requires
 of-requires c =
     let before = subst (λ (s : Inside). AreWhole s.state) (sym c.deref_mut.ensures.value) c.in-Some.ensures.whole in
     let x = c.execute-seen in
-    step_keeps_whole true _ x.new.self.state (Execute c.args.cntlid c.args.i) (seen_with x.ensures.marks x.result) x.ensures.executes before
+    step_keeps_whole true _ x.new.self.state (Execute c.args.cntlid c.args.i)
+    (seen_with x.ensures.marks x.result) x.ensures.executes before

@@ -1,4 +1,9 @@
-use Rattle.nvme_library.proofs.LentLaws.{executions_stay_in_place, turns_stay_in_place, executions_reach_the_bytes, bytes_stay_the_content}
+use Rattle.nvme_library.proofs.LentLaws.{
+  executions_stay_in_place,
+  turns_stay_in_place,
+  executions_reach_the_bytes,
+  bytes_stay_the_content,
+}
 use Rattle.nvme_library.proofs.laws.commands_reach_lent_bytes.Goals as goal
 
 pub returns-clause-executions : goal.returns-clause-executions

@@ -13,12 +13,24 @@ pub returns-in-Fails : goal.returns-in-Fails
 returns-in-Fails c =
     let why = c.in-Fails.why in
     let n = c.args.number in
-    subst (λ q. Answers n (asked_by_value q) c.args.subsystem.now c.answer_with.result c.args.answer.now c.answer_with.new.answer c.args.subsystem.now) (sym c.in-Fails.is)
-    (inl (refusal n (why_by_value why), (refl, refl), subst (λ t. Writes (t ++ 10 ∷ []) c.answer_with.result c.args.answer.now c.answer_with.new.answer) (sym (refusal_by_value n why)) c.answer_with.ensures))
+    subst (λ q. Answers n (asked_by_value q) c.args.subsystem.now c.answer_with.result c.args.answer.now
+    c.answer_with.new.answer c.args.subsystem.now) (sym c.in-Fails.is)
+    (inl (
+      refusal n (why_by_value why),
+      (refl, refl),
+      subst (λ t. Writes (t ++ 10 ∷ []) c.answer_with.result c.args.answer.now c.answer_with.new.answer)
+          (sym (refusal_by_value n why)) c.answer_with.ensures,
+    ))
 
 pub returns-in-Parses : goal.returns-in-Parses
 returns-in-Parses c =
     let line = c.in-Parses.line in
     let n = c.args.number in
-    subst (λ q. Answers n (asked_by_value q) c.args.subsystem.now c.answer_with-in-Parses.result c.args.answer.now c.answer_with-in-Parses.new.answer c.args.subsystem.now) (sym c.in-Parses.is)
-    (inl (reading_text (line_by_value line), (refl, refl), subst (λ t. Writes (t ++ 10 ∷ []) c.answer_with-in-Parses.result c.args.answer.now c.answer_with-in-Parses.new.answer) (sym (reading_by_value line)) c.answer_with-in-Parses.ensures))
+    subst (λ q. Answers n (asked_by_value q) c.args.subsystem.now c.answer_with-in-Parses.result c.args.answer.now
+    c.answer_with-in-Parses.new.answer c.args.subsystem.now) (sym c.in-Parses.is)
+    (inl (
+      reading_text (line_by_value line),
+      (refl, refl),
+      subst (λ t. Writes (t ++ 10 ∷ []) c.answer_with-in-Parses.result c.args.answer.now
+          c.answer_with-in-Parses.new.answer) (sym (reading_by_value line)) c.answer_with-in-Parses.ensures,
+    ))

@@ -10,4 +10,9 @@ returns-in_default c =
     let looking = c.args.looking in
     let s = c.args.subsystem.now in
     let text = shown_by c.shown_in.result in
-    inl (text, shows-other n looking s text c.in_default.not-Blocks (shown-of n looking s.state text _ _ c.shown_in.ensures c.named-controller.ensures c.spaces.ensures), c.answer_with.ensures)
+    inl (
+      text,
+      shows-other n looking s text c.in_default.not-Blocks
+          (shown-of n looking s.state text _ _ c.shown_in.ensures c.named-controller.ensures c.spaces.ensures),
+      c.answer_with.ensures,
+    )

@@ -9,4 +9,5 @@ pub of-requires : goal.of-requires
 of-requires c =
     let before = subst (λ (s : Inside). AreWhole s.state) (sym c.deref_mut.ensures.value) c.in-Some.ensures.whole in
     let x = c.answer_line-written in
-    answers-whole (is_looking c.args.line.now) c.args.number c.args.line.now _ x.result _ _ x.new.subsystem x.ensures before
+    answers-whole (is_looking c.args.line.now) c.args.number c.args.line.now _ x.result _ _ x.new.subsystem
+    x.ensures before

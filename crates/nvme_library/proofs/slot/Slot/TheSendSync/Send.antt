@@ -1,4 +1,4 @@
--- A subsystem and the right to free its place say the same to every thread.
+-- A subsystem, and the right to free its memory, mean the same in every thread.
 use mir.Raw.{raw}
 use base.Shift.{Keyless}
 use denote.Memory.{lone}

@@ -3,7 +3,7 @@ use Rattle.nvme_machine.specs.Bare.{seen_of}
 use Rattle.nvme_library.specs.Holding.{Inside}
 use Rattle.nvme_library.specs.Whole.{AreWhole}
 use Rattle.nvme_library.proofs.Whole.{step_keeps_whole}
-use Rattle.nvme_library.proofs.events.happen.Goals as goal
+use Rattle.nvme_library.proofs.events.apply_event.Goals as goal
 
 pub of-requires : goal.of-requires
 of-requires c =

@@ -1,0 +1,3 @@
+mod Recounting
+mod RunLaws
+mod RemovedHosts
