@@ -7,8 +7,8 @@ ghost use Rattle.nvme_spec.specs.IoRules as policy;
 use nvme_ns::Namespace;
 use nvme_spec::{Group, Hold, HostId, Role};
 
-/// Whether a command of this group is permitted to a host in this role under a hold (Base Specification, Reservation
-/// Types). Without a hold everything is permitted.
+/// Whether a reservation permits a command of this group to a host in this role (Base Specification, Reservation
+/// Types). Without a reservation everything is permitted.
 pub fn permits(hold: Hold, role: Role, group: Group) -> bool
     ensures { result ≡ is_permitted hold role group }
 {

@@ -1,4 +1,4 @@
-//! The opcodes of the I/O commands, and what is asked of each command.
+//! The opcodes of the I/O commands, and the traits of each command.
 
 ghost use Rattle.std.specs.Prelude.{◌≡◌, Some};
 ghost use Rattle.nvme_spec.specs.Commands as spec;
@@ -24,28 +24,28 @@ pub fn command_of(opcode: u8) -> Option<Command>
     }
 }
 
-/// A reservation judges the command as one that reads.
+/// A reservation treats the command as a read.
 const READS: Option<Group> = Some(Group::Read);
 
-/// A reservation judges the command as one that writes.
+/// A reservation treats the command as a write.
 const WRITES: Option<Group> = Some(Group::Write);
 
-/// What the rules and the execution ask of a command.
+/// The traits of a command that the rules and the execution need.
 #[derive(Clone, Copy, Debug)]
 pub struct Traits {
-    /// What it works on.
+    /// What it acts on.
     pub kind: CommandKind,
-    /// How a reservation judges it.
+    /// Whether a reservation treats it as a read or as a write; `None` if as neither.
     pub group: Option<Group>,
     /// Whether it changes blocks, so that write protection forbids it.
     pub alters: bool,
     /// Whether it names a range of blocks.
     pub is_ranged: bool,
-    /// Whether its blocks go between host and controller.
+    /// Whether its blocks are transferred between host and controller.
     pub moves_blocks: bool,
 }
 
-/// What is asked of this command.
+/// The traits of this command.
 pub fn traits_of(command: Command) -> Traits
     ensures kind { result.kind ≡ spec.kind_of command }
     ensures group { result.group ≡ spec.group_of command }

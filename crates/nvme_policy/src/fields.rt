@@ -13,7 +13,7 @@ pub fn starting_lba(sqe: &Sqe) -> u64
     u64::from(sqe.cdw10()) + (u64::from(sqe.cdw11()) << 32)
 }
 
-/// How many logical blocks a transfer has, 1 to 65,536 (Number of Logical Blocks).
+/// The number of logical blocks of a transfer, 1 to 65,536 (Number of Logical Blocks).
 #[tactic(auto, unfolding(nvme_spec::specs::Commands::block_count))]
 pub fn block_count(sqe: &Sqe) -> u32
     ensures { result ≡ spec.block_count sqe.now }
@@ -29,7 +29,7 @@ pub fn action(sqe: &Sqe) -> u32
     sqe.cdw10() & 0b111
 }
 
-/// Whether the existing key is to be ignored (IEKEY).
+/// Whether the command ignores the existing key (IEKEY).
 #[tactic(auto, unfolding(nvme_spec::specs::Commands::iekey))]
 pub fn iekey(sqe: &Sqe) -> bool
     ensures { result ≡ spec.iekey sqe.now }
@@ -37,7 +37,7 @@ pub fn iekey(sqe: &Sqe) -> bool
     (sqe.cdw10() >> 3) & 1 == 1
 }
 
-/// How persistence through power loss is to change, 0 to 3: 0 not at all, 2 clears it, 3 sets it (CPTPL).
+/// The change of persistence through power loss, 0 to 3: 0 none, 2 clears it, 3 sets it (CPTPL).
 #[tactic(auto, unfolding(nvme_spec::specs::Commands::cptpl))]
 pub fn cptpl(sqe: &Sqe) -> u32
     ensures { result ≡ spec.cptpl sqe.now }
@@ -53,7 +53,7 @@ pub fn rtype(sqe: &Sqe) -> u8
     ((sqe.cdw10() >> 8) & 0xff) as u8
 }
 
-/// Whether the extended data structure of a report is asked for (EDS).
+/// Whether the command requests the extended data structure of a report (EDS).
 #[tactic(auto, unfolding(nvme_spec::specs::Commands::eds))]
 pub fn eds(sqe: &Sqe) -> bool
     ensures { result ≡ spec.eds sqe.now }
@@ -61,7 +61,7 @@ pub fn eds(sqe: &Sqe) -> bool
     sqe.cdw11() & 1 == 1
 }
 
-/// The bytes that a Report asks for: 4 for each double word, of which there is one more than the field says.
+/// The length of the report that a command requests: 4 bytes for each double word, one more than the field's number.
 #[tactic(auto, unfolding(nvme_spec::specs::Commands::report_length))]
 pub fn report_length(sqe: &Sqe) -> u64
     ensures { result ≡ spec.report_length sqe.now }

@@ -1,8 +1,9 @@
-//! Which I/O commands a subsystem allows, in a crate apart from what they do: the rules on access, one after the other.
+//! The rules that allow or deny an I/O command by the access state, in order. `nvme_exec` executes allowed commands.
 #![tactic(auto)]
 
 mod access;
 pub mod command;
+mod examples;
 pub mod fields;
 mod planning;
 mod rules;

@@ -1,4 +1,4 @@
-//! What an allowed command is to do.
+//! The plan of an allowed command.
 
 ghost use Rattle.std.specs.Prelude.{◌≡◌};
 ghost use Rattle.nvme_spec.specs.Commands.{plan_of};
@@ -8,7 +8,7 @@ use crate::fields;
 use nvme_spec::{Command, Plan};
 use nvme_wire::Sqe;
 
-/// What an allowed command is to do.
+/// The plan of an allowed command.
 pub fn plan(command: Command, sqe: &Sqe) -> Plan
     ensures { result ≡ plan_of command sqe.now }
 {

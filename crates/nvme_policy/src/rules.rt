@@ -1,4 +1,4 @@
-//! The rules, one function each: it passes, or denies by the rule's number and status.
+//! The rules, one function each: it passes, or denies with the rule's number and status.
 
 ghost use Rattle.std.specs.Prelude.{◌≡◌, ◌+◌, ◌≤◌, IfOk, IfErr, OnOk, Ok, Err, Some};
 ghost use Rattle.nvme_wire.specs.Submission as entry;
@@ -17,10 +17,10 @@ use nvme_wire::{Sqe, Status};
 /// The highest namespace identifier.
 const HIGHEST_NSID: u32 = 8;
 
-/// The most blocks that go between host and controller by one command.
+/// The most blocks that one command transfers between host and controller.
 const MAX_BLOCKS: u32 = 256;
 
-/// Denies by a rule that fails.
+/// Denies if the rule fails.
 #[tactic(auto, unfolding(nvme_spec::specs::Rules::judgement_by))]
 pub fn deny_if(fails: bool, rule: u8, status: Status) -> Result<(), Denial>
     ensures { result ≡ judgement_by (one_test rule fails status) }
@@ -32,7 +32,7 @@ pub fn deny_if(fails: bool, rule: u8, status: Status) -> Result<(), Denial>
     }
 }
 
-/// Rule 1: a preempt and abort has marked the command.
+/// Rule 1: no Preempt and Abort has marked the command.
 #[tactic(auto, unfolding(nvme_spec::specs::IoRules::mark_rule))]
 pub fn check_mark(marked: bool) -> Result<(), Denial>
     ensures { result ≡ judgement_by (policy.mark_rule marked) }
@@ -40,7 +40,7 @@ pub fn check_mark(marked: bool) -> Result<(), Denial>
     deny_if(marked, 1, Status::COMMAND_ABORTED_DUE_TO_PREEMPT_AND_ABORT)
 }
 
-/// Rule 2: the opcode is an I/O command's.
+/// Rule 2: the opcode is that of an I/O command.
 #[tactic(auto, unfolding(nvme_spec::specs::IoRules::opcode_rule, nvme_spec::specs::Rules::judgement_by))]
 pub fn check_opcode(sqe: &Sqe) -> Result<Command, Denial>
     ensures named { IfOk result (λ command. commands.command_of (entry.opcode sqe.now) ≡ Some command) }
@@ -55,7 +55,7 @@ pub fn check_opcode(sqe: &Sqe) -> Result<Command, Denial>
     })
 }
 
-/// Rule 3: the command stands alone, and points by PRP entries.
+/// Rule 3: the command is not fused, and its data pointer is PRP entries.
 #[tactic(auto, unfolding(nvme_spec::specs::IoRules::form_rule))]
 pub fn check_form(sqe: &Sqe) -> Result<(), Denial>
     ensures { result ≡ judgement_by (policy.form_rule sqe.now) }
@@ -98,7 +98,7 @@ pub fn check_attachment(spaces: &Spaces, cntlid: u16, nsid: u32) -> Result<&Name
     }
 }
 
-/// Rule 6: each field has a value that the command takes.
+/// Rule 6: each field has a value that the command accepts.
 #[tactic(auto, unfolding(nvme_spec::specs::IoRules::field_rule, nvme_spec::specs::Rules::judgement_by))]
 pub fn check_fields(command: Command, sqe: &Sqe) -> Result<(), Denial>
     ensures { result ≡ judgement_by (policy.field_rule (Some command) sqe.now) }
@@ -155,7 +155,7 @@ pub fn check_reservation(
     deny_if(!is_permitted, 7, Status::RESERVATION_CONFLICT)
 }
 
-/// Rule 8: a command that changes blocks finds no write protection.
+/// Rule 8: a command that changes blocks is denied if the namespace is write protected.
 #[tactic(auto, unfolding(nvme_spec::specs::IoRules::protection_rule))]
 pub fn check_protection(command: Command, namespace: &Namespace) -> Result<(), Denial>
     ensures { result ≡ judgement_by (policy.protection_rule (Some command) (Some namespace.now)) }
@@ -167,7 +167,7 @@ pub fn check_protection(command: Command, namespace: &Namespace) -> Result<(), D
     )
 }
 
-/// Rule 9: the range lies within the namespace.
+/// Rule 9: the range is within the namespace.
 #[tactic(auto, unfolding(nvme_spec::specs::IoRules::range_rule))]
 pub fn check_range(command: Command, namespace: &Namespace, sqe: &Sqe) -> Result<(), Denial>
     ensures judged { result ≡ judgement_by (policy.range_rule (Some command) (Some namespace.now) sqe.now) }

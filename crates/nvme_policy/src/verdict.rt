@@ -1,4 +1,4 @@
-//! The rules on access in their order.
+//! The rules on access, in order.
 
 ghost use Rattle.std.specs.Prelude.{◌≡◌, ◌+◌, ◌≤◌, Some, IfOk, IfErr};
 ghost use Rattle.nvme_wire.specs.Submission as entry;
@@ -18,17 +18,17 @@ use nvme_wire::Sqe;
 /// A command that the rules on access let pass.
 #[derive(Clone, Copy)]
 pub struct Admitted<'a> {
-    /// What it is to do.
+    /// Its plan.
     pub plan: Plan,
     /// The namespace that it names.
     pub namespace: &'a Namespace,
 }
 
-/// Judges an I/O command of a controller by the subsystem as it is now, before its data are looked at.
+/// Judges an I/O command of a controller by the access state, without its data.
 ///
 /// The rules are tested in order: mark, opcode, form, namespace, attachment, fields, reservation, write protection,
-/// range. The first that fails gives its number and status; where none fails the answer is the plan of the command.
-/// A marked command is one that a Preempt and Abort caught.
+/// range. The first that fails gives its number and status; if none fails, the result is the plan of the command. A
+/// Preempt and Abort marks the commands that it aborts.
 pub fn judge(spaces: &Spaces, cntlid: u16, sqe: &Sqe, marked: bool) -> Verdict
     ensures judged { result ≡ policy.verdict spaces.now cntlid sqe.now marked }
     ensures in_range { policy.IfAllowed result (policy.FitsNamespace spaces.now (entry.nsid sqe.now)) }
@@ -39,7 +39,7 @@ pub fn judge(spaces: &Spaces, cntlid: u16, sqe: &Sqe, marked: bool) -> Verdict
     }
 }
 
-/// Judges a command as `judge` does, and finds its namespace.
+/// Judges a command as `judge` does, and returns its namespace.
 ///
 /// # Errors
 ///

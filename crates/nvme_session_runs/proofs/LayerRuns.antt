@@ -1,4 +1,4 @@
--- The example runs of both layers, computed.
+-- For `layers.rt`: the example runs of both layers, by computation.
 use Rattle.std.proofs.Common.{◌≡◌, ◌∙◌, ◌<◌, ◌-◌, ◌^◌, ℕ, true, false, [], ◌∷◌, refl, sym, ap, subst, arith}
 use Rattle.std.specs.Prelude.{replicate}
 use Rattle.nvme_spec.specs.Layout.{IsLaidOut, may_write}

@@ -1,2 +1,3 @@
 pub mod LayerRuns
+pub mod ReplayRuns
 pub mod SessionRuns

@@ -1,5 +1,5 @@
--- Example runs of both layers of a fleet, over the subsystem of `nvme_theorem_runs`. Its hosts are raw, so that each of
--- their events is one of the subsystem.
+-- Example runs of both layers of a fleet, over the subsystem of `nvme_theorem_runs`. Its hosts have no driver, so that
+-- each of their events is one of the subsystem.
 use Rattle.std.specs.Prelude.{◌≡◌, [], ◌∷◌, None, Some, ℕ, replicate, true}
 use Rattle.nvme_driver.specs.Drivers.{new_driver}
 use Rattle.nvme_event.specs.declared.event.FleetEvent.{FleetEvent}
@@ -15,14 +15,14 @@ use Rattle.nvme_fleet.specs.Layers.{Happens, Step}
 use Rattle.nvme_mailbox.specs.FaultFree as mailboxes
 use Rattle.nvme_theorem_runs.specs.Cluster.{cluster, held_by_a1, zeroes}
 
--- Host b2h has fetched a write of each namespace, and host a1h one of namespace 1.
+-- Host b2h has fetched a write to each namespace, and host a1h one to namespace 1.
 unfoldable pub raw_layers : Layers
 raw_layers = record {
   subsystem = cluster (held_by_a1 1) (zeroes 1 ∷ []) (zeroes 1 ∷ zeroes 2 ∷ []);
   drivers = None ∷ None ∷ [];
 }
 
--- the same, where host a1h has a driver
+-- the same, but host a1h has a driver
 unfoldable pub driven : Layers
 driven = record raw_layers { drivers = Some (new_driver 1) ∷ None ∷ [] }
 
@@ -33,8 +33,8 @@ executed_at k i =
 abbrev pub reply_at : ℕ → ℕ → Reply
 reply_at k i = (mailboxes.fault_free_step (fleet_in raw_layers) (Execute k i)).reply
 
--- An execution is that of the subsystem and one of the hosts; it does not leave all as it was. A register write of a
--- host with a driver is refused, and changes nothing.
+-- An execution is one of the subsystem and of the hosts, and changes something. A register write of a host with a
+-- driver is refused, and changes nothing.
 pub record LayersAtWork : Type 0 where
   pub laid : is_laid_out raw_layers
   pub written : Step true raw_layers (Execute 2 1) (reply_at 2 1) (executed_at 2 1)
@@ -45,7 +45,7 @@ pub record LayersAtWork : Type 0 where
   pub no_other : (what : FleetSeen) → Happens true raw_layers (Execute 2 1) what raw_layers → ⊥
   pub refused : Happens true driven (RawWrite32 1 0x14 0) seen.NotRaw driven
 
--- FencedEventsWriteNothing of both layers, for any host.
+-- FencedEventsWriteNothing for both layers, without its premise about the host.
 abbrev pub LayersOfAnyHost : Type 0
 LayersOfAnyHost =
     (old new : Layers) → (event : FleetEvent) → (reply : Reply) → (n : ℕ) → is_laid_out old

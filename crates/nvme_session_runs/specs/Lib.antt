@@ -1,2 +1,3 @@
 pub mod BothLayers
+pub mod Replays
 pub mod Sessions

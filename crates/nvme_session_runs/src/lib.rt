@@ -1,6 +1,7 @@
-//! Example runs of theorems about sessions, and about both layers of a fleet: small computed runs in which the premises
-//! of a theorem hold and its conclusion says something, and for most one that shows that it is false without a premise.
+//! Example runs of theorems about sessions, and about both layers of a fleet: small computed runs in which a theorem's
+//! premises hold and its conclusion is not trivial, and for most premises one in which the theorem fails without it.
 #![tactic(auto)]
 
 mod layers;
+mod replays;
 mod sessions;

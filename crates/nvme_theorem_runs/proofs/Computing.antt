@@ -1,5 +1,5 @@
--- Tests of the premises that compute, and that each implies its premise; and that a run without a fault is one in which
--- each event is as a test says.
+-- For all example runs: tests of the premises that compute, each of which implies its premise; and a run without a
+-- fault each of whose events passes a test.
 use Rattle.std.specs.List.{AllByRecursion}
 use Rattle.std.specs.Prelude.{not, slice_get, ◌&&◌}
 use Rattle.std.proofs.Common.{
@@ -153,7 +153,7 @@ leaving n s event e =
     let parts = both (reserves_nothing n s event) (not (forgets_now s event n)) e in
     (reserving-nothing n s event parts.0, no-forgetting n s event (negated (forgets_now s event n) parts.1))
 
--- each event of the run without a fault is so in the state that it finds
+-- each event of the run without a fault passes a test in the state before it
 abbrev pub all_along : (Subsystem → Event → Bool) → Subsystem → List Event → Bool
 all_along test s [] = true
 all_along test s (event ∷ events) = test s event && all_along test (fault_free_step s event).left events
@@ -213,7 +213,7 @@ no-host test (event ∷ events) e =
     let parts = both (not (test (controller_of event))) (none_passes test events) e in
     (host-of test event (negated (test (controller_of event)) parts.0), no-host test events parts.1)
 
--- numbers that a test tells apart
+-- numbers that a test distinguishes
 pub distinct : (n m : ℕ) → (n == m) ≡ false → n ≡ m → ⊥
 distinct n m other same = let e : (n == m) ≡ true = eq-eqb n m same in absurd (cc)
 
@@ -253,7 +253,7 @@ abbrev pub rule_of : Seen → ℕ
 rule_of (Executed (Posted outcome)) = outcome.rule
 rule_of other = 0
 
--- The calls of an event over a medium none of whose calls fails.
+-- The calls of an event over a medium without faults.
 pub step-calls : (s : Subsystem) (event : Event) → IsLaidOut s.world s.device.content
     → AreCallsOfStep true s event (fault_free_step s event).seen (fault_free_step s event).left (event_calls s event)
 step-calls s event laid =

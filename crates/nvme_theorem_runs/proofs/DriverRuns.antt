@@ -1,4 +1,4 @@
--- The example runs of drivers, computed.
+-- For `drivers.rt`: the example runs of drivers, computed.
 use Rattle.std.proofs.Common.{
   Bool,
   None,
@@ -18,6 +18,7 @@ use Rattle.std.proofs.Common.{
   ◌≡◌,
 }
 use Rattle.std.proofs.lemmas.Bool.{false≢true}
+use Rattle.nvme_spec.specs.Configuration.{script_capacity}
 use Rattle.nvme_spec.specs.Layout.{IsLaidOut}
 use Rattle.nvme_spec.specs.Statuses.{successful_completion}
 use Rattle.nvme_machine.specs.declared.seen.Executed.TheVariants.{CqFull}
@@ -98,7 +99,7 @@ start-mailbox : HasMailbox start 2 up
 unfolding fleet_computing
 start-mailbox = refl
 
--- Hosts that are apart.
+-- Independent hosts.
 
 apart-facts : (host_at (fault_free_step start (Place 1 abort_asked)).fleet 2 ≡ Some (WithDriver up))
     × (marks_at (host_at aborting 2) ≡ false ∷ [])
@@ -229,7 +230,7 @@ answers_at_work = record {
       2 up start-mailbox up-clear its_item its-placed its_reply its-step 0 512 status.successful_completion refl;
 }
 
--- from the moment behind the execution on nothing was placed
+-- from the moment after the execution nothing was placed
 its-mailbox : (m : Mailbox) × HasMailbox answered 2 m
 unfolding computing fleet_computing until_answer
 its-mailbox = (_, refl)
@@ -299,7 +300,7 @@ aborting_needs_power law =
 -- Since a driver came up.
 
 opened-regular : IsRegular opened
-opened-regular = opening_is_regular pair blocks 2 refl fits
+opened-regular = opening_is_regular pair blocks (script_capacity 2) refl fits
 
 abbrev up-run : Run true opened coming_up (fault_free_replies opened coming_up) came_up
 up-run = computed_run opened coming_up opened-regular

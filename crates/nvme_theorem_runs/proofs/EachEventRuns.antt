@@ -1,4 +1,4 @@
--- The example runs of the theorem on each event, computed.
+-- For `fencing.rt`: the example runs of the theorem on each event, computed.
 use Rattle.std.specs.Prelude.{replicate}
 use Rattle.std.proofs.Common.{Ok, [], ap, false, refl, subst, sym, true, ◌∙◌, ◌∷◌, ◌≡◌}
 use Rattle.std.proofs.lemmas.List.{append-nil}

@@ -1,4 +1,4 @@
--- The example runs of fencing, computed.
+-- For `fencing.rt`: the example runs of fencing, computed.
 use Rattle.std.proofs.Common.{◌≡◌, ℕ, true, false, List, [], ◌∷◌, inl, refl, subst}
 use Rattle.std.specs.Prelude.{replicate}
 use Rattle.std.specs.List.{AllByRecursion}
@@ -47,7 +47,7 @@ use Rattle.nvme_theorem_runs.proofs.Computing.{
 use Rattle.nvme_theorem_runs.proofs.Unfolding.{computing}
 use Rattle.nvme_theorem_runs.proofs.Laying.{laid}
 
--- The run at work.
+-- The example run.
 
 pub fenced-leaves : all_along (leaves 1) fenced fenced_events ≡ true
 unfolding computing fenced_events

@@ -1,4 +1,4 @@
--- Tests of the premises on fleets that compute, and runs without a fault.
+-- For example runs of fleets: tests of the premises that compute, and runs without a fault.
 use Rattle.std.specs.List.{AllByRecursion}
 use Rattle.std.specs.Prelude.{not, ◌&&◌}
 use Rattle.std.proofs.Common.{

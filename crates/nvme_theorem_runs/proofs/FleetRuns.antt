@@ -1,4 +1,4 @@
--- The example runs of fencing, preempted hosts and secrecy in a fleet, computed.
+-- For `fleets.rt`: the example runs of fencing, preempted hosts and secrecy in a fleet, computed.
 use Rattle.std.specs.Prelude.{if◌then◌else◌, replicate, slice_get}
 use Rattle.std.proofs.Common.{
   Err,
@@ -177,7 +177,7 @@ released-command : (x : IoCommand) × IsWrite after_release x × ((fenced after_
 unfolding computing fleet_computing released
 released-command = (_, (refl, record { names = refl; is_one = refl }), refl)
 
--- an execution that is answered so
+-- an execution with this answer
 answered-step : (f : Fleet) (k i : ℕ) (outcome : Outcome) → IsRegular f
     → (fault_free_step f (Execute k i)).reply ≡ executed_as outcome
     → Step true f (Execute k i) (executed_as outcome) (fault_free_step f (Execute k i)).fleet
@@ -223,7 +223,7 @@ fleet_fencing_needs_the_host law =
     (answered-step holder_asks 1 0 done (left-regular (duo (held_by_a1 1)) own_write regular) holder-facts.1) in
     distinct 0 7 refl (ap (λ (o : Outcome). o.rule) is ∙ x.3)
 
--- The policy, of a command that is another.
+-- The policy, for another command.
 
 another-denied : (x : IoCommand) × (verdict_on x ≡ Denied 7 status.reservation_conflict)
 unfolding computing fleet_computing conflicting
@@ -319,7 +319,7 @@ fleet_preempting_at_work =
           run last-held 2 0 y.0 denied_as last-facts.1 y.1.0 y.1.1 step;
     }
 
--- It registers once more, and is a registrant.
+-- It registers again, and is a registrant.
 
 unfoldable registers_again : List FleetEvent
 registers_again = carried 2 (request.Register 1 0 false 0 0 0x33) ++ asks 2 (zeroes_asked 1)

@@ -1,4 +1,4 @@
--- The definitions that example runs of fleets are computed with, besides those of a subsystem.
+-- For example runs of fleets: the definitions with which they are computed, besides those of a subsystem.
 use Rattle.nvme_wire.specs.Submission.{submission_entry}
 use Rattle.nvme_spec.specs.IoRules.{verdict}
 use Rattle.nvme_mailbox.specs.Executions.{

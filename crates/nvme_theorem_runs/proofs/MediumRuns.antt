@@ -1,4 +1,4 @@
--- The example runs of what changes a medium and a reservation, and of calls, computed.
+-- For `medium.rt`: the example runs about writes, reservations and calls, computed.
 use Rattle.std.specs.List.{AllByRecursion}
 use Rattle.std.specs.Prelude.{replicate, slice_get}
 use Rattle.std.proofs.Common.{

@@ -1,4 +1,4 @@
--- The example runs of power cycles and write protection, computed.
+-- For `power.rt`: the example runs of power cycles and write protection, computed.
 use Rattle.std.specs.List.{AllByRecursion}
 use Rattle.std.specs.Prelude.{replicate}
 use Rattle.std.proofs.Common.{List, Some, [], ap, false, length, refl, subst, sym, true, ℕ, ◌∙◌, ◌∷◌, ◌≡◌, ◌≢◌}
@@ -186,7 +186,7 @@ secrecy_needs_persistence law =
     leaves-nothing power_lost (fault_free_seen fleeting power_lost) (over r.0 (fault_free_left fleeting power_lost))
     refl r.1
 
--- What power takes.
+-- What a power cycle removes.
 
 cycled : (s : Subsystem) → IsCycled s (after_power_cycle s)
 cycled s = power_takes true s (after_power_cycle s) Cycled (refl, refl)

@@ -1,4 +1,4 @@
--- The example runs of preempted hosts, computed.
+-- For `preempting.rt`: the example runs of preempted hosts, computed.
 use Rattle.std.specs.Prelude.{if◌then◌else◌, option_map, replicate, slice_get}
 use Rattle.std.proofs.Common.{List, None, Ok, Option, Some, [], ap, inl, inr, refl, sym, true, ℕ, ◌∙◌, ◌∷◌, ◌≡◌}
 use Rattle.nvme_wire.specs.Submission.{opcode}
@@ -53,7 +53,7 @@ preempted-laid = left-laid armed (Execute 1 0 ∷ []) armed-laid
 later-laid : IsLaidOut later.world later.device.content
 later-laid = left-laid preempted meanwhile preempted-laid
 
--- a controller with what it has stored and fetched
+-- a controller with its stored keys and fetched commands
 abbrev first-one : Controller
 first-one = ready 1 (with_bytes zeros 0 (keys 0x11 0x22)) (acquire 2 ∷ zeroes 1 ∷ [])
 

@@ -1,4 +1,4 @@
--- The example runs of queues, computed.
+-- For `queues.rt`: the example runs of queues, computed.
 use Rattle.std.specs.Prelude.{is_some, not, slice_get, slice_index_or, ◌&&◌}
 use Rattle.std.proofs.Common.{
   Bool,
@@ -32,6 +32,7 @@ use Rattle.nvme_spec.specs.Memory.{window_size}
 use Rattle.nvme_spec.specs.Pointer.{address}
 use Rattle.nvme_spec.specs.Queues.{empty_submission_head}
 use Rattle.nvme_spec.specs.RegisterLaws.{IsConsistent}
+use Rattle.nvme_spec.specs.Configuration.{script_capacity}
 use Rattle.nvme_spec.proofs.Openings.{opening_is_laid_out}
 use Rattle.nvme_machine.specs.declared.event.Event.{Event}
 use Rattle.nvme_machine.specs.declared.event.Event.TheVariants.{Execute, Fetch, PowerCycle, Read32, Store, Write32}
@@ -140,7 +141,7 @@ staying_at_work = record {
   another_reset = not-here 1 2 _ refl;
 }
 
--- what stands in a controller without fetched commands
+-- a controller without fetched commands
 none-stands : (o : Option Controller) (t : FetchedCommand) → fetched_in o ≡ []
     → ((d : Controller) × (o ≡ Some d) × StandsIn t d) → ⊥
 none-stands o t none x =
@@ -331,7 +332,7 @@ posted_needs_a_sparing_run law =
 
 opened-laid : IsLaidOut opened.world opened.device.content
 unfolding opening
-opened-laid = opening_is_laid_out pair 2 blocks.content refl fits
+opened-laid = opening_is_laid_out pair (script_capacity 2) blocks.content refl fits
 
 opened-seen : fault_free_seen opened window_events ≡ Stored ∷ Outside ∷ Wrote ∷ Value 0x00030003 ∷ Cycled ∷ []
 unfolding computing opening window_events

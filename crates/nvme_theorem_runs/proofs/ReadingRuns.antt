@@ -1,4 +1,4 @@
--- The example runs of secrecy, computed.
+-- For `fencing.rt` and others: the example runs of secrecy, computed.
 use Rattle.std.specs.Prelude.{option_map, replicate}
 use Rattle.std.proofs.Common.{
   Bool,
@@ -69,7 +69,7 @@ use Rattle.nvme_theorem_runs.proofs.Computing.{
 use Rattle.nvme_theorem_runs.proofs.Laying.{laid}
 use Rattle.nvme_theorem_runs.proofs.Unfolding.{computing}
 
--- Media that differ in block 0 differ in namespace 1 alone.
+-- Media that differ in block 0 differ only in namespace 1.
 
 abbrev extent : Namespace → Extent
 extent space = record { first = space.first; blocks = space.blocks }
@@ -103,7 +103,7 @@ differ r first second = record {
   others = λ m other. others-at r m other (1 == m) (2 == m) refl;
 }
 
--- The run at work.
+-- The example run.
 
 secret-leaves : all_along (leaves 1) secret (sends read_entry) ≡ true
 unfolding computing sends

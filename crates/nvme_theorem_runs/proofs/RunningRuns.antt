@@ -1,4 +1,4 @@
--- The example runs of the theorems on runs and on the policy, computed.
+-- For `runs.rt`: the example runs of the theorems on runs and on the policy, computed.
 use Rattle.std.specs.Prelude.{replicate}
 use Rattle.std.proofs.Common.{
   Err,
@@ -209,7 +209,7 @@ allowed_needs_a_verdict law =
     (steps judged (Execute 2 0) judged-laid) judged-waits.0 refl in
     distinct 7 0 refl (sym judged-facts.4 ∙ ap rule_of is.gives ∙ is.performed.rule)
 
--- A completion queue that is full.
+-- A full completion queue.
 
 abbrev crowded_one : Controller
 crowded_one = record (ready 2 zeros (zeroes 1 ∷ [])) {

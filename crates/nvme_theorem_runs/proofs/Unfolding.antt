@@ -1,4 +1,4 @@
--- The definitions that example runs are computed with. To unfold this word is to unfold them all.
+-- For all example runs: the definitions with which they are computed. Unfolding this one unfolds them all.
 use Rattle.nvme_spec.specs.Commands.{action, block_count, command_of, cptpl, iekey, rtype, starting_lba}
 use Rattle.nvme_spec.specs.DataRules.{data_addresses, pointer_rule}
 use Rattle.nvme_spec.specs.Entries.{command_entry, transfer_entry}

@@ -1,5 +1,5 @@
--- The subsystem that the example runs begin with: two controllers of two hosts, two namespaces of one block, and small
--- windows with one I/O queue pair. Controller 1 is of host a1h, which holds namespace 1; controller 2 is of host b2h.
+-- The subsystem for the example runs: two controllers of two hosts, two namespaces of one block, and small windows with
+-- one I/O queue pair. Controller 1 belongs to host a1h, which holds namespace 1; controller 2 belongs to host b2h.
 use Rattle.std.specs.Prelude.{List, None, Option, Some, [], replicate, true, ℕ, ◌++◌, ◌+◌, ◌^◌, ◌∷◌}
 use Rattle.nvme_spec.specs.declared.access.Hold.TheVariants.{One}
 use Rattle.nvme_spec.specs.declared.access.Protection.TheVariants.{Open}
@@ -36,8 +36,8 @@ pair = record {
   attached = (1, 1) ∷ (1, 2) ∷ (2, 1) ∷ (2, 2) ∷ [];
 }
 
--- Host a1h holds namespace 1 by a reservation of this type. It persists through power loss, or does not; or host b2h is
--- registered too.
+-- Host a1h holds namespace 1 with a reservation of this type, which persists through power loss. The others: one that
+-- does not persist, and one with host b2h registered too.
 abbrev pub held_by_a1 : ℕ → Reservation
 held_by_a1 type = persistent (a1 0x11 ∷ []) (One type 0xa1) 1
 
@@ -54,7 +54,7 @@ reserved r = with_reservation (opening_world pair) 1 r
 abbrev pub blocks : Device
 blocks = record { content = replicate 512 1 ++ replicate 512 2; failures = 0 }
 
--- A window: 512 bytes of data, four submission entries from 512 on, four completion entries from 768 on.
+-- A window: 512 bytes of data, four submission entries from byte 512, four completion entries from byte 768.
 abbrev pub window_with : List ℕ → List ℕ
 window_with front = front ++ replicate 320 0
 
@@ -76,7 +76,7 @@ ready k window commands = record {
   window = window;
 }
 
--- Namespace 1 is reserved so, both controllers are ready, and have fetched these.
+-- Namespace 1 has this reservation, both controllers are ready, and have fetched these commands.
 unfoldable pub cluster : Reservation → List FetchedCommand → List FetchedCommand → Subsystem
 cluster r first second = record {
   world = reserved r;
@@ -99,7 +99,7 @@ flush n = of_queue_1 (command_entry 0 n 0 0 0)
 abbrev pub stores : ℕ → ℕ → List ℕ → Event
 stores k address bytes = Store k address (record { ref_ptr = (0, 0); now = bytes })
 
--- A command is done, and marks nothing.
+-- A command succeeds, and marks nothing.
 abbrev pub done : Outcome
 done = record { status = status.successful_completion; dw0 = 0; rule = 0; marks = no_marks }
 
@@ -130,7 +130,7 @@ overlapping = record (reserved (held_by_a1 1)) {
       reservation = r;
     }
 
--- What a controller has fetched; nothing, if there is none.
+-- The fetched commands of a controller; none if it does not exist.
 abbrev pub fetched_in : Option Controller → List FetchedCommand
 fetched_in None = []
 fetched_in (Some c) = c.fetched

@@ -1,4 +1,5 @@
--- Example runs of drivers: hosts that are apart, tickets, answers, faults that never come, and power cycles.
+-- Statements of `drivers.rt`: example runs on hosts' independence, tickets, answers, faults that never occur, and power
+-- cycles. Also theorems that lack one premise, and so are false.
 use Rattle.std.specs.Prelude.{
   Bool,
   List,
@@ -45,7 +46,7 @@ use Rattle.nvme_driver.specs.declared.request.Request.TheVariants as request
 use Rattle.nvme_event.specs.declared.seen.FleetSeen.TheVariants as seen
 use Rattle.nvme_spec.specs.Statuses as status
 
--- What a host is: whether its driver is up, and the marks of what its controller has fetched.
+-- The state of a host: whether its driver is up, and the marks of its fetched requests.
 abbrev pub is_up : Option Host → Option Bool
 is_up None = None
 is_up (Some (WithDriver m)) = Some m.up
@@ -74,7 +75,7 @@ pub record ApartAtWork : Type 0 where
   pub before : marks_at (host_at aborting 2) ≡ false ∷ []
   pub after : marks_at (host_at (fault_free_step aborting (Execute 1 0)).fleet 2) ≡ true ∷ []
 
--- The same fleet with a raw host, whose completion queue is full.
+-- A fleet with a raw host, whose completion queue is full.
 unfoldable pub half_raw : Fleet
 half_raw = record {
   site = record { world = reserved (held_by_a1 1); device = blocks };

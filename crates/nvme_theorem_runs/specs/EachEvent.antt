@@ -1,4 +1,5 @@
--- Example runs of the theorem on each event: both hosts have fetched a write of namespace 1.
+-- Statements of `fencing.rt` on each event of a run: both hosts have fetched a write of namespace 1. Also the theorem
+-- without its premise: it is false.
 use Rattle.std.specs.Prelude.{Bool, List, Ok, [], false, replicate, true, ℕ, ◌∷◌, ◌≡◌}
 use Rattle.nvme_spec.specs.Blocks.{Device}
 use Rattle.nvme_spec.specs.Layout.{IsLaidOut, may_write}

@@ -1,4 +1,4 @@
--- Example runs of fencing.
+-- Statements of `fencing.rt`: an example run of fencing. Also the theorem without one of its premises: it is false.
 use Rattle.std.specs.Prelude.{◌≡◌, ℕ, true, false, List, [], ◌∷◌, replicate}
 use Rattle.std.specs.List.{AllByRecursion}
 use Rattle.nvme_spec.specs.Execution.{denial_outcome}
@@ -33,7 +33,7 @@ fenced = cluster (held_by_a1 1) [] []
 abbrev pub after_fenced : Subsystem
 after_fenced = fault_free_left fenced fenced_events
 
--- Its premises hold, the write on namespace 1 is denied, and the one on namespace 2 is done.
+-- Its premises hold, the write on namespace 1 is denied, and the one on namespace 2 succeeds.
 pub record FencingAtWork : Type 0 where
   pub laid : IsLaidOut fenced.world fenced.device.content
   pub run : RunWhere (LeavesReservation 1) fenced fenced_events fenced_seen after_fenced

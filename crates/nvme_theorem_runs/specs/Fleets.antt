@@ -1,4 +1,5 @@
--- Example runs of fleets: two hosts with drivers that are up, over the namespaces of `Cluster`.
+-- Statements of `fleets.rt`: example runs of two hosts with drivers that are up, over the namespaces of `Cluster`. Also
+-- theorems that lack one premise, and so are false.
 use Rattle.std.specs.Prelude.{
   Bool,
   List,
@@ -91,7 +92,7 @@ denied_as = denial_outcome 7 status.reservation_conflict
 abbrev pub its_command : Fleet → Option IoCommand
 its_command f = command_at f 2 0
 
--- FencingHolds and ExecutedAsThePolicyAllows: both hosts ask for a write of namespace 1, that of host a1h is done, and
+-- FencingHolds and ExecutedAsThePolicyAllows: both hosts request a write of namespace 1; that of host a1h succeeds, and
 -- that of host b2h is denied.
 unfoldable pub conflicting : List FleetEvent
 conflicting = asks 2 (zeroes_asked 1) ++ carried 1 (zeroes_asked 1)
@@ -143,7 +144,7 @@ PolicyOfAnyCommand =
     → IsExecutedBy (verdict_on x) tells k x old.site outcome new.site
 
 -- PreemptedStaysOut: host a1h preempts host b2h; both are registrants of a reservation for registrants only. Host b2h
--- asks for a write, and is denied.
+-- requests a write, and is denied.
 abbrev pub preempt_asked : Request
 preempt_asked = request.Acquire 1 1 3 0x11 0x22
 
@@ -177,7 +178,7 @@ pub record FleetPreemptingAtWork : Type 0 where
       (fenced preempted_last.site.world 2 command).status)
       × ((fault_free_step preempted_last (Execute 2 0)).fleet.site ≡ preempted_last.site)
 
--- The theorem over any run, and for a namespace that need not be held.
+-- The theorem over any run, and for a namespace that nobody need hold.
 abbrev pub FleetPreemptingOverAnyRun : Type 0
 FleetPreemptingOverAnyRun =
     (tells : Bool) → (old mid last new : Fleet) → (n k i host : ℕ) → (x : IoCommand) → AreNumbered old
@@ -231,7 +232,7 @@ FleetReadingOfAnyHost =
     → failures_in new ≡ failures_in old → failures_in other ≡ failures_in old → failures_in old < 2 ^ 64 - 1
     → others ≡ replies
 
--- FencingOutlastsPower: power is lost, and host b2h comes up and asks for a write first.
+-- FencingOutlastsPower: power is lost, and host b2h comes up and requests a write first.
 unfoldable pub power_and_up : List FleetEvent
 power_and_up = PowerCycle ∷ BringUp 2 ∷ asks 2 (zeroes_asked 1)
 

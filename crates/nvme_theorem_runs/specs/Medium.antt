@@ -1,4 +1,5 @@
--- Example runs of what changes a medium and a reservation, and of the calls of the medium.
+-- Statements of `medium.rt`: example runs on changes of a medium and a reservation, and on calls of the medium. Also
+-- theorems that lack one premise, and so are false.
 use Rattle.std.specs.List.{AllByRecursion}
 use Rattle.std.specs.Prelude.{Bool, List, Ok, Some, [], replicate, slice_get, true, ℕ, ◌∷◌, ◌≡◌, ◌⊎◌}
 use Rattle.nvme_spec.specs.declared.outcome.Outcome.{Outcome}
@@ -94,7 +95,7 @@ ReservingWithoutAStep =
     (old new : Subsystem) → (event : Event) → (n : ℕ)
     → (reservation_of new.world n ≡ reservation_of old.world n) ⊎ Allows reserving old event n ⊎ Forgets old event n
 
--- What the run of FencingAtWork calls: the allowed write, on block 1.
+-- The calls of the run of FencingAtWork: the allowed write, on block 1.
 unfoldable pub fenced_calls : List MediumCall
 fenced_calls = Writes 1 (replicate 512 0) (Ok tt) ∷ []
 
@@ -123,7 +124,7 @@ CallsOfAnyList =
     (tells : Bool) → (old new : Subsystem) → (event : Event) → (seen : Seen) → (calls : List MediumCall)
     → Step tells old event seen new → AllByRecursion (MayCall old event) calls
 
--- FlushedIsOneFlush: a Flush of namespace 2 is one flush; one of namespace 1 is denied, and calls nothing.
+-- FlushedIsOneFlush: a Flush of namespace 2 is one flush; one of namespace 1 is denied, and makes no call.
 abbrev pub flushing : Subsystem
 flushing = cluster (held_by_a1 1) [] (flush 1 ∷ flush 2 ∷ zeroes 2 ∷ [])
 

@@ -1,4 +1,5 @@
--- Example runs of power cycles and of write protection.
+-- Statements of `power.rt`: example runs of power cycles and write protection. Also theorems that lack one premise, and
+-- so are false.
 use Rattle.std.specs.List.{AllByRecursion}
 use Rattle.std.specs.Prelude.{Bool, List, Some, [], false, replicate, true, ℕ, ◌∷◌, ◌≡◌, ◌≢◌}
 use Rattle.nvme_spec.specs.declared.access.Protection.TheVariants.{Open, UntilCycle}

@@ -1,4 +1,5 @@
--- Example runs of preempted hosts, and of what an event does to other controllers.
+-- Statements of `preempting.rt`: example runs of preempted hosts, and of an event's effect on other controllers. Also
+-- theorems that lack one premise, and so are false.
 use Rattle.std.specs.Prelude.{Bool, List, Some, [], option_map, replicate, slice_get, true, ℕ, ◌∷◌, ◌≡◌, ◌≢◌, ◌⊎◌}
 use Rattle.nvme_spec.specs.Execution.{denial_outcome}
 use Rattle.nvme_spec.specs.Statuses.{command_aborted_due_to_preempt_and_abort}
@@ -27,7 +28,7 @@ use Rattle.nvme_theorem_runs.specs.Cluster.{
 }
 use Rattle.nvme_spec.specs.Statuses as status
 
--- Host a1h has fetched a Preempt and Abort of host b2h, with its keys in place, and a write; host b2h has fetched a
+-- Host a1h has fetched a Preempt and Abort of host b2h, whose keys are stored, and a write; host b2h has fetched a
 -- write.
 unfoldable pub armed : Subsystem
 armed = fault_free_left (cluster (with_b2 1) (acquire 2 ∷ zeroes 1 ∷ []) (zeroes 1 ∷ [])) (stores_keys 1 0x11 0x22 ∷ [])
@@ -35,7 +36,7 @@ armed = fault_free_left (cluster (with_b2 1) (acquire 2 ∷ zeroes 1 ∷ []) (ze
 abbrev pub preempted : Subsystem
 preempted = (fault_free_step armed (Execute 1 0)).left
 
--- Host b2h stores its entry once more, reads its status, rings and has nothing fetched; host a1h writes.
+-- Host b2h stores its entry again, reads its status, rings, and its controller fetches nothing; host a1h writes.
 unfoldable pub meanwhile : List Event
 meanwhile =
     stores 2 512 (zeroes_entry 1) ∷ Read32 2 0x1c ∷ Write32 2 0x100c 0 ∷ Fetch 2 1 ∷ Execute 1 0 ∷ []
@@ -43,7 +44,7 @@ meanwhile =
 abbrev pub later : Subsystem
 later = fault_free_left preempted meanwhile
 
--- The command of host b2h is at place 0 all along, and is aborted when it is executed; the write of host a1h is done.
+-- The command of host b2h stays at place 0, and is aborted when it is executed; the write of host a1h succeeds.
 pub record PreemptingAtWork : Type 0 where
   pub controller : Controller
   pub preempts : Preempts true 1 armed 1 0 controller (acquire 2) preempted

@@ -1,4 +1,5 @@
--- Example runs of queues: fetched commands, posted completions and windows.
+-- Statements of `queues.rt`: example runs on fetched commands, posted completions and windows. Also theorems that lack
+-- one premise, and so are false.
 use Rattle.std.specs.Prelude.{Bool, List, None, Some, [], slice_get, true, ℕ, ◌∷◌, ◌≡◌, ◌⊎◌}
 use Rattle.nvme_spec.specs.Queues.{completion_room, empty_completion_tail, empty_submission_head}
 use Rattle.nvme_spec.specs.Statuses.{successful_completion}
@@ -46,13 +47,13 @@ waiting = cluster (held_by_a1 1) [] (zeroes 1 ∷ zeroes 2 ∷ [])
 abbrev pub waiting_controller : Controller
 waiting_controller = ready 2 zeros (zeroes 1 ∷ zeroes 2 ∷ [])
 
--- It stores, rings, reads and finds nothing more to fetch; the first write is executed.
+-- It stores, rings, reads, and there is nothing more to fetch; the first write is executed.
 unfoldable pub waiting_events : List Event
 waiting_events =
     stores 2 0 (1 ∷ []) ∷ Write32 2 0x100c 0 ∷ Read32 2 0x1c ∷ Fetch 2 1 ∷ Execute 2 0 ∷ []
 
--- FetchedStays and CommandsAreFollowed: the second write goes from place 1 to place 0. An execution, a reset and a
--- power cycle take the first one out; a store, another register write, a read, a fetch and events of host a1h don't.
+-- FetchedStays and CommandsAreFollowed: the second write moves from place 1 to place 0. An execution, a reset and a
+-- power cycle remove the first one; a store, another register write, a read, a fetch and events of host a1h don't.
 pub record StayingAtWork : Type 0 where
   pub run : RunKeeping true 2 waiting 1 waiting_events (fault_free_seen waiting waiting_events)
       (fault_free_left waiting waiting_events) 0
@@ -69,7 +70,7 @@ pub record StayingAtWork : Type 0 where
   pub others : TakesOut waiting waiting_controller 2 0 (zeroes 1) (Execute 1 0) → ⊥
   pub another_reset : TakesOut waiting waiting_controller 2 0 (zeroes 1) (Write32 1 0x14 0) → ⊥
 
--- FetchedStays for a command that was not fetched, and without what takes one out.
+-- FetchedStays for a command that was not fetched, and without the events that remove one.
 abbrev pub StayingOfAnyCommand : Type 0
 StayingOfAnyCommand =
     (tells : Bool) → (old new : Subsystem) → (event : Event) → (seen : Seen) → Step tells old event seen new
@@ -112,8 +113,8 @@ entry = record {
   bytes = completion_of (flush 1) whole_queues status.successful_completion 0;
 }
 
--- Host b2h stores in its own window at the address of the entry, has its Flush executed, and resets; host a1h reads
--- its status and has nothing more to fetch.
+-- Host b2h stores in its own window at the address of the entry, its Flush is executed, and it resets; host a1h reads
+-- its status, and there is nothing more to fetch.
 unfoldable pub sparing_events : List Event
 sparing_events =
     stores 2 8192 (1 ∷ []) ∷ Execute 2 0 ∷ Write32 2 0x14 0 ∷ Read32 1 0x1c ∷ Fetch 1 1 ∷ []

@@ -1,4 +1,5 @@
--- Example runs of secrecy: what a host that may not read a namespace sees over two media.
+-- Statements of `fencing.rt` on secrecy: an example run of a host that may not read a namespace, over two media. Also
+-- the theorem without its premise: it is false.
 use Rattle.std.specs.Prelude.{◌≡◌, ◌<◌, ◌-◌, ◌^◌, ℕ, true, List, [], ◌∷◌, ◌++◌, replicate}
 use Rattle.nvme_spec.specs.Blocks.{Device}
 use Rattle.nvme_spec.specs.Entries.{transfer_entry}

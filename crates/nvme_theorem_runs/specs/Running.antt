@@ -1,4 +1,5 @@
--- Example runs of the theorems on runs and on the policy.
+-- Statements of `runs.rt`: example runs of the theorems on runs and on the policy. Also theorems that lack one premise,
+-- and so are false.
 use Rattle.std.specs.Prelude.{
   Bool,
   Err,
@@ -41,7 +42,7 @@ use Rattle.nvme_theorem_runs.specs.Cluster.{cluster, held_by_a1, ready, zeroes, 
 use Rattle.nvme_theorem_runs.specs.Fencing.{after_fenced, fenced, fenced_events, fenced_seen}
 use Rattle.nvme_spec.specs.Statuses as status
 
--- RunIsUnique, of the run of FencingAtWork.
+-- RunIsUnique, for the run of FencingAtWork.
 pub record RunAtWork : Type 0 where
   pub laid : IsLaidOut fenced.world fenced.device.content
   pub run : Run true fenced fenced_events fenced_seen after_fenced
@@ -89,7 +90,7 @@ pub record PolicyAtWork : Type 0 where
   pub before : namespace_bytes judged 2 ≡ replicate 512 2
   pub written : namespace_bytes (fault_free_step judged (Execute 2 1)).left 2 ≡ replicate 512 0
 
--- The two theorems whatever the rules say, and the first one whether or not there is room.
+-- The two theorems for any verdict of the rules, and the first one with or without room for the completion.
 abbrev pub DeniedOfAnyVerdict : Type 0
 DeniedOfAnyVerdict =
     (tells : Bool) → (old new : Subsystem) → (k i : ℕ) → (c : Controller) → (t : FetchedCommand) → (p : QueuePair)

@@ -30,7 +30,8 @@ fn each_ticket_goes_once()
     ensures once { TicketsOfAnyMailbox → ⊥ }
 {}
 
-/// DoneAnswersItsRequest: a Read and its bytes. A mailbox that has an answer delivers what was placed before.
+/// DoneAnswersItsRequest: a Read and its bytes. A mailbox that already has an answer delivers one for a request that
+/// was placed before.
 #[tactic(auto, using(crate::proofs::DriverRuns::answers_at_work, crate::proofs::DriverRuns::answers_need_a_clear_mailbox))]
 fn done_answers_its_request()
     ensures at_work { AnswersAtWork }
@@ -51,7 +52,8 @@ fn power_aborts()
     ensures power { AbortingByAnyEvent → ⊥ }
 {}
 
-/// DoneSinceItCameUp and DoneSincePower: what a driver delivers was not placed since any moment.
+/// DoneSinceItCameUp and DoneSincePower: without the premise, a driver may deliver a request that was placed before
+/// that moment.
 #[tactic(auto, using(crate::proofs::DriverRuns::since_up_at_work, crate::proofs::DriverRuns::since_up_needs_a_driver_down, crate::proofs::DriverRuns::since_power_needs_power))]
 fn done_since_it_came_up()
     ensures at_work { SinceUpAtWork }

@@ -15,8 +15,8 @@ fn fencing_holds()
     ensures { FencingAtWork }
 {}
 
-/// FencingHolds needs its premises: a host that may register preempts the holder and writes; the holder writes; a
-/// namespace on the same block is written.
+/// FencingHolds needs its premises. Without them, it is false: a host that may register preempts the holder and writes;
+/// the holder writes; a write to another namespace is on the same block.
 #[tactic(auto, using(crate::proofs::FencingRuns::fencing_needs_the_reservation, crate::proofs::FencingRuns::fencing_needs_the_host, crate::proofs::FencingRuns::fencing_needs_the_layout))]
 fn fencing_needs()
     ensures run { FencingOverAnyRun → ⊥ }
@@ -24,7 +24,7 @@ fn fencing_needs()
     ensures layout { FencingOnAnyLayout → ⊥ }
 {}
 
-/// FencedReading: a Read is denied, and what its host sees is the same over two media.
+/// FencedReading: a Read is denied, and its host gets the same results over two media.
 #[tactic(auto, using(crate::proofs::ReadingRuns::reading_at_work))]
 fn fenced_reading()
     ensures { ReadingAtWork }

@@ -14,13 +14,14 @@ ghost use Rattle.nvme_theorem_runs.specs.Fleets.{
   PolicyOfAnyCommand,
 };
 
-/// FencingHolds and ExecutedAsThePolicyAllows of a fleet: the holder's write is done, that of the other host is denied.
+/// FencingHolds and ExecutedAsThePolicyAllows of a fleet: the holder's write succeeds, that of the other host is
+/// denied.
 #[tactic(auto, using(crate::proofs::FleetRuns::fleet_fencing_at_work))]
 fn fencing_holds()
     ensures { FleetFencingAtWork }
 {}
 
-/// They need their premises: the holder releases the namespace, or writes; and the command that is executed.
+/// They need their premises: the holder releases the namespace, or writes; and another command than the executed one.
 #[tactic(auto, using(crate::proofs::FleetRuns::fleet_fencing_needs_the_reservation, crate::proofs::FleetRuns::fleet_fencing_needs_the_host, crate::proofs::FleetRuns::policy_needs_the_command))]
 fn fencing_needs()
     ensures run { FleetFencingOverAnyRun → ⊥ }
@@ -34,14 +35,14 @@ fn preempted_stays_out()
     ensures { FleetPreemptingAtWork }
 {}
 
-/// It needs its premises: the host registers once more, or the holder releases the namespace.
+/// It needs its premises: the host registers again, or the holder releases the namespace.
 #[tactic(auto, using(crate::proofs::FleetRuns::fleet_preempting_needs_the_run, crate::proofs::FleetRuns::fleet_preempting_needs_a_holder))]
 fn preempted_needs()
     ensures run { FleetPreemptingOverAnyRun → ⊥ }
     ensures held { FleetPreemptingUnheld → ⊥ }
 {}
 
-/// FencedReading of a fleet: a Read is denied over two media; a host that may read is given the bytes of its medium.
+/// FencedReading of a fleet: a Read is denied over two media; a host that may read gets the bytes of its medium.
 #[tactic(auto, using(crate::proofs::FleetRuns::fleet_reading_at_work, crate::proofs::FleetRuns::fleet_reading_needs_the_host))]
 fn fenced_reading()
     ensures at_work { FleetReadingAtWork }

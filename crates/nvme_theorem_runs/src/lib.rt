@@ -1,5 +1,5 @@
-//! Example runs of theorems: small computed runs in which the premises of a theorem hold and its conclusion says
-//! something, and for most theorems one that shows that it is false without a premise.
+//! Example runs of theorems: small computed runs in which the premises of a theorem hold and its conclusion is not
+//! trivial. For most theorems another run shows that the theorem is false without a premise.
 #![tactic(auto)]
 
 mod drivers;

@@ -1,4 +1,4 @@
-//! Runs of the theorems about what changes a medium and a reservation, and about calls of the medium.
+//! Runs of the theorems about changes of a medium and a reservation, and about calls of the medium.
 
 ghost use Rattle.nvme_theorem_runs.specs.Medium.{
   CallsAtWork,
@@ -36,7 +36,7 @@ fn calls_are_allowed()
     ensures { CallsAtWork }
 {}
 
-/// They need their premises: the holder writes a block, and calls that no step makes may be any.
+/// They need their premises: the holder writes a block, and a list that is not a step's calls may have any.
 #[tactic(auto, using(crate::proofs::MediumRuns::calls_need_the_host, crate::proofs::MediumRuns::calls_need_a_step))]
 fn calls_need()
     ensures host { CallsOfAnyHost → ⊥ }
@@ -51,7 +51,8 @@ fn flushed_is_one_flush()
     ensures status { FlushOfAnyStatus → ⊥ }
 {}
 
-/// The calls of one command: an allowed write has one, a denied one has none; and the holder's write is no reading.
+/// The calls of one command: an allowed write makes one, and a denied one makes none. The holder's write makes a write
+/// call.
 #[tactic(auto, using(crate::proofs::MediumRuns::command_at_work, crate::proofs::MediumRuns::command_needs_the_host, crate::proofs::MediumRuns::no_call_needs_a_denial))]
 fn calls_of_a_command()
     ensures at_work { CommandAtWork }

@@ -13,7 +13,7 @@ ghost use Rattle.nvme_theorem_runs.specs.Power.{
   SecrecyOfAnyReservation,
 };
 
-/// FencingOutlastsPower and PersistenceLasts: a fenced host is fenced when power is back.
+/// FencingOutlastsPower and PersistenceLasts: a fenced host is still fenced after power returns.
 #[tactic(auto, using(crate::proofs::PowerRuns::outlasting_at_work))]
 fn fencing_outlasts_power()
     ensures { OutlastingAtWork }

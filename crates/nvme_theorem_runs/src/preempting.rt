@@ -9,14 +9,14 @@ ghost use Rattle.nvme_theorem_runs.specs.Preempting.{
   PreemptingOfAnyHost,
 };
 
-/// PreemptedStaysOut: a fetched write of a host that is preempted is aborted, whatever happens before its execution.
+/// PreemptedStaysOut: a fetched write of a preempted host is aborted, after any events before its execution.
 #[tactic(auto, using(crate::proofs::PreemptingRuns::preempting_at_work, crate::proofs::PreemptingRuns::marking_at_work))]
 fn preempted_stays_out()
     ensures run { PreemptingAtWork }
     ensures marks { MarkingAtWork }
 {}
 
-/// PreemptedStaysOut needs its premises: the write of the preempting host is done, and after a Preempt without an abort
+/// PreemptedStaysOut needs its premises: the write of the preempting host succeeds, and after a Preempt without Abort
 /// another rule denies the write.
 #[tactic(auto, using(crate::proofs::PreemptingRuns::preempting_needs_the_host, crate::proofs::PreemptingRuns::preempting_needs_the_abort))]
 fn preempted_needs()

@@ -20,14 +20,14 @@ fn no_command_is_lost()
     ensures event { StayingOverAnyEvent → ⊥ }
 {}
 
-/// WaitsWhereFull: a command waits for a full completion queue; one without queues waits for no room.
+/// WaitsWhereFull: a command waits for a full completion queue; a command without queues waits even if none is full.
 #[tactic(auto, using(crate::proofs::QueueRuns::waiting_at_work, crate::proofs::QueueRuns::waiting_needs_the_queues))]
 fn commands_wait_for_room()
     ensures at_work { WaitingAtWork }
     ensures wired { WaitingOfAnyController → ⊥ }
 {}
 
-/// UnreadStandsOverRuns: a posted completion outlasts events of another host. A reset of its own host takes it.
+/// UnreadStandsOverRuns: a posted completion stays through events of another host. A reset of its own host removes it.
 #[tactic(auto, using(crate::proofs::QueueRuns::posted_at_work, crate::proofs::QueueRuns::posted_needs_a_sparing_run))]
 fn a_posted_completion_stays()
     ensures at_work { PostedAtWork }
