@@ -1,5 +1,5 @@
-//! Tests of the parts that controllers and hosts are made of, of commands, controllers and subsystems, apart since a
-//! crate with tests of its own is proved twice; they use public calls alone.
+//! Tests of queues, commands, controllers and subsystems by public calls only. They are in a crate of their own, since
+//! a crate with tests is proved twice.
 #![tactic(auto)]
 
 #[cfg(test)]

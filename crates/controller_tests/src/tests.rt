@@ -1,4 +1,4 @@
-//! Each part by the name of its library, then commands, controllers and subsystems, over what they share.
+//! The tests: each part by the name of its library, then commands, controllers and subsystems, and what they share.
 
 mod answers;
 mod asserting;

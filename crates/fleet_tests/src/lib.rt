@@ -1,5 +1,5 @@
-//! Tests of fleets and of runs of scripts, apart since a crate with tests of its own is proved twice; they use public
-//! calls alone.
+//! Tests of fleets and of runs of scripts by public calls only. They are in a crate of their own, since a crate with
+//! tests is proved twice.
 #![tactic(auto)]
 
 #[cfg(test)]

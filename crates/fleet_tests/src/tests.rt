@@ -1,6 +1,6 @@
-//! What no clause says, and no script shows: that calls succeed while memory lasts, what each failing call of a medium or
-//! of a stream leaves, and what a fleet lets see between two events. What the program shows stands in nvme_examples and in
-//! scripts/program.
+//! The tests: what no clause states, and no script shows. Calls succeed while memory lasts; what each failing call of a
+//! medium or of a stream leaves; and what a fleet shows between two events. Behaviour of the program is tested in
+//! nvme_examples and in scripts/program.
 
 mod asserting;
 mod bench;

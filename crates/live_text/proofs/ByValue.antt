@@ -1,4 +1,4 @@
--- A reason says the same wherever its words lie.
+-- For programs that answer lines: the text of a reason depends on its words, but not on their address.
 use Rattle.std.proofs.Common.{◌≡◌, ◌∙◌, ℕ, refl, ap}
 use Rattle.nvme_grammar.specs.LineFaults as line
 use Rattle.nvme_grammar.specs.FaultTexts as line_text

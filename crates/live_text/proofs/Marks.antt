@@ -1,4 +1,4 @@
--- Lines that begin with `?` ask for nothing that changes a session.
+-- For sessions: lines that begin with `?` change nothing.
 use Rattle.std.proofs.Common.{◌≡◌, ℕ, Bool, true, false, List, length, Option, None, Some, refl}
 use Rattle.std.specs.Prelude.{nat_lt, if◌then◌else◌}
 use Rattle.nvme_grammar.specs.Line.{line_at}
@@ -17,7 +17,8 @@ said-mark : (text : List ℕ) (o : Option Line) → is_mark (text_said text o) �
 said-mark text None = refl
 said-mark text (Some says) = refl
 
-text-mark : (text : List ℕ) (o : Option Line) (t : Bool) → is_mark (if t then Fails LongText else text_said text o) ≡ true
+text-mark : (text : List ℕ) (o : Option Line) (t : Bool)
+    → is_mark (if t then Fails LongText else text_said text o) ≡ true
 text-mark text o true = refl
 text-mark text o false = said-mark text o
 

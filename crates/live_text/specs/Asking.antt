@@ -1,4 +1,4 @@
--- What one line of a session asks, by its bytes alone.
+-- The kind of one line of a session, by its bytes.
 use Rattle.std.specs.Prelude.{ℕ, nat_lt, Bool, true, false, List, length, Option, Some, None, if◌then◌else◌}
 use Rattle.nvme_grammar.specs.Line.{line_at}
 use Rattle.nvme_grammar.specs.Lent.{line_by_value, event_by_value}
@@ -15,16 +15,16 @@ use Rattle.live_text.specs.declared.asking.Asked.TheVariants.{Fails, Nothing, Lo
 abbrev pub line_limit : ℕ
 line_limit = 1048576
 
--- the most bytes of a text that a line asks about
+-- the most bytes of a text in a `?line` query
 abbrev pub text_limit : ℕ
 text_limit = 262208
 
--- a line that begins with `?`, if it does not ask how a text is read
+-- a line that begins with `?`, unless it is `?line`
 abbrev pub look_asked : List ℕ → Option Looking → Asked
 look_asked line None = Fails (looking_fault line)
 look_asked line (Some looking) = Looks looking
 
--- how a text is read, by what it says; the fault of one that says nothing is counted in its own words
+-- how a text is parsed; the columns of a fault are counted in the text
 abbrev pub text_said : List ℕ → Option Line → Asked
 text_said text None = Fails (outside text)
 text_said text (Some line) = Parses line
@@ -32,7 +32,7 @@ text_said text (Some line) = Parses line
 abbrev pub text_asked : List ℕ → Option Line → Asked
 text_asked text said = if nat_lt text_limit (length text) then Fails LongText else text_said text said
 
--- a line that begins with `?`, by the text that it asks about, if it does
+-- a line that begins with `?`, by the text of its query, if it is `?line`
 abbrev pub mark_asked : List ℕ → Option (List ℕ) → Asked
 mark_asked line None = look_asked line (looking_at line)
 mark_asked line (Some text) = text_asked text (line_at text)
@@ -53,7 +53,7 @@ asked line =
     else if is_looking line then mark_asked line (text_in line)
     else line_asked line (line_at line)
 
--- the same, whose bytes lie at no place in particular
+-- the same, with its bytes at no address in particular
 abbrev pub asked_by_value : Asked → Asked
 asked_by_value (Fails why) = Fails (why_by_value why)
 asked_by_value Nothing = Nothing
@@ -62,7 +62,7 @@ asked_by_value (Parses line) = Parses (line_by_value line)
 asked_by_value (Sets line) = Sets (line_by_value line)
 asked_by_value (Does event) = Does (event_by_value event)
 
--- what is asked by lines that begin with `?`: no event, and nothing that sets up
+-- the kinds of lines that begin with `?`: neither an event nor a setup line
 abbrev pub is_mark : Asked → Bool
 is_mark (Fails why) = true
 is_mark Nothing = false

@@ -1,4 +1,4 @@
--- What a line that is not carried out is answered.
+-- The answers to refused lines.
 use Rattle.std.specs.Prelude.{ℕ, false, List, [], ◌∷◌, ◌++◌, codes, Option, Some, None, if◌then◌else◌}
 use Rattle.std.specs.Fmt.{decimal}
 use Rattle.script_text.specs.Words.{line_words, is_line_text}
@@ -11,13 +11,13 @@ use Rattle.live_text.specs.declared.looking_word.LookingWord.{LookingWord}
 use Rattle.live_text.specs.declared.fault.Why.{Why}
 use Rattle.live_text.specs.declared.fault.Why.TheVariants as why
 
--- a reason whose words lie at no place in particular
+-- a reason with its words at no address in particular
 abbrev pub why_by_value : Why → Why
 why_by_value (why.Line reason) = why.Line (line.why_by_value reason)
 why_by_value (why.NoLine word nearest) = why.NoLine (lent word.now) nearest
 why_by_value reason = reason
 
--- the word that is at fault, counted from 1
+-- the word at fault, counted from 1
 abbrev pub word_of : Why → ℕ
 word_of why.TooLong = 1
 word_of (why.Line reason) = line.word_number reason
@@ -33,7 +33,7 @@ word_of why.OutsideNamespace = 3
 word_of why.MediumFailed = 1
 word_of why.LongText = 2
 
--- the first word of a looking line that this one is near to, else where all stand
+-- the query word that this one resembles, or else a hint to the list of all
 abbrev pub nearest_text : Option LookingWord → List ℕ
 nearest_text None = codes "; ?help names all"
 nearest_text (Some k) = codes "; did you mean '" ++ word_text k ++ codes "'?"
@@ -47,13 +47,13 @@ why_text why.TooLong = codes "a line has at most 1048576 bytes"
 why_text (why.Line reason) = line_text.why_text reason
 why_text (why.Looking word) = codes "the line is " ++ form_text word
 why_text (why.NoLine word nearest) = no_line_text word.now nearest
-why_text why.BeforeStart = codes "this line stands before 'start', which was said already"
-why_text why.BehindStart = codes "this line needs a 'start' before it, and there was none yet"
+why_text why.BeforeStart = codes "this line must come before 'start'"
+why_text why.BehindStart = codes "this line needs a 'start' before it"
 why_text why.NoController = codes "there is no such controller"
 why_text why.NoDriver = codes "there is no such controller with a driver"
 why_text why.NoNamespace = codes "there is no such namespace"
-why_text why.OutsideWindow = codes "at most 131072 bytes of the window are shown, and it has 4194304"
-why_text why.OutsideNamespace = codes "1 to 256 blocks of the namespace are shown, and these are not all in it"
+why_text why.OutsideWindow = codes "at most 131072 bytes are shown, all of them in the window's 4194304"
+why_text why.OutsideNamespace = codes "1 to 256 blocks are shown, all of them in the namespace"
 why_text why.MediumFailed = codes "the medium failed"
 why_text why.LongText = codes "?line reads a TEXT of at most 262208 bytes"
 
@@ -64,7 +64,7 @@ refusal_at n i text = codes "! line " ++ decimal n ++ codes " word " ++ decimal 
 abbrev pub refusal : ℕ → Why → List ℕ
 refusal n w = refusal_at n (word_of w) (why_text w)
 
--- why a line that begins with `?` and asks nothing is refused: by its first word
+-- why a line that begins with `?` but is not a query is refused: by its first word
 abbrev pub named_fault : List ℕ → Option LookingWord → Why
 named_fault word None = why.NoLine (lent word) (nearest_to word)
 named_fault word (Some k) = why.Looking k
@@ -78,7 +78,7 @@ looking_fault raw =
     if is_line_text raw then words_fault (line_words raw)
     else why.Line (line.foreign_fault raw).why
 
--- why a line that is outside the grammar of scripts is refused: it has a fault wherever it stands
+-- why a line outside the grammar of scripts is refused: it has a fault at any place
 abbrev pub line_fault : Option LineFault → Why
 line_fault None = why.NoLine (lent []) None
 line_fault (Some fault) = why.Line fault.why

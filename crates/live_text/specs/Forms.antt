@@ -1,4 +1,4 @@
--- How the lines of a session are written, by their first words: those of scripts, and those that look.
+-- The forms of a session's lines, by their first words: those of scripts, and queries.
 use Rattle.std.specs.Prelude.{ℕ, List, Option, option_map}
 use Rattle.std.specs.Option.{option_or}
 use Rattle.nvme_grammar.specs.Keywords as line

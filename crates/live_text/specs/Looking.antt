@@ -1,5 +1,26 @@
--- The lines that look at a session.
-use Rattle.std.specs.Prelude.{ℕ, nat_le, ◌==◌, nat_eq, Bool, true, false, ◌&&◌, List, [], ◌∷◌, codes, drop, length, Option, Some, None, option_map, option_and_then, if◌then◌else◌}
+-- The query lines of a session.
+use Rattle.std.specs.Prelude.{
+  ℕ,
+  nat_le,
+  ◌==◌,
+  nat_eq,
+  Bool,
+  true,
+  false,
+  ◌&&◌,
+  List,
+  [],
+  ◌∷◌,
+  codes,
+  drop,
+  length,
+  Option,
+  Some,
+  None,
+  option_map,
+  option_and_then,
+  if◌then◌else◌,
+}
 use Rattle.std.specs.List.{starts_with}
 use Rattle.script_text.specs.Numbers.{number_at}
 use Rattle.script_text.specs.Words.{line_words, is_line_text, is_separator}
@@ -20,16 +41,16 @@ abbrev pub behind_word : List ℕ → Option (List ℕ)
 behind_word [] = Some []
 behind_word (b ∷ bs) = if is_separator b then Some bs else None
 
--- the text that a line `?line TEXT` asks about
+-- the text of a line `?line TEXT`
 unfoldable pub text_in : List ℕ → Option (List ℕ)
 text_in line = if starts_with nat_eq line (codes "?line") then behind_word (drop 5 line) else None
 
--- what words say, where no more stand behind them
+-- the query of words, if no more words follow them
 abbrev pub alone : {A : Type 0} → List (List ℕ) → Option A → Option A
 alone [] said = said
 alone (word ∷ words) said = None
 
--- `C`, and `N`
+-- `C` alone, or `N` alone
 abbrev pub number_alone : ℕ → List (List ℕ) → Option ℕ
 number_alone bits [] = None
 number_alone bits (n ∷ words) = alone words (number_at bits n)
@@ -62,7 +83,7 @@ abbrev pub help : List (List ℕ) → Option Looking
 help [] = Some look.Help
 help (word ∷ words) = alone words (option_map look.HelpOn (form_at word))
 
--- what the words behind the first one ask for; `?line` has a text behind it, whatever its words
+-- the query of the words after the first one; `?line` has a text after it, whatever its words
 abbrev pub looking_in : LookingWord → List (List ℕ) → Option Looking
 looking_in word.Window words = window words
 looking_in word.Register words = register words
@@ -77,17 +98,17 @@ looking_in word.Blocks words = blocks words
 looking_in word.Line words = None
 looking_in word.Help words = help words
 
--- no looking line has more than four words
+-- no query has more than four words
 abbrev pub looking_by : List (List ℕ) → Option Looking
 looking_by [] = None
 looking_by (first ∷ words) =
     if nat_le (length words) 3 then option_and_then (λ k. looking_in k words) (looking_word_of first) else None
 
--- what a line that begins with `?` asks for, or nothing where it is outside the grammar
+-- the query of a line that begins with `?`, or nothing if it is outside the grammar
 unfoldable pub looking_at : List ℕ → Option Looking
 looking_at line = if is_line_text line then looking_by (line_words line) else None
 
--- the controller that a line looks at, if it names one
+-- the controller of a query, if it names one
 abbrev pub controller_named : Looking → Option ℕ
 controller_named (look.Window k address len) = Some k
 controller_named (look.Register k offset) = Some k

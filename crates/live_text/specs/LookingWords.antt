@@ -1,4 +1,4 @@
--- The words that looking lines begin with, and how such lines are written.
+-- The words that query lines begin with, and the forms of these lines.
 use Rattle.std.specs.Prelude.{ℕ, List, [], ◌∷◌, ◌++◌, codes, Option}
 use Rattle.std.specs.List.{find, flat_map}
 use Rattle.std.specs.Str.{bytes_eq}
@@ -39,14 +39,14 @@ abbrev pub looking_words : List LookingWord
 looking_words = word.Window ∷ word.Register ∷ word.Registers ∷ word.Queues ∷ word.Fetched ∷ word.Driver
     ∷ word.Namespaces ∷ word.Reservation ∷ word.Attached ∷ word.Blocks ∷ word.Line ∷ word.Help ∷ []
 
--- their texts, each behind a space
+-- their texts, each after a space
 abbrev pub word_texts : List ℕ
 word_texts = flat_map (λ k. codes " " ++ word_text k) looking_words
 
--- the one that a word is
+-- the query word of a word
 unfoldable pub looking_word_of : List ℕ → Option LookingWord
 looking_word_of word = find (λ k. bytes_eq word (word_text k)) looking_words
 
--- the first that a word is near to, or is in other letters
+-- the first that a word resembles, or equals in other letters
 unfoldable pub nearest_to : List ℕ → Option LookingWord
 nearest_to word = find (λ k. is_meant word (word_text k)) looking_words

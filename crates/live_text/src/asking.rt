@@ -1,4 +1,4 @@
-//! What one line of a session asks.
+//! Parses one line of a session.
 
 ghost use Rattle.std.specs.Prelude.{◌≡◌, ◌≤◌, length};
 ghost use Rattle.script_text.specs.Words.{most_words};
@@ -15,28 +15,28 @@ use nvme_grammar::{Line, parse_line};
 /// The most bytes of a line, without its line feed.
 pub const LINE_LIMIT: usize = 1_048_576;
 
-/// The most bytes of a text that a line asks about: the digits of the longest data, and 64 more. However it is read, the
-/// answer has room then.
+/// The most bytes of a text in a `?line` query: the digits of the longest data, and 64 more. Then the answer fits a
+/// text, whatever it is.
 const TEXT_LIMIT: usize = 262_208;
 
-/// What one line of a session asks.
+/// The kind of one line of a session.
 #[derive(Clone, Copy)]
 pub enum Asked<'a> {
-    /// It can't be carried out, whatever the session stands at.
+    /// It is refused, whatever the state of the session.
     Fails(Why<'a>),
-    /// It says nothing.
+    /// It has no effect.
     Nothing,
-    /// It looks.
+    /// It is a query.
     Looks(Looking),
-    /// It asks how a text is read, and this is what that says.
+    /// It is a `?line` query, and its text is parsed as this.
     Parses(Line<'a>),
-    /// It sets up, or starts.
+    /// It is a setup line, or `start`.
     Sets(Line<'a>),
     /// It is an event.
     Does(FleetEvent<'a>),
 }
 
-/// What a line that begins with `?` asks, if that is not how a text is read.
+/// A line that begins with `?`, unless it is `?line`.
 fn look_asked(line: &[u8]) -> Asked<'_>
     ensures { asked_by_value result ≡ look_asked line.now (looking_at line.now) }
 {
@@ -46,7 +46,7 @@ fn look_asked(line: &[u8]) -> Asked<'_>
     }
 }
 
-/// How a text is read that a line asks about.
+/// How the text of a `?line` query is parsed.
 fn text_asked<'a>(
     text: &'a [u8],
     bytes: &'a mut [u8],
@@ -67,7 +67,7 @@ fn text_asked<'a>(
     }
 }
 
-/// What a line that begins with `?` asks.
+/// A line that begins with `?`.
 fn mark_asked<'a>(
     line: &'a [u8],
     bytes: &'a mut [u8],
@@ -85,7 +85,7 @@ fn mark_asked<'a>(
     }
 }
 
-/// What a line of the grammar of scripts asks.
+/// A line of the grammar of scripts.
 fn line_asked<'a>(
     line: &'a [u8],
     bytes: &'a mut [u8],
@@ -105,8 +105,8 @@ fn line_asked<'a>(
     }
 }
 
-/// What a line asks. The bytes and the identifiers of what it says are put into the first two buffers, and the answer borrows
-/// them; the third is overwritten.
+/// Parses a line. The bytes and the identifiers of an event are put into the first two buffers, which the result
+/// borrows; the third is overwritten.
 #[tactic(auto, unfolding(crate::specs::Asking::asked))]
 pub fn asked_of<'a>(
     line: &'a [u8],

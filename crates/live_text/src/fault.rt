@@ -1,4 +1,4 @@
-//! Why a line is not carried out, and what it is answered.
+//! Why a line is refused, and the answer to it.
 
 ghost use Rattle.std.specs.Prelude.{◌≡◌, map};
 ghost use Rattle.script_text.specs.Pages.{Adds};
@@ -9,42 +9,42 @@ use crate::looking_word::LookingWord;
 use nvme_grammar::{Why as LineWhy, foreign_byte, line_fault, put_word_between};
 use script_text::{NoRoom, Page, Spell, put_both, put_labelled, put_three, words_of};
 
-/// Why a line is not carried out. Its text is a sentence for a person.
+/// Why a line is refused. Its text is a sentence for a person.
 #[derive(Clone, Copy)]
 pub enum Why<'a> {
-    /// It has more bytes than a line may have.
+    /// It is too long.
     TooLong,
-    /// It is no line of a script, or has a byte that may stand in no line.
+    /// It is not a line of a script, or has a byte that no line may have.
     Line(LineWhy<'a>),
-    /// It looks, and its words are not those that its first word asks for.
+    /// It is a query, and its words do not fit its first word.
     Looking(LookingWord),
-    /// No line begins with its first word; that of a looking line that it is near to, if there is one.
+    /// No line begins with its first word; the query word that it resembles, if there is one.
     NoLine {
         word: &'a [u8],
         nearest: Option<LookingWord>,
     },
-    /// It stands behind `start`, and may not.
+    /// It follows `start`, which is not allowed.
     BeforeStart,
-    /// It stands before `start`, and may not.
+    /// It precedes `start`, which is not allowed.
     BehindStart,
     /// It names a controller that isn't configured.
     NoController,
-    /// It names no controller that a driver has.
+    /// Its controller has no driver.
     NoDriver,
     /// It names a namespace that isn't configured.
     NoNamespace,
-    /// It names bytes that do not all lie in a window, or too many.
+    /// Some of its bytes are outside a window, or they are too many.
     OutsideWindow,
-    /// It names blocks that do not all lie in a namespace, or too many.
+    /// Some of its blocks are outside a namespace, or they are too many.
     OutsideNamespace,
     /// A call of the medium failed.
     MediumFailed,
-    /// It asks how a text is read, and that has too many bytes.
+    /// It is a `?line` query, and its text is too long.
     LongText,
 }
 
 impl Why<'_> {
-    /// The word that is at fault, counted from 1.
+    /// The word at fault, counted from 1.
     fn word(self) -> usize
         ensures { result ≡ spec.word_of self.entry }
     {
@@ -62,7 +62,7 @@ impl Why<'_> {
     }
 }
 
-/// Puts the looking line that a word is near to, as a question, else where all stand.
+/// Puts the query word that a word resembles, as a question, or else a hint to the list of all.
 fn put_nearest<P: Page>(page: &mut P, nearest: Option<LookingWord>) -> Result<(), NoRoom>
     ensures { Adds P.room result (P.written page.old) (spec.nearest_text nearest) (P.written page.new) }
 {
@@ -93,20 +93,16 @@ impl Spell for Why<'_> {
             Why::Line(why) => why.spell(page),
             Why::Looking(word) => put_both(page, "the line is ", word.form()),
             Why::NoLine { word, nearest } => put_no_line(page, word, *nearest),
-            Why::BeforeStart => {
-                page.put_str("this line stands before 'start', which was said already")
-            }
-            Why::BehindStart => {
-                page.put_str("this line needs a 'start' before it, and there was none yet")
-            }
+            Why::BeforeStart => { page.put_str("this line must come before 'start'") }
+            Why::BehindStart => { page.put_str("this line needs a 'start' before it") }
             Why::NoController => page.put_str("there is no such controller"),
             Why::NoDriver => page.put_str("there is no such controller with a driver"),
             Why::NoNamespace => page.put_str("there is no such namespace"),
             Why::OutsideWindow => page.put_str(
-                "at most 131072 bytes of the window are shown, and it has 4194304",
+                "at most 131072 bytes are shown, all of them in the window's 4194304",
             ),
             Why::OutsideNamespace => page.put_str(
-                "1 to 256 blocks of the namespace are shown, and these are not all in it",
+                "1 to 256 blocks are shown, all of them in the namespace",
             ),
             Why::MediumFailed => page.put_str("the medium failed"),
             Why::LongText => page.put_str("?line reads a TEXT of at most 262208 bytes"),
@@ -114,7 +110,7 @@ impl Spell for Why<'_> {
     }
 }
 
-/// The answer to a line that is not carried out.
+/// The answer to a refused line.
 #[derive(Clone, Copy)]
 pub struct Refusal<'a> {
     pub number: u64,
@@ -132,7 +128,7 @@ impl Spell for Refusal<'_> {
     }
 }
 
-/// What is wrong with a looking line that asks nothing, by its words.
+/// The fault of a line that begins with `?` but is not a query, by its words.
 fn words_fault<'a>(words: &[&'a [u8]]) -> Why<'a>
     ensures { spec.why_by_value result ≡ spec.words_fault (map (λ word. word.now) words.now) }
 {
@@ -151,7 +147,7 @@ fn words_fault<'a>(words: &[&'a [u8]]) -> Why<'a>
     }
 }
 
-/// What is wrong with a looking line that asks nothing.
+/// The fault of a line that begins with `?` but is not a query.
 #[tactic(auto, unfolding(crate::specs::Faults::looking_fault))]
 pub fn looking_fault(line: &[u8]) -> Why<'_>
     ensures { spec.why_by_value result ≡ spec.looking_fault line.now }
@@ -165,7 +161,7 @@ pub fn looking_fault(line: &[u8]) -> Why<'_>
     }
 }
 
-/// What is wrong with a line that is outside the grammar of scripts. The buffer is overwritten.
+/// The fault of a line outside the grammar of scripts. The buffer is overwritten.
 pub fn outside<'a>(line: &'a [u8], bytes: &mut [u8]) -> Why<'a>
     requires bytes_room { HasBytesRoom line.now bytes.old }
     ensures { spec.why_by_value result ≡ spec.outside line.now }

@@ -1,4 +1,4 @@
-//! How the lines of a session are written, by their first words: those of scripts, and those that look.
+//! The forms of a session's lines, by their first words: those of scripts, and queries.
 
 ghost use Rattle.std.specs.Prelude.{◌≡◌};
 ghost use Rattle.live_text.specs.Forms as spec;
@@ -11,12 +11,12 @@ use nvme_grammar::Keyword;
 pub enum Form {
     /// A line of a script.
     Line(Keyword),
-    /// A line that looks.
+    /// A query.
     Looking(LookingWord),
 }
 
 impl Form {
-    /// How such a line is written.
+    /// The form of such a line.
     pub fn text(self) -> &'static str
         ensures { result.now ≡ spec.form_text self }
     {
@@ -27,7 +27,7 @@ impl Form {
     }
 }
 
-/// The form of the lines with this first word. `None` where there is no such line.
+/// The form of the lines with this first word. `None` if there is no such line.
 pub fn form_of(word: &[u8]) -> Option<Form>
     ensures { result ≡ spec.form_at word.now }
 {

@@ -1,5 +1,5 @@
-//! The text of sessions, apart from having them so that it is proved without fleets: what a line asks, the lines that
-//! look and change nothing, how each line is written, and what one that is not carried out is answered.
+//! The text of sessions: parses a line, has the query lines, which change nothing, the form of each line, and the
+//! answers to refused ones. It is in a crate of its own, so that it is proved without fleets.
 #![tactic(auto)]
 
 mod asking;

@@ -1,4 +1,4 @@
-//! Lines that look at a session and change nothing. They begin with `?`, so that no script can hold one.
+//! Query lines of a session, which change nothing. They begin with `?`, so that no script can have one.
 
 ghost use Rattle.std.specs.Prelude.{◌≡◌, ◌≤◌, length, map, option_map, IfSome, Some};
 ghost use Rattle.script_text.specs.Words.{is_separator};
@@ -8,7 +8,7 @@ use crate::form::{Form, form_of};
 use crate::looking_word::LookingWord;
 use script_text::{number_u16, number_u32, number_u64, words_of};
 
-/// What a looking line asks for.
+/// A query.
 #[derive(Clone, Copy, Debug)]
 pub enum Looking {
     /// `?window C ADDR LEN`
@@ -38,7 +38,7 @@ pub enum Looking {
 }
 
 impl Looking {
-    /// The identifier of the controller that it looks at, if it names one.
+    /// The identifier of its controller, if it names one.
     pub fn cntlid(self) -> Option<u16>
         ensures { result ≡ spec.controller_named self }
     {
@@ -73,7 +73,7 @@ fn ends_word(byte: u8) -> bool
     byte == b' ' || byte == b'\t' || byte == b'\r'
 }
 
-/// The text that a line `?line TEXT` asks about: all that follows the word and one separator. `None` for other lines.
+/// The text of a line `?line TEXT`: everything after `?line` and one separator. `None` for other lines.
 #[tactic(auto, unfolding(crate::specs::Looking::text_in))]
 pub fn text_in(line: &[u8]) -> Option<&[u8]>
     ensures text { option_map (λ text. text.now) result ≡ spec.text_in line.now }
@@ -87,7 +87,7 @@ pub fn text_in(line: &[u8]) -> Option<&[u8]>
     }
 }
 
-/// `C`, and nothing else.
+/// `C` alone.
 fn controller_in(words: &[&[u8]]) -> Option<u16>
     ensures { result ≡ spec.number_alone 16 (map (λ word. word.now) words.now) }
 {
@@ -101,7 +101,7 @@ fn controller_in(words: &[&[u8]]) -> Option<u16>
     }
 }
 
-/// `N`, and nothing else.
+/// `N` alone.
 fn namespace_in(words: &[&[u8]]) -> Option<u32>
     ensures { result ≡ spec.number_alone 32 (map (λ word. word.now) words.now) }
 {
@@ -179,7 +179,7 @@ fn help_of(words: &[&[u8]]) -> Option<Looking>
     }
 }
 
-/// A looking line without words behind its first one.
+/// A query without words after its first one.
 fn alone(looking: Looking, words: &[&[u8]]) -> Option<Looking>
     ensures { result ≡ spec.alone (map (λ word. word.now) words.now) (Some looking) }
 {
@@ -190,7 +190,7 @@ fn alone(looking: Looking, words: &[&[u8]]) -> Option<Looking>
     }
 }
 
-/// What the words behind the first one ask for.
+/// The query of the words after the first one.
 fn looking_in(first: LookingWord, words: &[&[u8]]) -> Option<Looking>
     ensures { result ≡ spec.looking_in first (map (λ word. word.now) words.now) }
 {
@@ -210,7 +210,7 @@ fn looking_in(first: LookingWord, words: &[&[u8]]) -> Option<Looking>
     }
 }
 
-/// What all words of a line ask for.
+/// The query of all words of a line.
 fn looking_by(words: &[&[u8]]) -> Option<Looking>
     ensures { result ≡ spec.looking_by (map (λ word. word.now) words.now) }
 {
@@ -222,7 +222,7 @@ fn looking_by(words: &[&[u8]]) -> Option<Looking>
     }
 }
 
-/// What a line that begins with `?` asks for. `None` where it is outside the grammar.
+/// The query of a line that begins with `?`. `None` if it is outside the grammar.
 #[tactic(auto, unfolding(crate::specs::Looking::looking_at))]
 pub fn looking_of(line: &[u8]) -> Option<Looking>
     ensures { result ≡ spec.looking_at line.now }

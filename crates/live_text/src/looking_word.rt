@@ -1,11 +1,11 @@
-//! The words that looking lines begin with.
+//! The words that query lines begin with.
 
 ghost use Rattle.std.specs.Prelude.{◌≡◌};
 ghost use Rattle.live_text.specs.LookingWords as spec;
 
 use nvme_grammar::is_meant;
 
-/// The word that a looking line begins with.
+/// The word that a query line begins with.
 #[derive(Clone, Copy, Debug, PartialEq, Eq)]
 pub enum LookingWord {
     Window,
@@ -38,12 +38,12 @@ const LOOKING_WORDS: [LookingWord; 12] = [
     LookingWord::Help,
 ];
 
-/// Their texts in this order, each behind a space.
+/// Their texts in this order, each after a space.
 const LOOKING_TEXTS: &str =
     " ?window ?register ?registers ?queues ?fetched ?driver ?namespaces ?reservation ?attached ?blocks ?line ?help";
 
 impl LookingWord {
-    /// All of them, each behind a space.
+    /// All of them, each after a space.
     pub fn all_texts() -> &'static str
         ensures { result.now ≡ spec.word_texts }
     {
@@ -70,7 +70,7 @@ impl LookingWord {
         }
     }
 
-    /// A line that begins with it, with the names of its places: what is in brackets may be left out.
+    /// A line that begins with it, with the names of its places: a part in brackets may be left out.
     pub fn form(self) -> &'static str
         ensures { result.now ≡ spec.form_text self }
     {
@@ -90,7 +90,7 @@ impl LookingWord {
         }
     }
 
-    /// The one that a word is, if it is one.
+    /// The query word of a word, if it is one.
     #[tactic(auto, unfolding(crate::specs::LookingWords::looking_word_of))]
     pub fn of(word: &[u8]) -> Option<LookingWord>
         ensures { result ≡ spec.looking_word_of word.now }
@@ -105,7 +105,8 @@ impl LookingWord {
         None
     }
 
-    /// The first that a word is near to: one letter is wrong, missing or too many, two are exchanged, or some are capitals.
+    /// The first that a word resembles: one letter is wrong, missing or too many, two are exchanged, or some are
+    /// capitals.
     #[tactic(auto, unfolding(crate::specs::LookingWords::nearest_to))]
     pub(crate) fn nearest(word: &[u8]) -> Option<LookingWord>
         ensures { result ≡ spec.nearest_to word.now }

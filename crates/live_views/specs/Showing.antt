@@ -1,5 +1,25 @@
--- What looking lines show of the state of their moment.
-use Rattle.std.specs.Prelude.{ℕ, ◌+◌, nat_le, nat_lt, ◌==◌, Bool, true, false, if◌then◌else◌, List, [], ◌∷◌, ◌++◌, length, codes, slice_range, Option, None, Some}
+-- The texts that answer queries, from the present state.
+use Rattle.std.specs.Prelude.{
+  ℕ,
+  ◌+◌,
+  nat_le,
+  nat_lt,
+  ◌==◌,
+  Bool,
+  true,
+  false,
+  if◌then◌else◌,
+  List,
+  [],
+  ◌∷◌,
+  ◌++◌,
+  length,
+  codes,
+  slice_range,
+  Option,
+  None,
+  Some,
+}
 use Rattle.std.specs.List.{flat_map}
 use Rattle.std.specs.Fmt.{decimal, digits}
 use Rattle.script_text.specs.HexText.{hex_or_dash, without_trailing_zeros}
@@ -31,7 +51,7 @@ use Rattle.live_text.specs.declared.fault.Why.TheVariants as why
 use Rattle.live_text.specs.declared.looking.Looking.{Looking}
 use Rattle.live_text.specs.declared.looking.Looking.TheVariants as look
 
--- the most bytes of a window that a line shows
+-- the most bytes of a window in an answer
 abbrev pub most_shown : ℕ
 most_shown = most_bytes
 
@@ -76,7 +96,7 @@ queue_registers_text r =
 abbrev pub registers_text : ℕ → Registers → List ℕ
 registers_text k r = codes "registers " ++ decimal k ++ state_registers_text r ++ queue_registers_text r
 
--- a queue, if there is one: its place, its size, and its two ends
+-- a queue, if there is one: its address, its size, and its two ends
 abbrev pub submission_text : ℕ → Option SubmissionQueue → List ℕ
 submission_text q None = []
 submission_text q (Some s) =
@@ -129,7 +149,7 @@ io_name op =
 abbrev pub command_name : ℕ → ℕ → List ℕ
 command_name queue op = if queue == 0 then admin_name op else io_name op
 
--- fetched commands, from this place among them on
+-- fetched commands, from this place in the list
 abbrev pub kind_text : FetchedCommand → List ℕ
 kind_text c =
     codes " opcode " ++ decimal (opcode c.entry) ++ codes " name " ++ command_name c.queue (opcode c.entry)
@@ -174,7 +194,7 @@ driver_text k d =
     codes "driver " ++ decimal k ++ codes " state " ++ state_text d.state ++ codes " next " ++ next_text d.next
     ++ flat_map slot_text d.slots
 
--- namespaces, and what is attached
+-- namespaces, and attachments
 abbrev pub namespace_text : Namespace → List ℕ
 namespace_text n =
     codes " namespace " ++ decimal n.nsid ++ codes " first " ++ decimal n.first ++ codes " blocks " ++ decimal n.blocks
@@ -189,7 +209,7 @@ attachment_text a = codes " controller " ++ decimal a.0 ++ codes " namespace " +
 abbrev pub attached_text : List (ℕ × ℕ) → List ℕ
 attached_text attachments = codes "attached" ++ flat_map attachment_text attachments
 
--- a reservation: its type and its holder, and the registrants with their keys
+-- a reservation: its type, holder, generation and persistence, the protection state, and each registrant with its key
 abbrev pub hold_text : Hold → List ℕ
 hold_text hold.Free = codes "type 0 holder none"
 hold_text (hold.One rtype host) = codes "type " ++ decimal rtype ++ codes " holder " ++ host_text host
@@ -214,7 +234,7 @@ blocks_text n slba count bytes =
 abbrev pub help_text : List ℕ
 help_text = codes "help" ++ keyword_texts ++ word_texts
 
--- What is shown of a thing where it is there; else the n-th line is refused.
+-- The answer about an existing controller; if it does not exist, the n-th line is refused.
 abbrev pub of_controller : ℕ → Option Controller → (Controller → List ℕ) → List ℕ
 of_controller n None text = refusal n why.NoController
 of_controller n (Some c) text = text c
@@ -227,7 +247,7 @@ abbrev pub of_namespace : ℕ → Option Namespace → (Namespace → List ℕ) 
 of_namespace n None text = refusal n why.NoNamespace
 of_namespace n (Some s) text = text s
 
--- bytes of a controller's window, where they all lie in it and are not too many
+-- bytes of a controller's window, if they are all inside and not too many
 abbrev pub window_shown : ℕ → ℕ → ℕ → ℕ → Controller → List ℕ
 window_shown n k address len c =
     if nat_lt most_shown len then refusal n why.OutsideWindow
@@ -235,7 +255,7 @@ window_shown n k address len c =
     then window_text k address (slice_range c.window address (address + len))
     else refusal n why.OutsideWindow
 
--- what is shown of a controller that is there
+-- the answer about an existing controller
 abbrev pub controller_shown : ℕ → Looking → Controller → List ℕ
 controller_shown n (look.Window k address len) c = window_shown n k address len c
 controller_shown n (look.Register k offset) c = register_text k offset (value_at c.registers offset)
@@ -248,7 +268,7 @@ abbrev pub reservation_shown : ℕ → ℕ → World → List ℕ
 reservation_shown n m w =
     of_namespace n (namespace_of w m) (λ s. reservation_text m s.reservation (state_of s.protection))
 
--- what a looking line shows before there is anything to look at
+-- the answer to a query before there is a subsystem
 abbrev pub early_text : ℕ → Looking → List ℕ
 early_text n look.Help = help_text
 early_text n (look.HelpOn form) = codes "help " ++ form_text form

@@ -1,10 +1,22 @@
--- The text of what a looking line shows.
+-- The text of an answer to a query.
 use Rattle.std.specs.Prelude.{ℕ, List, ◌++◌, codes}
 use Rattle.live_text.specs.Faults.{refusal}
 use Rattle.live_text.specs.Forms.{form_text}
 use Rattle.live_views.specs.declared.shown.Shown.{Shown}
 use Rattle.live_views.specs.declared.shown.Shown.TheVariants as shown
-use Rattle.live_views.specs.Showing.{attached_text, blocks_text, driver_text, fetched_text, help_text, namespaces_text, queues_text, register_text, registers_text, reservation_text, window_text}
+use Rattle.live_views.specs.Showing.{
+  attached_text,
+  blocks_text,
+  driver_text,
+  fetched_text,
+  help_text,
+  namespaces_text,
+  queues_text,
+  register_text,
+  registers_text,
+  reservation_text,
+  window_text,
+}
 
 abbrev pub shown_by : Shown → List ℕ
 shown_by (shown.Nothing r) = refusal r.number r.why

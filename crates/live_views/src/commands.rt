@@ -1,4 +1,4 @@
-//! What looking lines show of the commands that a controller has fetched.
+//! Answers about a controller's fetched commands.
 
 ghost use Rattle.script_text.specs.Pages.{Adds};
 ghost use Rattle.live_views.specs.Showing.{command_text, commands_text, fetched_text, kind_text};
@@ -23,7 +23,7 @@ impl Spell for FetchedText<'_> {
     }
 }
 
-/// Puts commands, each with its place among them.
+/// Puts commands, each with its place in the list.
 fn put_commands<P: Page>(page: &mut P, commands: &[FetchedCommand]) -> Result<(), NoRoom>
     ensures { Adds P.room result (P.written page.old) (commands_text 0 commands.now) (P.written page.new) }
 {
@@ -37,7 +37,7 @@ fn put_commands<P: Page>(page: &mut P, commands: &[FetchedCommand]) -> Result<()
     Ok(())
 }
 
-/// Puts a fetched command, and its place among them.
+/// Puts a fetched command, and its place in the list.
 fn put_command<P: Page>(page: &mut P, place: usize, command: &FetchedCommand) -> Result<(), NoRoom>
     ensures { Adds P.room result (P.written page.old) (command_text place command.now) (P.written page.new) }
 {
@@ -47,7 +47,7 @@ fn put_command<P: Page>(page: &mut P, place: usize, command: &FetchedCommand) ->
     put_kind(page, command)
 }
 
-/// Puts what a fetched command is, and whether it is marked.
+/// Puts the opcode, name, namespace and mark of a fetched command.
 fn put_kind<P: Page>(page: &mut P, command: &FetchedCommand) -> Result<(), NoRoom>
     ensures { Adds P.room result (P.written page.old) (kind_text command.now) (P.written page.new) }
 {

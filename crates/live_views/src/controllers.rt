@@ -1,9 +1,18 @@
-//! What looking lines show of a controller, and of blocks.
+//! Answers about a controller, and about blocks.
 
 ghost use Rattle.std.specs.Prelude.{◌≡◌, ◌+◌, ◌<◌, ◌++◌};
 ghost use Rattle.nvme_spec.specs.Registers.{value_at};
 ghost use Rattle.script_text.specs.Pages.{Adds};
-ghost use Rattle.live_views.specs.Showing.{blocks_text, narrow_text, queue_registers_text, register_text, registers_text, state_registers_text, wide_text, window_text};
+ghost use Rattle.live_views.specs.Showing.{
+  blocks_text,
+  narrow_text,
+  queue_registers_text,
+  register_text,
+  registers_text,
+  state_registers_text,
+  wide_text,
+  window_text,
+};
 
 use nvme_ctrl::Controller;
 use script_text::{HexText, NoRoom, Page, Spell, put_hex_in, put_labelled};
@@ -85,7 +94,7 @@ impl Spell for RegistersText<'_> {
     }
 }
 
-/// Puts a register of one double word, at this offset, behind its name.
+/// Puts a register of one double word, at this offset, after its name.
 #[tactic(auto, unfolding(crate::specs::Showing::narrow_text))]
 fn put_narrow<P: Page>(
     page: &mut P,
@@ -101,7 +110,7 @@ fn put_narrow<P: Page>(
     put_hex_in(page, 8, u64::from(controller.read32(offset)))
 }
 
-/// Puts a register of two double words, the lower of which is at this offset, behind its name.
+/// Puts a register of two double words, the lower at this offset, after its name.
 #[tactic(auto, unfolding(crate::specs::Showing::wide_text))]
 fn put_wide<P: Page>(
     page: &mut P,
@@ -111,7 +120,8 @@ fn put_wide<P: Page>(
 ) -> Result<(), NoRoom>
     requires { offset < 4096 }
     ensures { Adds P.room result (P.written page.old)
-        (name.now ++ wide_text (value_at controller.now.registers (offset + 4)) (value_at controller.now.registers offset))
+        (name.now
+        ++ wide_text (value_at controller.now.registers (offset + 4)) (value_at controller.now.registers offset))
         (P.written page.new) }
 {
     page.put_str(name)?;
@@ -120,9 +130,10 @@ fn put_wide<P: Page>(
     put_hex_in(page, 8, u64::from(controller.read32(offset)))
 }
 
-/// Puts what a controller can do, is told and says of itself.
+/// Puts the capabilities, the configuration and the status of a controller.
 fn put_state<P: Page>(page: &mut P, controller: &Controller) -> Result<(), NoRoom>
-    ensures { Adds P.room result (P.written page.old) (state_registers_text controller.now.registers) (P.written page.new) }
+    ensures { Adds P.room result (P.written page.old) (state_registers_text controller.now.registers)
+        (P.written page.new) }
 {
     put_wide(page, " cap ", controller, 0x00)?;
     put_narrow(page, " vs ", controller, 0x08)?;
@@ -130,9 +141,10 @@ fn put_state<P: Page>(page: &mut P, controller: &Controller) -> Result<(), NoRoo
     put_narrow(page, " csts ", controller, 0x1c)
 }
 
-/// Puts where the admin queues of a controller lie, and how long they are.
+/// Puts the addresses and the sizes of a controller's admin queues.
 fn put_places<P: Page>(page: &mut P, controller: &Controller) -> Result<(), NoRoom>
-    ensures { Adds P.room result (P.written page.old) (queue_registers_text controller.now.registers) (P.written page.new) }
+    ensures { Adds P.room result (P.written page.old) (queue_registers_text controller.now.registers)
+        (P.written page.new) }
 {
     put_narrow(page, " aqa ", controller, 0x24)?;
     put_wide(page, " asq ", controller, 0x28)?;

@@ -1,4 +1,4 @@
-//! What looking lines show of a driver.
+//! Answers about a driver.
 
 ghost use Rattle.std.specs.List.{flat_map};
 ghost use Rattle.script_text.specs.Pages.{Adds};
@@ -37,7 +37,7 @@ fn put_next<P: Page>(page: &mut P, driver: &Driver) -> Result<(), NoRoom>
     }
 }
 
-/// Puts the requests that were not handed up.
+/// Puts the requests that were not delivered.
 fn put_slots<P: Page>(page: &mut P, slots: &[Option<Waiting>]) -> Result<(), NoRoom>
     ensures { Adds P.room result (P.written page.old) (flat_map slot_text slots.now) (P.written page.new) }
 {
@@ -49,7 +49,7 @@ fn put_slots<P: Page>(page: &mut P, slots: &[Option<Waiting>]) -> Result<(), NoR
     Ok(())
 }
 
-/// Puts a request that was not handed up, if there is one.
+/// Puts a request that was not delivered, if there is one.
 fn put_slot<P: Page>(page: &mut P, slot: Option<Waiting>) -> Result<(), NoRoom>
     ensures { Adds P.room result (P.written page.old) (slot_text slot) (P.written page.new) }
 {

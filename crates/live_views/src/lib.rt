@@ -1,5 +1,5 @@
-//! What looking lines show, as texts: a window, registers, queues, fetched commands, drivers, namespaces, attachments,
-//! reservations and blocks, apart from having them so that it is proved without fleets.
+//! The answers to queries, as texts: a window, registers, queues, fetched commands, drivers, namespaces, attachments,
+//! reservations and blocks. They are in a crate of their own, so that they are proved without fleets.
 #![tactic(auto)]
 
 mod commands;

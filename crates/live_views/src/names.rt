@@ -1,11 +1,11 @@
-//! Names that looking lines show.
+//! Names in answers to queries.
 
 ghost use Rattle.std.specs.Prelude.{◌≡◌};
 ghost use Rattle.live_views.specs.Showing as spec;
 
 use nvme_driver::{Lane, State};
 
-/// The name of a command, by its queue and its opcode; `unknown` where the controller has none such.
+/// The name of a command, by its queue and its opcode; `unknown` if the controller has no such command.
 pub fn command_name(queue: u16, opcode: u8) -> &'static str
     ensures { result.now ≡ spec.command_name queue opcode }
 {
@@ -62,7 +62,7 @@ pub fn driver_state_name(state: State) -> &'static str
     }
 }
 
-/// The name of a lane.
+/// The name of a lane (queue pair).
 pub fn lane_name(lane: Lane) -> &'static str
     ensures { result.now ≡ spec.lane_text lane }
 {
@@ -72,7 +72,7 @@ pub fn lane_name(lane: Lane) -> &'static str
     }
 }
 
-/// What a request that was not handed up is.
+/// The state of a request that was not delivered.
 pub fn life_name(is_live: bool) -> &'static str
     ensures { result.now ≡ spec.life_text is_live }
 {

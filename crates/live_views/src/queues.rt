@@ -1,4 +1,4 @@
-//! What looking lines show of a controller's queues.
+//! Answers about a controller's queues.
 
 ghost use Rattle.std.specs.Prelude.{◌≡◌, ◌++◌, codes, decimal};
 ghost use Rattle.script_text.specs.Pages.{Adds};
@@ -29,7 +29,7 @@ impl Spell for QueuesText<'_> {
     }
 }
 
-/// Puts the queues of one identifier, those that there are.
+/// Puts the existing queues with one identifier.
 fn put_pair<P: Page>(page: &mut P, qid: u16, controller: &Controller) -> Result<(), NoRoom>
     ensures { Adds P.room result (P.written page.old) (pair_text controller.now qid) (P.written page.new) }
 {
@@ -37,7 +37,7 @@ fn put_pair<P: Page>(page: &mut P, qid: u16, controller: &Controller) -> Result<
     put_completion(page, qid, controller.completion_queue(qid))
 }
 
-/// Puts which queue it is, where it lies, and how many entries it has.
+/// Puts a queue's kind and identifier, its address, and its number of entries.
 fn put_queue<P: Page>(
     page: &mut P,
     name: &str,

@@ -1,10 +1,17 @@
-//! What a looking line shows, as a value whose text is the answer.
+//! The answer to a query, as a value with a text.
 
 ghost use Rattle.std.specs.Prelude.{◌≡◌, option_map};
 ghost use Rattle.script_text.specs.Pages.{Adds};
 ghost use Rattle.live_text.specs.Faults.{refusal};
 ghost use Rattle.live_views.specs.Looks.{looked_text, parts_text};
-ghost use Rattle.live_views.specs.Showing.{controller_shown, early_text, help_text, of_controller, reservation_shown, window_shown};
+ghost use Rattle.live_views.specs.Showing.{
+  controller_shown,
+  early_text,
+  help_text,
+  of_controller,
+  reservation_shown,
+  window_shown,
+};
 ghost use Rattle.live_views.specs.Shown.{shown_by};
 
 use crate::commands::FetchedText;
@@ -19,14 +26,14 @@ use nvme_ns::Spaces;
 use nvme_spec::{MOST_BYTES, MediumFault};
 use script_text::{NoRoom, Page, Spell, put_both};
 
-/// What a looking line shows.
+/// The answer to a query.
 #[derive(Clone, Copy)]
 pub enum Shown<'a> {
-    /// Nothing, for this reason.
+    /// A refusal, for this reason.
     Nothing(Refusal<'a>),
     /// The first words of all lines.
     Help,
-    /// How lines are written.
+    /// The form of a line.
     HelpOn(Form),
     Window(WindowText<'a>),
     Register(RegisterText),
@@ -70,14 +77,14 @@ fn put_help<P: Page>(page: &mut P) -> Result<(), NoRoom>
     put_both(page, Keyword::all_texts(), LookingWord::all_texts())
 }
 
-/// Nothing, for this reason, at the line with this number.
+/// A refusal of the line with this number, for this reason.
 pub fn nothing(number: u64, why: Why<'_>) -> Shown<'_>
     ensures { shown_by result ≡ refusal number why.entry }
 {
     Shown::Nothing(Refusal { number, why })
 }
 
-/// What is shown before there is anything to look at.
+/// The answer to a query before there is a subsystem.
 pub fn shown_early<'a>(number: u64, looking: Looking) -> Shown<'a>
     ensures { shown_by result ≡ early_text number looking }
 {
@@ -88,11 +95,11 @@ pub fn shown_early<'a>(number: u64, looking: Looking) -> Shown<'a>
     }
 }
 
-/// What is shown of a window.
-fn window_of(number: u64, place: (u16, u64, u32), controller: &Controller) -> Shown<'_>
-    ensures { shown_by result ≡ window_shown number place.0 place.1 place.2 controller.now }
+/// The answer about a window.
+fn window_of(number: u64, range: (u16, u64, u32), controller: &Controller) -> Shown<'_>
+    ensures { shown_by result ≡ window_shown number range.0 range.1 range.2 controller.now }
 {
-    let (cntlid, address, len) = place;
+    let (cntlid, address, len) = range;
     if len > MOST_BYTES as u32 {
         return nothing(number, Why::OutsideWindow);
     }
@@ -106,7 +113,7 @@ fn window_of(number: u64, place: (u16, u64, u32), controller: &Controller) -> Sh
     }
 }
 
-/// What is shown of a controller.
+/// The answer about a controller.
 pub fn controller_of(number: u64, looking: Looking, controller: &Controller) -> Shown<'_>
     ensures { shown_by result ≡ controller_shown number looking controller.now }
 {
@@ -134,7 +141,7 @@ pub fn controller_of(number: u64, looking: Looking, controller: &Controller) -> 
     }
 }
 
-/// What is shown of a namespace's reservation.
+/// The answer about a namespace's reservation.
 pub fn reservation_of(number: u64, nsid: u32, spaces: &Spaces) -> Shown<'_>
     ensures { shown_by result ≡ reservation_shown number nsid spaces.now }
 {
@@ -148,7 +155,7 @@ pub fn reservation_of(number: u64, nsid: u32, spaces: &Spaces) -> Shown<'_>
     }
 }
 
-/// What is shown of the controller that a line names, if there is one.
+/// The answer about the controller of a query, if there is one.
 fn named(number: u64, looking: Looking, controller: Option<&Controller>) -> Shown<'_>
     ensures { shown_by result ≡ of_controller number (option_map (λ c. c.now) controller.entry)
         (controller_shown number looking) }
@@ -159,8 +166,8 @@ fn named(number: u64, looking: Looking, controller: Option<&Controller>) -> Show
     }
 }
 
-/// What the line with this number shows of a subsystem, one that looks at anything but blocks: of the controller that it
-/// names, if there is one, or of the access state. No driver is there.
+/// The answer to the line with this number, a query of anything but blocks, from the controller that it names, if there
+/// is one, or from the access state. There is no driver.
 pub fn shown_in<'a>(
     number: u64,
     looking: Looking,
@@ -185,16 +192,16 @@ pub fn shown_in<'a>(
     }
 }
 
-/// What the line with this number shows of blocks, by what came of reading them.
+/// The answer to the line with this number about blocks, from the result of reading them.
 pub fn blocks_shown(
     number: u64,
-    place: (u32, u64, u32),
+    range: (u32, u64, u32),
     looked: Option<Result<(), MediumFault>>,
     bytes: &[u8],
 ) -> Shown<'_>
-    ensures { shown_by result ≡ looked_text number place.0 place.1 place.2 bytes.now looked }
+    ensures { shown_by result ≡ looked_text number range.0 range.1 range.2 bytes.now looked }
 {
-    let (nsid, slba, count) = place;
+    let (nsid, slba, count) = range;
     match looked {
         Some(Ok(())) => Shown::Blocks(BlocksText {
             nsid,

@@ -1,9 +1,18 @@
-//! What looking lines show of the access state.
+//! The texts of namespaces, attachments and reservations.
 
 ghost use Rattle.std.specs.Prelude.{◌≡◌, ◌++◌, codes, decimal};
 ghost use Rattle.std.specs.List.{flat_map};
 ghost use Rattle.script_text.specs.Pages.{Adds};
-ghost use Rattle.live_views.specs.Showing.{attached_text, attachment_text, hold_text, host_text, namespace_text, namespaces_text, registrant_text, reservation_text};
+ghost use Rattle.live_views.specs.Showing.{
+  attached_text,
+  attachment_text,
+  hold_text,
+  host_text,
+  namespace_text,
+  namespaces_text,
+  registrant_text,
+  reservation_text,
+};
 
 use crate::names::bit_name;
 use nvme_ns::Namespace;
@@ -24,7 +33,7 @@ impl Spell for NamespacesText<'_> {
     }
 }
 
-/// Puts namespaces, one after the other.
+/// Puts each namespace in order.
 fn put_namespaces<P: Page>(page: &mut P, namespaces: &[Namespace]) -> Result<(), NoRoom>
     ensures { Adds P.room result (P.written page.old) (flat_map namespace_text namespaces.now) (P.written page.new) }
 {
@@ -36,7 +45,7 @@ fn put_namespaces<P: Page>(page: &mut P, namespaces: &[Namespace]) -> Result<(),
     Ok(())
 }
 
-/// Puts where a namespace lies on the medium.
+/// Puts the place of a namespace on the medium.
 fn put_extent<P: Page>(page: &mut P, first: u64, blocks: u64) -> Result<(), NoRoom>
     ensures { Adds P.room result (P.written page.old)
         (codes " first " ++ decimal first ++ codes " blocks " ++ decimal blocks) (P.written page.new) }
@@ -55,7 +64,7 @@ fn put_namespace<P: Page>(page: &mut P, namespace: &Namespace) -> Result<(), NoR
     put_labelled(page, " protected ", u64::from(namespace.protection_state()))
 }
 
-/// What is attached.
+/// All attachments.
 #[derive(Clone, Copy)]
 pub struct AttachedText<'a>(pub &'a [(u16, u32)]);
 
@@ -68,7 +77,7 @@ impl Spell for AttachedText<'_> {
     }
 }
 
-/// Puts attachments, one after the other.
+/// Puts each attachment in order.
 fn put_attachments<P: Page>(page: &mut P, attachments: &[(u16, u32)]) -> Result<(), NoRoom>
     ensures { Adds P.room result (P.written page.old) (flat_map attachment_text attachments.now) (P.written page.new) }
 {
@@ -120,7 +129,7 @@ fn put_host<P: Page>(page: &mut P, host: HostId) -> Result<(), NoRoom>
     put_wide_hex(page, host)
 }
 
-/// Puts who holds a reservation, with its type.
+/// Puts the holder of a reservation, with its type.
 fn put_hold<P: Page>(page: &mut P, hold: Hold) -> Result<(), NoRoom>
     ensures { Adds P.room result (P.written page.old) (hold_text hold) (P.written page.new) }
 {
@@ -138,7 +147,7 @@ fn put_hold<P: Page>(page: &mut P, hold: Hold) -> Result<(), NoRoom>
     }
 }
 
-/// Puts registrants, one after the other.
+/// Puts each registrant in order.
 fn put_registrants<P: Page>(page: &mut P, registrants: &[Registrant]) -> Result<(), NoRoom>
     ensures { Adds P.room result (P.written page.old) (flat_map registrant_text registrants.now) (P.written page.new) }
 {

@@ -1,10 +1,42 @@
--- Fields written one after the other.
-use Rattle.std.proofs.Common.{◌≡◌, ℕ, ◌+◌, ◌-◌, ◌*◌, ◌≤◌, ◌<◌, Bool, true, false, cond, List, [], ◌∷◌, ◌++◌, length, filter, refl, sym, ap, ◌∙◌, arith, length-append, append-nil}
+-- For the answers of `identify.rt`: fields written one after the other.
+use Rattle.std.proofs.Common.{
+  ◌≡◌,
+  ℕ,
+  ◌+◌,
+  ◌-◌,
+  ◌*◌,
+  ◌≤◌,
+  ◌<◌,
+  Bool,
+  true,
+  false,
+  cond,
+  List,
+  [],
+  ◌∷◌,
+  ◌++◌,
+  length,
+  filter,
+  refl,
+  sym,
+  ap,
+  ◌∙◌,
+  arith,
+  length-append,
+  append-nil,
+}
 use Rattle.std.specs.Prelude.{flat_map}
 use Rattle.std.specs.List.{range_with_len}
 use Rattle.std.specs.Int.{w32, to_le_bytes}
 use Rattle.nvme_spec.specs.Bytes.{with_bytes}
-use Rattle.nvme_spec.specs.Identify.{Field, with_fields, no_fields, controller_fields, identify_controller, namespace_list}
+use Rattle.nvme_spec.specs.Identify.{
+  Field,
+  with_fields,
+  no_fields,
+  controller_fields,
+  identify_controller,
+  namespace_list,
+}
 use Rattle.nvme_spec.proofs.Splices.{with_bytes-append}
 use Rattle.std.proofs.lemmas.List.{length-replicate}
 use Rattle.std.proofs.lemmas.List.Elements.{filter-append}
@@ -13,12 +45,14 @@ use Rattle.std.proofs.lemmas.List.FromFn.{length-range_with_len}
 use Rattle.nvme_spec.proofs.PagesJoined.{range-split}
 use Rattle.nvme_admin.specs.Fields.{name_fields, kind_fields, command_fields}
 
-pub with_fields-append : (old : List ℕ) (fs gs : List Field) → with_fields old (fs ++ gs) ≡ with_fields (with_fields old fs) gs
+pub with_fields-append : (old : List ℕ) (fs gs : List Field)
+    → with_fields old (fs ++ gs) ≡ with_fields (with_fields old fs) gs
 with_fields-append old [] gs = refl
 with_fields-append old (f ∷ fs) gs = with_fields-append (with_bytes old f.offset f.bytes) fs gs
 
 -- three parts
-pub parts : (old one two three : List ℕ) (fs gs hs : List Field) → one ≡ with_fields old fs → two ≡ with_fields one gs → three ≡ with_fields two hs
+pub parts : (old one two three : List ℕ) (fs gs hs : List Field) → one ≡ with_fields old fs → two ≡ with_fields one gs
+    → three ≡ with_fields two hs
     → three ≡ with_fields old (fs ++ (gs ++ hs))
 parts old one two three fs gs hs a b c =
     c ∙ ap (λ x. with_fields x hs) b ∙ ap (λ x. with_fields (with_fields x gs) hs) a
@@ -27,7 +61,8 @@ parts old one two three fs gs hs a b c =
 pub whole-controller : (cntlid : ℕ) → controller_fields cntlid ≡ name_fields ++ (kind_fields cntlid ++ command_fields)
 whole-controller cntlid = refl
 
-pub controller : (old one two three : List ℕ) (cntlid : ℕ) → old ≡ no_fields → one ≡ with_fields old name_fields → two ≡ with_fields one (kind_fields cntlid)
+pub controller : (old one two three : List ℕ) (cntlid : ℕ) → old ≡ no_fields → one ≡ with_fields old name_fields
+    → two ≡ with_fields one (kind_fields cntlid)
     → three ≡ with_fields two command_fields → three ≡ identify_controller cntlid
 unfolding identify_controller
 controller old one two three cntlid z a b c =
@@ -73,13 +108,15 @@ below-more p n h =
 few-below : (p : ℕ → Bool) (n : ℕ) → length (below p n) ≤ n - 1
 few-below p n = omega (arith, length-filter-le p (range_with_len 1 (n - 1)), length-range_with_len 1 (n - 1))
 
--- there is room for one more
+-- the list has room for one more identifier
 pub list-room : (p : ℕ → Bool) (n at size : ℕ) → at ≡ 4 * length (below p n) → n < 9 → size ≡ 4096 → at + 4 ≤ size
 list-room p n at size a h s = omega (arith, few-below p n)
 
 -- one more is listed
-pub listed-more : (old structure new : List ℕ) (p : ℕ → Bool) (n at : ℕ) → 1 ≤ n → n < 9 → length old ≡ 4096 → p n ≡ true
-    → structure ≡ with_bytes old 0 (spelled (below p n)) → at ≡ 4 * length (below p n) → new ≡ with_bytes structure at (to_le_bytes w32 n)
+pub listed-more : (old structure new : List ℕ) (p : ℕ → Bool) (n at : ℕ)
+    → 1 ≤ n → n < 9 → length old ≡ 4096 → p n ≡ true
+    → structure ≡ with_bytes old 0 (spelled (below p n)) → at ≡ 4 * length (below p n)
+    → new ≡ with_bytes structure at (to_le_bytes w32 n)
     → (new ≡ with_bytes old 0 (spelled (below p (n + 1)))) × (at + 4 ≡ 4 * length (below p (n + 1)))
 listed-more old structure new p n at h l size passes so_far a e =
     let before : List ℕ = below p n in
@@ -88,7 +125,8 @@ listed-more old structure new p n at h l size passes so_far a e =
     let long : length (spelled before) ≡ at = length-spelled before ∙ sym a in
     let behind : 0 + length (spelled before) ≡ at = omega (arith, long) in
     let few = few-below p n in
-    let fits : 0 + length (spelled before) + length (to_le_bytes w32 n) ≤ length old = omega (arith, long, few, a, size, l) in (
+    let fits : 0 + length (spelled before) + length (to_le_bytes w32 n) ≤ length old =
+    omega (arith, long, few, a, size, l) in (
       e ∙ ap (λ x. with_bytes x at (to_le_bytes w32 n)) so_far
           ∙ ap (λ k. with_bytes (with_bytes old 0 (spelled before)) k (to_le_bytes w32 n)) (sym behind)
           ∙ with_bytes-append old 0 (spelled before) (to_le_bytes w32 n) fits
@@ -102,7 +140,8 @@ listed-same p n h passes =
     let here : filter p (n ∷ []) ≡ [] = rw passes refl in
     below-more p n h ∙ ap (λ rest. below p n ++ rest) here ∙ append-nil (below p n)
 
-pub listed-all : (old structure : List ℕ) (p : ℕ → Bool) (n : ℕ) → old ≡ no_fields → n ≡ 9 → structure ≡ with_bytes old 0 (spelled (below p n))
+pub listed-all : (old structure : List ℕ) (p : ℕ → Bool) (n : ℕ)
+    → old ≡ no_fields → n ≡ 9 → structure ≡ with_bytes old 0 (spelled (below p n))
     → structure ≡ namespace_list (filter p (range_with_len 1 8))
 unfolding namespace_list
 listed-all old structure p n z e h =

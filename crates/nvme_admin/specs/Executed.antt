@@ -1,4 +1,4 @@
--- An execution, by what is answered and what has changed.
+-- An execution by its answer and its changes, for the contract of `execute_admin`.
 use Rattle.std.specs.Prelude.{ℕ, List}
 use Rattle.nvme_spec.specs.World.{World}
 use Rattle.nvme_spec.specs.AdminEffects.{AdminExecution}

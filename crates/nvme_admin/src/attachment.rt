@@ -1,4 +1,4 @@
-//! Namespace Attachment: the Controller List that the host has sent, and what it does.
+//! Namespace Attachment: the Controller List from the host, and its effect.
 
 ghost use Rattle.std.specs.Prelude.{◌≡◌, ◌+◌, ◌*◌, ◌≤◌, length, map, Ok, Err, OnOk, OnErr, IfErr, IsSome};
 ghost use Rattle.std.specs.List.{range_with_len};
@@ -15,14 +15,13 @@ use nvme_ns::Spaces;
 use nvme_prp::{Pieces, gather};
 use nvme_wire::{Sqe, Status};
 
-/// How many bytes a Controller List has.
+/// The length of a Controller List in bytes.
 const LIST: usize = 4096;
 
-/// How many identifiers it has room for, behind their count.
+/// The most identifiers of a list, after their count.
 const LONGEST_LIST: usize = 2047;
 
-/// Attaches the namespace that the entry names, which has to be configured, to the listed controllers, or detaches it
-/// from them.
+/// Attaches the namespace of the entry, which must be configured, to the listed controllers, or detaches it from them.
 ///
 /// # Errors
 ///
@@ -48,7 +47,7 @@ pub fn change_attachments(
     apply_list(spaces, sqe, &list)
 }
 
-/// The same by the bytes of the list.
+/// Attaches or detaches the controllers of this list.
 #[tactic(auto, unfolding(nvme_spec::specs::AdminRules::listed_controllers))]
 fn apply_list(spaces: &mut Spaces, sqe: &Sqe, list: &[u8]) -> Result<(), Status>
     requires configured { IsSome (namespace_of spaces.old (nsid sqe.now)) }
@@ -70,7 +69,7 @@ fn apply_list(spaces: &mut Spaces, sqe: &Sqe, list: &[u8]) -> Result<(), Status>
     }
 }
 
-/// How many controllers a list says that it has.
+/// The number of controllers of a list, by its count.
 #[tactic(auto, unfolding(nvme_spec::specs::AdminRules::list_count))]
 fn count_of(list: &[u8]) -> usize
     requires { 2 ≤ length list.now }
@@ -79,7 +78,7 @@ fn count_of(list: &[u8]) -> usize
     usize::from(LittleEndian::read_u16(&list[..2]))
 }
 
-/// Reads as many identifiers of a list as there is room for.
+/// Reads the first identifiers of a list into `controllers`.
 fn read_controllers(list: &[u8], controllers: &mut [u16])
     requires size { 2 + 2 * length controllers.old ≤ length list.now }
     ensures read { controllers.new

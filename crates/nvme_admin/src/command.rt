@@ -1,4 +1,4 @@
-//! The opcodes of the admin commands, and the data that each moves.
+//! The opcodes of the admin commands, and the data that each transfers.
 
 ghost use Rattle.std.specs.Prelude.{◌≡◌, ◌≤◌};
 ghost use Rattle.nvme_spec.specs.AdminCommands as spec;
@@ -25,7 +25,7 @@ pub fn command_of(opcode: u8) -> Option<AdminCommand>
     }
 }
 
-/// How many bytes of data go between host and controller.
+/// The number of bytes of data between host and controller.
 pub fn data_length(command: AdminCommand, sqe: &Sqe) -> u64
     ensures length { result ≡ spec.data_length command sqe.now }
     ensures few { result ≤ 4096 }

@@ -20,12 +20,11 @@ use nvme_prp::{Pieces, locate};
 use nvme_spec::{AdminCommand, Denial, Queues};
 use nvme_wire::Sqe;
 
-/// Executes an admin command of a controller, by the subsystem, the controller's queues and the host's memory as they
-/// are now.
+/// Executes an admin command of a controller on the access state, the controller's queues and the host's memory.
 ///
 /// A command that a rule denies is answered with the number and the status of the first such rule, and changes nothing.
-/// One that all rules allow takes its effect, and is answered with rule 0. The change of the queues is told, and is the
-/// caller's to make. The data pointer is walked whole before anything changes.
+/// One that all rules allow takes effect, and is answered with rule 0. The caller has to apply the change of the queues
+/// that is returned. The whole data pointer is walked before anything changes.
 pub fn execute_admin(
     spaces: &mut Spaces,
     queues: &Queues,
@@ -42,7 +41,7 @@ pub fn execute_admin(
     }
 }
 
-/// Judges a command, and carries it out where it is allowed.
+/// Judges a command, and performs it if it is allowed.
 ///
 /// # Errors
 ///
@@ -68,7 +67,7 @@ fn perform(
     carry_out(spaces, window, cntlid, sqe, &admitted, &pieces)
 }
 
-/// Carries an admitted command out, whose data lie at these pieces.
+/// Performs an admitted command, whose data are in these pieces.
 ///
 /// # Errors
 ///

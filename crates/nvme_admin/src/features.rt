@@ -19,7 +19,7 @@ use nvme_prp::{Pieces, scatter};
 use nvme_spec::{Denial, Protection, Queues};
 use nvme_wire::{Sqe, Status};
 
-/// Four I/O submission queues and four I/O completion queues, less one each.
+/// The value of Number of Queues: 4 I/O completion queues and 4 I/O submission queues, both as 0-based numbers.
 const ALLOCATED_QUEUES: u32 = 0x0003_0003;
 
 /// Rule 6 of Set Features.
@@ -71,7 +71,7 @@ fn is_protected_until_cycle(namespace: Option<&Namespace>) -> bool
     }
 }
 
-/// The write protection that a state asks for: 0 none, 1 write protected, 2 that until a power cycle.
+/// The write protection of a state: 0 none, 1 write protected, 2 write protected until a power cycle.
 fn protection_of(state: u32) -> Protection
     ensures { result ≡ commands.protection_of state }
 {
@@ -82,7 +82,7 @@ fn protection_of(state: u32) -> Protection
     }
 }
 
-/// The state of a namespace's write protection, 0 where there is no namespace.
+/// The state of a namespace's write protection, 0 if there is no namespace.
 fn state_of(namespace: Option<&Namespace>) -> u32
     ensures { result ≡ effects.protection_value (option_copied namespace.entry) }
 {
@@ -109,8 +109,7 @@ pub fn check_get_features(sqe: &Sqe) -> Result<(), Denial>
     )
 }
 
-/// Sets a feature, and answers double word 0. That a namespace whose write protection is set is configured is the
-/// caller's condition.
+/// Sets a feature, and returns double word 0. A namespace whose write protection is set must be configured.
 #[tactic(auto, unfolding(nvme_spec::specs::AdminEffects::double_word_0, nvme_spec::specs::AdminEffects::world_after))]
 pub fn set_features(spaces: &mut Spaces, sqe: &Sqe) -> u32
     requires named { (commands.fid sqe.now == commands.write_protection) ≡ true
@@ -128,7 +127,7 @@ pub fn set_features(spaces: &mut Spaces, sqe: &Sqe) -> u32
     }
 }
 
-/// Reads a feature: double word 0. The host identifier goes to the data's pieces.
+/// Returns a feature in double word 0, or the host identifier in the data's pieces.
 #[tactic(auto, unfolding(nvme_spec::specs::AdminEffects::double_word_0, nvme_spec::specs::AdminEffects::data_out, nvme_spec::specs::Transfers::with_scattered))]
 pub fn get_features(
     spaces: &Spaces,

@@ -12,7 +12,7 @@ pub const HOST_IDENTIFIER: u8 = 0x81;
 
 pub const WRITE_PROTECTION: u8 = 0x84;
 
-/// The data structures of Identify: a namespace, the controller, the list of the namespaces that are attached to it.
+/// The data structures of Identify: a namespace, the controller, the list of the namespaces attached to it.
 pub const NAMESPACE_STRUCTURE: u8 = 0x00;
 
 pub const CONTROLLER_STRUCTURE: u8 = 0x01;
@@ -27,7 +27,7 @@ pub fn qid(sqe: &Sqe) -> u16
     (sqe.cdw10() & 0xffff) as u16
 }
 
-/// How many entries the queue has, 1 to 65,536: one more than its field says (QSIZE).
+/// The number of entries of the queue, 1 to 65,536: one more than its field (QSIZE).
 #[tactic(auto, unfolding(nvme_spec::specs::AdminCommands::queue_size))]
 pub fn queue_size(sqe: &Sqe) -> u32
     ensures { result ≡ spec.queue_size sqe.now }
@@ -43,7 +43,7 @@ pub fn pc(sqe: &Sqe) -> bool
     sqe.cdw11() & 1 == 1
 }
 
-/// The completion queue that the completions of a submission queue go to (CQID).
+/// The completion queue of a submission queue (CQID).
 #[tactic(auto, unfolding(nvme_spec::specs::AdminCommands::cqid))]
 pub fn cqid(sqe: &Sqe) -> u16
     ensures { result ≡ spec.cqid sqe.now }
@@ -51,7 +51,7 @@ pub fn cqid(sqe: &Sqe) -> u16
     (sqe.cdw11() >> 16) as u16
 }
 
-/// Which data structure Identify asks for (CNS).
+/// The data structure for Identify (CNS).
 #[tactic(auto, unfolding(nvme_spec::specs::AdminCommands::cns))]
 pub fn cns(sqe: &Sqe) -> u8
     ensures { result ≡ spec.cns sqe.now }
@@ -67,7 +67,7 @@ pub fn fid(sqe: &Sqe) -> u8
     (sqe.cdw10() & 0xff) as u8
 }
 
-/// Whether the feature is to be kept through power cycles and resets (SV).
+/// Whether the feature is saved through power cycles and resets (SV).
 #[tactic(auto, unfolding(nvme_spec::specs::AdminCommands::sv))]
 pub fn sv(sqe: &Sqe) -> bool
     ensures { result ≡ spec.sv sqe.now }
@@ -75,7 +75,7 @@ pub fn sv(sqe: &Sqe) -> bool
     sqe.cdw10() >> 31 == 1
 }
 
-/// How many I/O submission queues are requested, less one (NSQR).
+/// The number of I/O submission queues requested, less one (NSQR).
 #[tactic(auto, unfolding(nvme_spec::specs::AdminCommands::nsqr))]
 pub fn nsqr(sqe: &Sqe) -> u16
     ensures { result ≡ spec.nsqr sqe.now }
@@ -83,7 +83,7 @@ pub fn nsqr(sqe: &Sqe) -> u16
     (sqe.cdw11() & 0xffff) as u16
 }
 
-/// How many I/O completion queues are requested, less one (NCQR).
+/// The number of I/O completion queues requested, less one (NCQR).
 #[tactic(auto, unfolding(nvme_spec::specs::AdminCommands::ncqr))]
 pub fn ncqr(sqe: &Sqe) -> u16
     ensures { result ≡ spec.ncqr sqe.now }
@@ -91,8 +91,7 @@ pub fn ncqr(sqe: &Sqe) -> u16
     (sqe.cdw11() >> 16) as u16
 }
 
-/// The write protection that a namespace is to have, 0 to 7: 0 is none, 1 write protected, 2 that until a power cycle
-/// (WPS).
+/// The write protection to set, 0 to 7: 0 is none, 1 write protected, 2 write protected until a power cycle (WPS).
 #[tactic(auto, unfolding(nvme_spec::specs::AdminCommands::wps))]
 pub fn wps(sqe: &Sqe) -> u32
     ensures { result ≡ spec.wps sqe.now }
@@ -100,7 +99,7 @@ pub fn wps(sqe: &Sqe) -> u32
     sqe.cdw11() & 0b111
 }
 
-/// Whether the extended host identifier of 16 bytes is asked for (EXHID).
+/// Whether the host identifier has the extended form of 16 bytes (EXHID).
 #[tactic(auto, unfolding(nvme_spec::specs::AdminCommands::exhid))]
 pub fn exhid(sqe: &Sqe) -> bool
     ensures { result ≡ spec.exhid sqe.now }
@@ -108,7 +107,7 @@ pub fn exhid(sqe: &Sqe) -> bool
     sqe.cdw11() & 1 == 1
 }
 
-/// What Namespace Attachment is to do, 0 to 15: 0 attaches, 1 detaches (SEL).
+/// The operation of a Namespace Attachment, 0 to 15: 0 attaches, 1 detaches (SEL).
 #[tactic(auto, unfolding(nvme_spec::specs::AdminCommands::sel))]
 pub fn sel(sqe: &Sqe) -> u32
     ensures { result ≡ spec.sel sqe.now }

@@ -16,7 +16,7 @@ use nvme_prp::{Pieces, scatter};
 use nvme_spec::OPTIONAL_COMMANDS;
 use nvme_wire::Sqe;
 
-/// How many bytes each structure has.
+/// The length of each structure in bytes.
 const STRUCTURE: usize = 4096;
 
 /// The highest namespace identifier, and the first above it.
@@ -24,7 +24,7 @@ const HIGHEST_NSID: u32 = 8;
 
 const NO_NSID: u32 = 9;
 
-/// Stores the structure that the entry asks for at the data's pieces. It is built once.
+/// Stores the structure of an Identify at the data's pieces. It is built once.
 pub fn identify(spaces: &Spaces, window: &mut Window, cntlid: u16, sqe: &Sqe, pieces: &Pieces)
     requires size { length (addresses pieces.now.parts.items) ≡ 4096 }
     ensures stored { window.new ≡ with_scattered window.old (addresses pieces.now.parts.items)
@@ -48,7 +48,7 @@ fn fill(structure: &mut [u8], spaces: &Spaces, cntlid: u16, sqe: &Sqe)
     }
 }
 
-/// Writes the fields of a namespace, where it is attached to the controller.
+/// Writes the fields of a namespace if it is attached to the controller.
 #[tactic(auto, unfolding(nvme_spec::specs::Identify::identify_namespace))]
 fn fill_attached(structure: &mut [u8], spaces: &Spaces, cntlid: u16, nsid: u32)
     requires zeros { structure.old ≡ spec.no_fields }
@@ -93,7 +93,7 @@ fn fill_controller(structure: &mut [u8], cntlid: u16)
     fill_commands(structure);
 }
 
-/// Writes who made the controller.
+/// Writes the vendor's fields.
 fn fill_names(structure: &mut [u8])
     requires whole { length structure.old ≡ 4096 }
     ensures filled { structure.new ≡ spec.with_fields structure.old name_fields }
@@ -105,7 +105,7 @@ fn fill_names(structure: &mut [u8])
     put_text(structure, 64, 8, b"1.0");
 }
 
-/// Writes what kind of controller it is.
+/// Writes the fields on the kind of controller.
 fn fill_kind(structure: &mut [u8], cntlid: u16)
     requires whole { length structure.old ≡ 4096 }
     ensures filled { structure.new ≡ spec.with_fields structure.old (kind_fields cntlid) }
@@ -126,7 +126,7 @@ fn fill_kind(structure: &mut [u8], cntlid: u16)
     put_u16(structure, 256, 0x0008);
 }
 
-/// Writes what its I/O commands are like.
+/// Writes the fields on its I/O commands.
 fn fill_commands(structure: &mut [u8])
     requires whole { length structure.old ≡ 4096 }
     ensures filled { structure.new ≡ spec.with_fields structure.old command_fields }
@@ -145,7 +145,7 @@ fn fill_commands(structure: &mut [u8])
     put_u8(structure, 531, 3);
 }
 
-/// Writes the identifiers of the namespaces that are attached to the controller, from the first above `nsid` on.
+/// Writes the identifiers above `nsid` of the namespaces attached to the controller.
 #[tactic(auto, unfolding(nvme_spec::specs::Identify::namespace_list))]
 fn fill_list(structure: &mut [u8], spaces: &Spaces, cntlid: u16, nsid: u32)
     requires zeros { structure.old ≡ spec.no_fields }

@@ -1,4 +1,4 @@
-//! Admin commands: the rules that they are judged by, what allowed ones do, and what each is answered with.
+//! Admin commands: their rules, the effects of allowed ones, and their answers.
 #![tactic(auto)]
 
 mod attachment;

@@ -1,4 +1,4 @@
-//! What the execution of an admin command answers.
+//! The outcome of an executed admin command.
 
 ghost use Rattle.std.specs.Prelude.{◌≡◌};
 ghost use Rattle.nvme_spec.specs.declared.queues.QueueChange.TheVariants.{Keep};
@@ -7,16 +7,16 @@ ghost use Rattle.nvme_spec.specs.Statuses as status;
 use nvme_spec::{Denial, QueueChange};
 use nvme_wire::Status;
 
-/// What the execution of an admin command answers, besides what it changed.
+/// The answer to an admin command, apart from what it changed.
 #[derive(Clone, Copy, Debug, PartialEq, Eq)]
 pub struct AdminOutcome {
     /// The status of the completion queue entry.
     pub status: Status,
     /// Double word 0 of the completion queue entry.
     pub dw0: u32,
-    /// The number of the rule that denied the command, or 0 where it was allowed.
+    /// The number of the rule that denied the command, or 0 if it was allowed.
     pub rule: u8,
-    /// What is to become of the controller's queues. It is told, not done.
+    /// The change of the controller's queues, which the caller has to apply.
     pub change: QueueChange,
 }
 
@@ -33,7 +33,7 @@ impl AdminOutcome {
         }
     }
 
-    /// A command that was carried out.
+    /// A command that was performed.
     pub fn completed(dw0: u32, change: QueueChange) -> Self
         ensures { result ≡ record { status = status.successful_completion; dw0 = dw0; rule = 0; change = change } }
     {

@@ -1,7 +1,12 @@
-//! Rule 6 of the commands that create and delete queues, and what these do to the queues.
+//! Rule 6 of the commands that create and delete queues, and their changes of the queues.
 
 ghost use Rattle.std.specs.Prelude.{◌≡◌, ◌≤◌, [], ◌∷◌, Ok, Err, OnOk, IfOk, IfErr};
-ghost use Rattle.nvme_spec.specs.declared.command.AdminCommand.TheVariants.{DeleteSubmissionQueue, CreateSubmissionQueue, DeleteCompletionQueue, CreateCompletionQueue};
+ghost use Rattle.nvme_spec.specs.declared.command.AdminCommand.TheVariants.{
+  DeleteSubmissionQueue,
+  CreateSubmissionQueue,
+  DeleteCompletionQueue,
+  CreateCompletionQueue,
+};
 ghost use Rattle.nvme_spec.specs.AdminRules as rules;
 ghost use Rattle.nvme_spec.specs.AdminEffects as effects;
 ghost use Rattle.nvme_spec.specs.AdminCommands as commands;
@@ -19,7 +24,7 @@ const IO_QUEUES: [u16; 4] = [1, 2, 3, 4];
 
 const HIGHEST_QUEUE: u16 = 4;
 
-/// The fewest and the most entries of a queue.
+/// The smallest and the largest number of entries of a queue.
 const FEWEST_ENTRIES: u32 = 2;
 
 const MOST_ENTRIES: u32 = 64;
@@ -58,14 +63,14 @@ fn has_submission_queue(queues: &Queues, qid: u16) -> bool
     }
 }
 
-/// Whether some submission queue's completions go to this queue.
+/// Whether any submission queue uses this completion queue.
 fn is_used(queues: &Queues, qid: u16) -> bool
     ensures { result ≡ existing.is_used queues.now qid }
 {
     queues.sq.iter().any(|cqid| *cqid == Some(qid))
 }
 
-/// Whether the identifier is no I/O queue's.
+/// Whether the identifier is outside the range of I/O queues.
 fn is_foreign(qid: u16) -> bool
     ensures { result ≡ rules.is_foreign qid }
 {
@@ -127,7 +132,7 @@ fn check_size(sqe: &Sqe) -> Result<(), Denial>
     )
 }
 
-/// The queue begins a page, and lies in the window. Its entries have this width.
+/// The queue begins a page, and is in the window. Its entries have this width.
 #[tactic(auto, unfolding(nvme_spec::specs::Rules::judgement_by))]
 fn check_base(sqe: &Sqe, width: u64) -> Result<(), Denial>
     requires { width ≤ 64 }
@@ -170,11 +175,11 @@ fn check_completion_deletion(queues: &Queues, sqe: &Sqe) -> Result<(), Denial>
     deny_if(is_used(queues, qid), 6, Status::INVALID_QUEUE_DELETION)
 }
 
-/// Create I/O Completion Queue: the queue that is made.
+/// Create I/O Completion Queue: the new queue.
 ///
 /// # Errors
 ///
-/// Rule 6, where a field has a value that the command does not take.
+/// Rule 6, if a field has a value that the command does not accept.
 #[tactic(auto, unfolding(nvme_spec::specs::AdminEffects::queue_change))]
 pub fn create_completion_queue(queues: &Queues, sqe: &Sqe) -> Result<QueueChange, Denial>
     ensures passed { OnOk result (judgement_by (rules.completion_queue_rule queues.now sqe.now) ≡ Ok tt) }
@@ -189,11 +194,11 @@ pub fn create_completion_queue(queues: &Queues, sqe: &Sqe) -> Result<QueueChange
     })
 }
 
-/// Create I/O Submission Queue: the queue that is made.
+/// Create I/O Submission Queue: the new queue.
 ///
 /// # Errors
 ///
-/// Rule 6, where a field has a value that the command does not take.
+/// Rule 6, if a field has a value that the command does not accept.
 #[tactic(auto, unfolding(nvme_spec::specs::AdminEffects::queue_change))]
 pub fn create_submission_queue(queues: &Queues, sqe: &Sqe) -> Result<QueueChange, Denial>
     ensures passed { OnOk result (judgement_by (rules.submission_queue_rule queues.now sqe.now) ≡ Ok tt) }
@@ -209,11 +214,11 @@ pub fn create_submission_queue(queues: &Queues, sqe: &Sqe) -> Result<QueueChange
     })
 }
 
-/// Delete I/O Submission Queue: the queue that is dropped.
+/// Delete I/O Submission Queue: the deleted queue.
 ///
 /// # Errors
 ///
-/// Rule 6, where there is no such queue.
+/// Rule 6, if there is no such queue.
 #[tactic(auto, unfolding(nvme_spec::specs::AdminEffects::queue_change))]
 pub fn delete_submission_queue(queues: &Queues, sqe: &Sqe) -> Result<QueueChange, Denial>
     ensures passed { OnOk result (judgement_by (rules.submission_deletion_rule queues.now sqe.now) ≡ Ok tt) }
@@ -224,11 +229,11 @@ pub fn delete_submission_queue(queues: &Queues, sqe: &Sqe) -> Result<QueueChange
     Ok(QueueChange::DropSq(fields::qid(sqe)))
 }
 
-/// Delete I/O Completion Queue: the queue that is dropped.
+/// Delete I/O Completion Queue: the deleted queue.
 ///
 /// # Errors
 ///
-/// Rule 6, where there is no such queue, or a submission queue uses it.
+/// Rule 6, if there is no such queue, or a submission queue uses it.
 #[tactic(auto, unfolding(nvme_spec::specs::AdminEffects::queue_change))]
 pub fn delete_completion_queue(queues: &Queues, sqe: &Sqe) -> Result<QueueChange, Denial>
     ensures passed { OnOk result (judgement_by (rules.completion_deletion_rule queues.now sqe.now) ≡ Ok tt) }

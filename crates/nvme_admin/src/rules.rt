@@ -1,6 +1,21 @@
-//! The rules that an admin command has to pass before its data are looked at, one function each.
+//! The rules that an admin command has to pass before those on its data, one function each.
 
-ghost use Rattle.std.specs.Prelude.{◌≡◌, ◌==◌, ◌&&◌, not, is_some, true, Ok, Err, Some, OnOk, IfOk, IfErr, IsSome, option_copied};
+ghost use Rattle.std.specs.Prelude.{
+  ◌≡◌,
+  ◌==◌,
+  ◌&&◌,
+  not,
+  is_some,
+  true,
+  Ok,
+  Err,
+  Some,
+  OnOk,
+  IfOk,
+  IfErr,
+  IsSome,
+  option_copied,
+};
 ghost use Rattle.nvme_wire.specs.Submission as entry;
 ghost use Rattle.nvme_spec.specs.declared.command.AdminCommand.TheVariants.{SetFeatures, NamespaceAttachment};
 ghost use Rattle.nvme_spec.specs.AdminCommands as commands;
@@ -30,7 +45,7 @@ const NO_LIST: u32 = 0xffff_fffe;
 #[derive(Clone, Copy, Debug)]
 pub struct Admitted {
     pub command: AdminCommand,
-    /// What becomes of the queues.
+    /// The change of the queues.
     pub change: QueueChange,
 }
 
@@ -57,7 +72,7 @@ pub fn admit(spaces: &Spaces, queues: &Queues, cntlid: u16, sqe: &Sqe) -> Result
     Ok(Admitted { command, change })
 }
 
-/// Rule 2: the opcode is an admin command's.
+/// Rule 2: the opcode is that of an admin command.
 #[tactic(auto, unfolding(nvme_spec::specs::IoRules::opcode_rule, nvme_spec::specs::Rules::judgement_by))]
 fn check_opcode(sqe: &Sqe) -> Result<AdminCommand, Denial>
     ensures named { IfOk result (λ command. commands.command_of (entry.opcode sqe.now) ≡ Some command) }
@@ -95,7 +110,7 @@ fn names_namespace(command: AdminCommand, sqe: &Sqe) -> bool
     }
 }
 
-/// Whether the command asks for a list of namespaces.
+/// Whether the command is an Identify of a list of namespaces.
 fn asks_for_list(command: AdminCommand, sqe: &Sqe) -> bool
     ensures { result ≡ commands.asks_for (Some command) commands.namespace_list_structure sqe.now }
 {
@@ -139,7 +154,7 @@ fn check_attachment(
     )
 }
 
-/// Whether a namespace that has to be attached is not.
+/// Whether a namespace that must be attached is not.
 fn lacks_attachment(command: AdminCommand, spaces: &Spaces, cntlid: u16, sqe: &Sqe) -> bool
     ensures { result ≡ (commands.names_feature (Some command) commands.write_protection sqe.now
         && not (is_some (namespace_of spaces.now (entry.nsid sqe.now))
@@ -150,7 +165,7 @@ fn lacks_attachment(command: AdminCommand, spaces: &Spaces, cntlid: u16, sqe: &S
         && !(spaces.namespace(nsid).is_some() && spaces.is_attached(cntlid, nsid))
 }
 
-/// Rule 6: each field has a value that the command takes. Answers what becomes of the queues then.
+/// Rule 6: each field has a value that the command accepts. Returns the change of the queues.
 #[tactic(auto, unfolding(nvme_spec::specs::AdminEffects::queue_change))]
 fn check_fields(
     command: AdminCommand,
@@ -201,7 +216,7 @@ fn check_selection(namespace: Option<&Namespace>, sqe: &Sqe) -> Result<(), Denia
     deny_if(namespace.is_none(), 6, Status::INVALID_FIELD_IN_COMMAND)
 }
 
-/// Rule 7: the reservation permits the issuing host to write, where it would change attachments.
+/// Rule 7: the reservation permits the command's host to write, if the command would change attachments.
 #[tactic(auto, unfolding(nvme_spec::specs::AdminRules::reservation_rule))]
 fn check_reservation(
     command: AdminCommand,

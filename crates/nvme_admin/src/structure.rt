@@ -1,4 +1,4 @@
-//! Data structures of little-endian fields, written into bytes.
+//! Data structures of little-endian fields, as bytes.
 
 ghost use Rattle.std.specs.Prelude.{◌≡◌, ◌+◌, ◌-◌, ◌<◌, ◌≤◌, [], ◌∷◌, ◌++◌, length, replicate};
 ghost use Rattle.std.specs.Int.{w16, w32, w64, to_le_bytes};
@@ -38,7 +38,7 @@ pub fn put_u64(structure: &mut [u8], at: usize, value: u64)
     LittleEndian::write_u64(&mut structure[at..at + 8], value);
 }
 
-/// Writes ASCII text into a field of so many bytes, with spaces behind it.
+/// Writes ASCII text into a field of `size` bytes, filled with spaces.
 pub fn put_text(structure: &mut [u8], at: usize, size: usize, text: &[u8])
     requires short { length text.now ≤ size }
     requires inside { at + size ≤ length structure.old }

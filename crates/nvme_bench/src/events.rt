@@ -1,5 +1,5 @@
-//! The events of one controller, and of sixteen, beside plain copies of as many bytes: first by a host's own stores and
-//! register writes, then by its driver.
+//! The events of a host, with one controller and with sixteen, first by its own stores and register writes, then by its
+//! driver; and plain copies of the same number of bytes.
 
 mod batch;
 mod copies;
@@ -12,14 +12,14 @@ use host::Host;
 use std::io;
 use std::rt::Clock;
 
-/// The commands of the host of a subsystem: how they are called, and their kind.
+/// The commands of the host of a subsystem: their names and kinds.
 const COMMANDS: [(&str, host::Kind); 3] = [
     ("one-block reads", host::Kind::Small),
     ("denied reads", host::Kind::Denied),
     ("256-block reads", host::Kind::Large),
 ];
 
-/// The requests of the host of a fleet.
+/// The requests of the host of a fleet: their names and kinds.
 const REQUESTS: [(&str, driven::Kind); 5] = [
     ("one-block reads", driven::Kind::SmallRead),
     ("one-block writes", driven::Kind::SmallWrite),
@@ -52,7 +52,7 @@ fn by_a_driver<R: Clock + AllocGlobal + Print>(rt: &R, rounds: u32) -> io::Resul
     Ok(())
 }
 
-/// Prints what the events of a command take, behind its name and the number of controllers, or passes on what went wrong.
+/// Prints the name, the number of controllers, and what the events of a command take; or returns the error.
 fn tell<R: Print>(
     rt: &R,
     name: &str,
@@ -63,7 +63,7 @@ fn tell<R: Print>(
     println!(rt; "{name}, last of {controllers}: {times}")
 }
 
-/// The commands of the host of the last of so many controllers.
+/// The commands of the host of the last controller.
 fn commands<R: Clock + AllocGlobal + Print>(
     rt: &R,
     controllers: u16,
@@ -75,7 +75,7 @@ fn commands<R: Clock + AllocGlobal + Print>(
     Ok(())
 }
 
-/// What a command takes by the host's own stores.
+/// The time of a command that the host submits by its own stores.
 fn sent<R: Clock + AllocGlobal>(
     rt: &R,
     controllers: u16,
@@ -86,7 +86,7 @@ fn sent<R: Clock + AllocGlobal>(
     quickest(rt, &mut host, rounds)
 }
 
-/// The requests of the last of so many hosts.
+/// The requests of the last host.
 fn requests<R: Clock + AllocGlobal + Print>(rt: &R, hosts: u16, rounds: u32) -> io::Result<()> {
     for (name, kind) in REQUESTS {
         tell(rt, name, hosts, placed(rt, hosts, kind, rounds))?;
@@ -94,7 +94,7 @@ fn requests<R: Clock + AllocGlobal + Print>(rt: &R, hosts: u16, rounds: u32) -> 
     Ok(())
 }
 
-/// What a request takes by the host's driver.
+/// The time of a request through the host's driver.
 fn placed<R: Clock + AllocGlobal>(
     rt: &R,
     hosts: u16,

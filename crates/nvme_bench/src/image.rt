@@ -1,4 +1,4 @@
-//! Transfers of 256 blocks over an image beside plain calls that move as many bytes.
+//! Transfers of 256 blocks over an image, and plain system calls for the same number of bytes.
 
 ghost use Rattle.std.specs.Prelude.{◌<◌};
 
@@ -11,7 +11,7 @@ use std::os::unix::fs::FileExt;
 use std::rt::{Clock, Files};
 use std::time::Instant;
 
-/// A transfer of 256 blocks.
+/// The blocks of a transfer.
 const BLOCKS: u64 = 256;
 
 /// Measures each transfer, and prints a line for each.
@@ -25,7 +25,7 @@ pub(crate) fn all<R: Clock + AllocGlobal + Print + Files<File = File>>(
     tell(rt, "copy of 256 blocks", copies(rt, rounds))
 }
 
-/// Measures transfers as the program makes them.
+/// Measures transfers as the programs make them.
 fn through_a_cache<R: Clock + AllocGlobal + Print + Files<File = File>>(
     rt: &R,
     image: &str,
@@ -50,7 +50,7 @@ fn over_an_image<R: Clock + Print, M: Medium>(
     tell(rt, "read of 256 blocks, all kept", kept)
 }
 
-/// Measures calls of the system on as many bytes.
+/// Measures system calls for the same number of bytes.
 fn by_the_system<R: Clock + AllocGlobal + Print + Files<File = File>>(
     rt: &R,
     image: &str,
@@ -61,7 +61,7 @@ fn by_the_system<R: Clock + AllocGlobal + Print + Files<File = File>>(
     by_plain_calls(rt, &file, bytes.as_mut_slice(), rounds)
 }
 
-/// A block in each call, or all in one.
+/// One call per block, or one call for all.
 fn by_plain_calls<R: Clock + Print>(
     rt: &R,
     file: &File,
@@ -78,7 +78,7 @@ fn by_plain_calls<R: Clock + Print>(
     tell(rt, "one call of pread", read)
 }
 
-/// An image behind a cache of 256 blocks, as the program uses it.
+/// An image with a cache of 256 blocks, as the programs use it.
 fn cached_image<R: AllocGlobal + Files<File = File>>(
     rt: &R,
     image: &str,
@@ -91,7 +91,7 @@ fn cached_image<R: AllocGlobal + Files<File = File>>(
     ))
 }
 
-/// Writes the first 256 blocks and the next ones in turn.
+/// Writes the first 256 blocks and the next 256 in turn.
 fn writes<R: Clock, M: Medium>(
     rt: &R,
     medium: &mut M,
@@ -112,7 +112,7 @@ fn writes<R: Clock, M: Medium>(
     since(rt, start, rounds, sum)
 }
 
-/// Reads the first 256 blocks, and the next ones in turn where that is asked.
+/// Reads the first 256 blocks; with `in_turn` these and the next 256 in turn.
 fn reads<R: Clock, M: Medium>(
     rt: &R,
     medium: &mut M,
@@ -134,7 +134,7 @@ fn reads<R: Clock, M: Medium>(
     since(rt, start, rounds, sum)
 }
 
-/// Writes as many bytes by calls of the system, so many in each.
+/// Writes the same number of bytes by system calls of `part` bytes each.
 fn plain_writes<R: Clock>(
     rt: &R,
     file: &File,
@@ -156,7 +156,7 @@ fn plain_writes<R: Clock>(
     since(rt, start, rounds, sum)
 }
 
-/// Reads as many bytes by calls of the system, so many in each.
+/// Reads the same number of bytes by system calls of `part` bytes each.
 fn plain_reads<R: Clock>(
     rt: &R,
     file: &File,

@@ -1,6 +1,5 @@
-//! `nvme_bench WHAT ROUNDS` measures a part of the product beside plain work on as many bytes. `WHAT` is one of
-//! `pointers`, `transfers`, `events` and `text`, or `image`, behind which stands the name of an image of 512 blocks at
-//! least.
+//! `nvme_bench WHAT ROUNDS` measures a part of the product, and plain work on the same number of bytes. `WHAT` is
+//! `pointers`, `transfers`, `events` or `text`; or `image`, followed by the name of an image of at least 512 blocks.
 #![tactic(auto)]
 
 mod events;
@@ -45,7 +44,7 @@ fn main(rt: HostRuntime) -> io::Result<()> {
     }
 }
 
-/// The task that stands behind the program's name.
+/// The task of the command line.
 fn task_in<R: Env + AllocGlobal>(rt: &R) -> io::Result<Option<Task>> {
     let mut words = env::args(rt)?.skip(1);
     let Some(name) = words.next() else {

@@ -1,4 +1,4 @@
-//! What is opened before anything is measured: a configuration, a medium, and a window with a list of pages.
+//! What is opened before the measurements: a configuration, a medium, and a window with a PRP list.
 
 use nvme_medium::MemMedium;
 use nvme_mem::Window;
@@ -6,12 +6,12 @@ use nvme_spec::{Config, ControllerConfig, HostId, NsConfig};
 use std::alloc::Global;
 use std::io;
 
-/// Where a list of pages lies, and its first page.
+/// The address of the PRP list, and that of the first page in it.
 pub(crate) const LIST: u64 = 0x1000;
 
 pub(crate) const PAGES: u64 = 0x10000;
 
-/// The memory that something asks for was refused.
+/// Memory was refused.
 pub(crate) fn want_of_memory() -> io::Error {
     io::Error::from(io::ErrorKind::OutOfMemory)
 }
@@ -39,13 +39,13 @@ pub(crate) fn configuration(alloc: Global, controllers: u16) -> io::Result<Confi
     Ok(config)
 }
 
-/// 256 blocks of bytes 1.
+/// 256 blocks, each byte of which is 1.
 pub(crate) fn medium(alloc: Global) -> io::Result<MemMedium> {
     let blocks = vec![in alloc; 1; 131_072]?;
     MemMedium::new(alloc, blocks.as_slice()).map_err(|_| want_of_memory())
 }
 
-/// A window with a list of 31 pages.
+/// A window with a PRP list of 31 pages.
 pub(crate) fn listed_window(alloc: Global) -> io::Result<Window> {
     let mut window = Window::new(alloc).map_err(|_| want_of_memory())?;
     for i in 0..31 {

@@ -1,4 +1,4 @@
-//! Data pointers beside plain copies of as many bytes.
+//! Data pointers, and plain copies of the same number of bytes.
 
 ghost use Rattle.std.specs.Prelude.{◌≡◌, length};
 ghost use Rattle.nvme_spec.specs.Transfers.{addresses};
@@ -20,7 +20,7 @@ pub(crate) fn all<R: Clock + AllocGlobal + Print>(rt: &R, rounds: u32) -> io::Re
     tell(rt, "copy of a block", block_copies(rt, rounds))
 }
 
-/// Measures what moves a block by the list of pages.
+/// Measures the transfer of a block by the PRP list.
 fn moves<R: Clock + Print>(rt: &R, window: &mut Window, rounds: u32) -> io::Result<()> {
     if let Ok(pieces) = walk(window, PAGES, LIST, 131_072) {
         tell(
@@ -37,7 +37,7 @@ fn moves<R: Clock + Print>(rt: &R, window: &mut Window, rounds: u32) -> io::Resu
     Ok(())
 }
 
-// Not inlined, so that what stands around it does not change what a walk costs.
+// Not inlined, so that the code around a walk does not change its time.
 #[inline(never)]
 fn walks<R: Clock>(rt: &R, window: &Window, rounds: u32) -> io::Result<Measured> {
     let mut sum = 0_u64;

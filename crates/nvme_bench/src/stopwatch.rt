@@ -1,4 +1,4 @@
-//! How long calls take, and plain copies to compare them with.
+//! Times of calls, and of plain copies for comparison.
 
 use std::rt::Clock;
 use std::time::Instant;
@@ -7,7 +7,7 @@ use std::{fmt, io};
 /// The bytes of a transfer of 256 blocks.
 pub(crate) const BYTES: usize = 131_072;
 
-/// How long each call took, and a sum over what the calls did, so that none of them can be left out.
+/// The time of all rounds of a call, and a sum over the results, so that the compiler can't leave out a call.
 #[derive(Clone, Copy)]
 pub(crate) struct Measured {
     nanoseconds: u128,
@@ -22,14 +22,14 @@ impl fmt::Display for Measured {
     }
 }
 
-/// Prints what was measured, behind its name, or passes on what went wrong. It has the one `println!` of these lines,
-/// and the one `?`, since each makes the proof of its function longer.
+/// Prints a name and its measurement, or returns the error. It has the only `println!` and the only `?` for these
+/// lines, since each of them makes the proof of its function longer.
 pub(crate) fn tell<R: Print>(rt: &R, name: &str, measured: io::Result<Measured>) -> io::Result<()> {
     let measured = measured?;
     println!(rt; "{name}: {measured}")
 }
 
-/// The time since a start.
+/// The time since `start`, in which `rounds` rounds ran.
 pub(crate) fn since<R: Clock>(
     rt: &R,
     start: Instant,

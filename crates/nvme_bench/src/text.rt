@@ -1,4 +1,4 @@
-//! The text of scripts and transcripts beside plain work on as many bytes.
+//! The text of scripts and transcripts, and plain work on the same number of bytes.
 
 use crate::stopwatch::{BYTES, Measured, since, tell};
 use nvme_grammar::{Buffers, parse};
@@ -15,7 +15,7 @@ struct Kind {
     line: &'static [u8],
 }
 
-/// Lines of each kind, each short.
+/// One short line of each kind.
 const KINDS: [Kind; 6] = [
     Kind {
         name: "1,000 reads",
@@ -56,7 +56,7 @@ pub(crate) fn all<R: Clock + AllocGlobal + Print>(rt: &R, rounds: u32) -> io::Re
     Ok(())
 }
 
-/// Data put into digits and read from them, beside a copy.
+/// Data written as digits and read from them, and a plain copy.
 fn data<R: Clock + AllocGlobal + Print>(
     rt: &R,
     bytes: &[u8],
@@ -68,7 +68,7 @@ fn data<R: Clock + AllocGlobal + Print>(
     tell(rt, "copy of these digits", copied(rt, digits, rounds))
 }
 
-/// Zeros, which are not shown, beside a scan.
+/// Zeros, which are not written out, and a plain scan.
 fn no_data<R: Clock + AllocGlobal + Print>(rt: &R, zeros: &[u8], rounds: u32) -> io::Result<()> {
     tell(rt, "256 blocks of zeros", shown(rt, zeros, rounds))?;
     tell(rt, "scan of these zeros", scanned(rt, zeros, rounds))
@@ -80,7 +80,7 @@ fn lines<R: Clock + AllocGlobal + Print>(rt: &R, kind: &Kind, rounds: u32) -> io
     tell(rt, kind.name, parsed(rt, text.as_slice(), rounds))
 }
 
-/// Bytes without an order that a processor could guess, none of them 0.
+/// Nonzero bytes in an order that no branch predictor learns.
 fn noise(alloc: Global) -> Result<Vec<u8>, AllocError> {
     let mut bytes = Vec::with_capacity(alloc, BYTES)?;
     let mut state = 1_u32;
@@ -91,7 +91,7 @@ fn noise(alloc: Global) -> Result<Vec<u8>, AllocError> {
     Ok(bytes)
 }
 
-/// `hex:` and the digits of some bytes.
+/// `hex:` and the digits of these bytes.
 fn digits(alloc: Global, bytes: &[u8]) -> io::Result<Vec<u8>> {
     let mut word = Vec::new(alloc);
     word.extend_from_slice(b"hex:")?;
@@ -101,7 +101,7 @@ fn digits(alloc: Global, bytes: &[u8]) -> io::Result<Vec<u8>> {
     Ok(word)
 }
 
-/// Puts bytes as digits in place of what a text has.
+/// Replaces the content of a text with bytes in hexadecimal.
 fn put(text: &mut Text, bytes: &[u8]) -> io::Result<()> {
     text.clear();
     match HexText(bytes).spell(text) {
@@ -155,7 +155,7 @@ fn scanned<R: Clock>(rt: &R, bytes: &[u8], rounds: u32) -> io::Result<Measured> 
     since(rt, start, rounds, sum)
 }
 
-/// How many chunks of 16 zeros stand at the front.
+/// The number of chunks of 16 zeros that the bytes begin with.
 fn zero_chunks(bytes: &[u8]) -> u64 {
     let mut rest = bytes;
     let mut count = 0_u64;

@@ -1,12 +1,12 @@
-//! Commands on 256 blocks, and the comparison of a block, beside plain work on as many bytes.
+//! Commands on 256 blocks, the comparison of a block, and plain work on the same number of bytes.
 
 ghost use Rattle.std.specs.Prelude.{IfOk};
 ghost use Rattle.nvme_exec.specs.Carrying.{CanExecute};
 
 use crate::opening::{LIST, PAGES, configuration, listed_window, want_of_memory};
 use crate::stopwatch::{BYTES, Measured, copies, since, tell};
-use nvme_exec::{execute, lanes_equal};
-use nvme_medium::{Medium, MemMedium};
+use nvme_exec::execute;
+use nvme_medium::{Medium, MemMedium, lanes_equal};
 use nvme_mem::Window;
 use nvme_ns::Spaces;
 use nvme_wire::{Sqe, SqeFields};
@@ -15,7 +15,7 @@ use std::io;
 use std::rt::Clock;
 use std::time::Instant;
 
-/// The commands that are measured, with their opcodes.
+/// The measured commands, with their opcodes.
 const COMMANDS: [(&str, u8); 3] = [
     ("Write of 256 blocks", 0x01),
     ("Read of 256 blocks", 0x02),
@@ -53,7 +53,7 @@ struct Bench<M> {
     window: Window,
 }
 
-/// The bench over a medium.
+/// The same over any medium.
 fn bench_over<M: Medium + Drop>(alloc: Global, medium: M) -> io::Result<Bench<M>>
     ensures ready { IfOk result (λ bench. CanExecute bench.spaces (M.size bench.medium) 1) }
 {
@@ -71,7 +71,7 @@ fn bench_over<M: Medium + Drop>(alloc: Global, medium: M) -> io::Result<Bench<M>
     })
 }
 
-/// A command on all blocks of the namespace, by a list of pages.
+/// A command on all blocks of the namespace, with a PRP list.
 fn entry(opcode: u8) -> Sqe {
     Sqe::from(SqeFields {
         opcode,
@@ -105,7 +105,7 @@ fn executions<R: Clock, M: Medium>(
     since(rt, start, rounds, sum)
 }
 
-/// Executes an entry, and gives its status code.
+/// Executes an entry, and returns its status code.
 fn execute_once<M: Medium>(bench: &mut Bench<M>, sqe: &Sqe) -> u64
     requires ready { CanExecute bench.old.spaces (M.size bench.old.medium) 1 }
     ensures ready { CanExecute bench.new.spaces (M.size bench.new.medium) 1 }

@@ -9,8 +9,7 @@ ghost use Rattle.nvme_machine.specs.Controllers.{completion_slot, with_head};
 use nvme_ring::CqTail;
 use std::marker::Model;
 
-/// A completion queue: its address in host memory, and its tail. It lies in host memory. Contracts see it as the record
-/// of these.
+/// A completion queue: its address and its tail. It is in host memory. Contracts see it as the record of these.
 #[derive(Clone, Copy, Debug)]
 pub struct CompletionQueue {
     base: u64,
@@ -31,8 +30,7 @@ impl Model for CompletionQueue {
 }
 
 impl CompletionQueue {
-    /// An empty queue of `size` entries at `base`. That it begins a page, lies in host memory and has 2 to 64 entries
-    /// is the caller's condition.
+    /// An empty queue of `size` entries, 2 to 64, at `base`, which must begin a page. The queue must be in host memory.
     pub fn new(base: u64, size: u16) -> Self
         requires { IsQueuePlace base size 16 }
         ensures { result ≡ record { base = base; tail = empty_completion_tail size } }
@@ -50,7 +48,7 @@ impl CompletionQueue {
         self.base
     }
 
-    /// How many entries it has.
+    /// The number of entries.
     pub fn size(&self) -> u16
         ensures { result ≡ self.now.tail.size }
     {
@@ -64,7 +62,7 @@ impl CompletionQueue {
         self.tail.slot()
     }
 
-    /// The head, as its host has told it: the slot of the first completion that it has not consumed.
+    /// The head, by its host's doorbell: the slot of the first completion that the host has not consumed.
     pub fn head(&self) -> u16
         ensures { result ≡ ahead self.now.tail.size (slot_of self.now.tail.size self.now.tail.posted)
             self.now.tail.unread }
@@ -80,8 +78,8 @@ impl CompletionQueue {
     }
 
     /// The address of the next completion.
-    pub fn place(&self) -> u64
-        ensures place { result ≡ completion_slot self.now }
+    pub fn entry_address(&self) -> u64
+        ensures address { result ≡ completion_slot self.now }
         ensures inside { result + 16 ≤ window_size }
     {
         self.base + 16 * u64::from(self.tail.slot())
@@ -94,7 +92,7 @@ impl CompletionQueue {
         self.tail.phase()
     }
 
-    /// The next completion is posted. That there is room is the caller's condition.
+    /// Posts the next completion, for which there must be room.
     pub fn advance(&mut self)
         requires { 0 < completion_room self.old.tail }
         ensures { self.new ≡ record self.old { tail = after_post self.old.tail } }

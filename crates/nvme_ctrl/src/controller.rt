@@ -1,4 +1,4 @@
-//! The controller as its host drives it.
+//! The controller, with the operations of its host.
 
 ghost use Rattle.std.specs.Prelude.{◌≡◌, IfOk};
 ghost use Rattle.nvme_spec.specs.Registers.{value_at};
@@ -47,7 +47,7 @@ impl Controller {
     ///
     /// # Errors
     ///
-    /// `NoMemory` where the allocator has no room for the window.
+    /// `NoMemory` if memory for the window is refused.
     pub fn new(alloc: Global, cntlid: u16) -> Result<Controller, NoMemory>
         ensures { IfOk result (λ controller. controller ≡ new_controller cntlid) }
     {
@@ -61,28 +61,28 @@ impl Controller {
         })
     }
 
-    /// The submission queue of an identifier, where there is one.
+    /// The submission queue with an identifier, if there is one.
     pub fn submission_queue(&self, qid: u16) -> Option<SubmissionQueue>
         ensures { result ≡ submission_at self.now qid }
     {
         queue_at(&self.submission, qid)
     }
 
-    /// The completion queue of an identifier, where there is one.
+    /// The completion queue with an identifier, if there is one.
     pub fn completion_queue(&self, qid: u16) -> Option<CompletionQueue>
         ensures { result ≡ completion_at self.now qid }
     {
         queue_at(&self.completion, qid)
     }
 
-    /// The commands that were fetched and not executed, in the order in which they were fetched.
+    /// The commands that were fetched and not yet executed, in the order of their fetches.
     pub fn fetched(&self) -> &[FetchedCommand]
         ensures { result.now ≡ self.now.fetched }
     {
         self.fetched.as_slice()
     }
 
-    /// Power is lost, and comes back: the controller is as one that was never enabled, and its host's memory stays.
+    /// Power is lost, and returns: the controller is as new, and its host's memory stays.
     pub fn power_cycle(&mut self)
         ensures { self.new ≡ power_cycled self.old }
     {
@@ -92,7 +92,7 @@ impl Controller {
         self.fetched.clear();
     }
 
-    /// The value of a register, 0 where none is.
+    /// The value of the register at `offset`, or 0 if there is none.
     pub fn read32(&self, offset: u64) -> u32
         ensures { result ≡ value_at self.now.registers offset }
     {

@@ -1,4 +1,4 @@
-//! Executing a fetched command.
+//! Executes a fetched command.
 
 ghost use Rattle.std.specs.Prelude.{◌≡◌, ◌<◌, slice_get};
 ghost use Rattle.nvme_spec.specs.Execution.{scene, no_marks};
@@ -14,14 +14,14 @@ ghost use Rattle.nvme_ctrl.specs.Executions.{LiesInMemory, execution_of};
 
 use crate::controller::Controller;
 use nvme_admin::execute_admin;
-use nvme_exec::execute_marking;
+use nvme_exec::execute_into;
 use nvme_machine::{BareExecuted, BareOutcome, Executed, FetchedCommand};
 use nvme_medium::Medium;
 use nvme_ns::Spaces;
 use nvme_spec::{Marks, QueueChange};
 use nvme_wire::Status;
 
-/// What an executed command is answered, besides what it marks, and what is to become of the queues.
+/// The answer of an executed command without its marks, and the change of the queues.
 #[derive(Clone, Copy, Debug)]
 pub struct Performed {
     status: Status,
@@ -38,12 +38,12 @@ fn command_at(commands: &[FetchedCommand], i: usize) -> Option<FetchedCommand>
 }
 
 impl Controller {
-    /// Executes the i-th of its fetched commands, in the access state and over the medium as they are now, and posts
-    /// its completion; or answers that there is no such command, or that its completion queue has no room, and changes
-    /// nothing. The data that go to the host stand in its memory before the completion.
+    /// Executes the `i`-th of its fetched commands, on the access state and the medium, and posts its completion. If
+    /// there is no such command, or its completion queue is full, it returns that and changes nothing. The data for the
+    /// host are in its memory before the completion.
     ///
-    /// That the controller is configured, that all namespaces lie within the medium, and that every registrant is a
-    /// controller's host are the caller's conditions; they hold again afterwards.
+    /// The controller must be configured, all namespaces must be within the medium, and every registrant must be a
+    /// controller's host; all of this holds again afterwards.
     #[inline(always)]
     pub fn execute<M: Medium>(&mut self, i: usize, spaces: &mut Spaces, medium: &mut M) -> Executed
         requires ready { CanExecute spaces.old (M.size medium.old) self.old.cntlid }
@@ -59,14 +59,14 @@ impl Controller {
         ensures cntlid { self.new.cntlid ≡ self.old.cntlid }
     {
         let mut marks = Marks::none();
-        let executed = self.execute_marking(i, spaces, medium, &mut marks);
+        let executed = self.execute_into(i, spaces, medium, &mut marks);
         executed.with(marks)
     }
 
-    /// Executes a command as `execute` does. What it marks comes to stand in `marks`, which is empty before, and stays
-    /// so where nothing is posted: it has room for sixteen hosts, and each move of it costs.
+    /// Executes a command as `execute` does, and writes its marks to `marks`, which must be empty, and stays so if no
+    /// completion is posted: a list of sixteen hosts is costly to move.
     #[inline(always)]
-    pub fn execute_marking<M: Medium>(
+    pub fn execute_into<M: Medium>(
         &mut self,
         i: usize,
         spaces: &mut Spaces,
@@ -103,8 +103,8 @@ impl Controller {
         })
     }
 
-    /// Executes a command by the queue that it came from. What it marks comes to stand in `marks`, which is empty
-    /// before.
+    /// Executes a command: an admin command if it came from queue 0, else an I/O command. Writes its marks to `marks`,
+    /// which must be empty.
     #[inline(always)]
     fn perform<M: Medium>(
         &mut self,
@@ -132,7 +132,7 @@ impl Controller {
         if command.queue == 0 {
             return self.perform_admin(command, spaces);
         }
-        let completed = execute_marking(
+        let completed = execute_into(
             spaces,
             medium,
             &mut self.window,
@@ -150,7 +150,7 @@ impl Controller {
     }
 
     /// Executes an admin command, which marks nothing.
-    // Not inlined, so that I/O commands do not pay for the room of its locals.
+    // Not inlined, so that I/O commands do not pay for its locals.
     #[inline(never)]
     fn perform_admin(&mut self, command: &FetchedCommand, spaces: &mut Spaces) -> Performed
         ensures executed { admin.admin_execution spaces.old (queues_of self.old) self.old.cntlid command.now.entry

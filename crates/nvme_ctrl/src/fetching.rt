@@ -1,4 +1,4 @@
-//! Fetching a command.
+//! Fetches a command.
 
 ghost use Rattle.std.specs.Prelude.{◌≡◌, ◌<◌, ◌≤◌, ◌+◌, length, slice_range, IfSome};
 ghost use Rattle.nvme_spec.specs.Memory.{window_size};
@@ -36,8 +36,8 @@ fn entry_at(window: &Window, address: u64) -> Sqe
 }
 
 impl Controller {
-    /// Takes the next command of a submission queue, unless the controller does not run, is shut down, has 64 commands
-    /// already, has no such queue, or none waits there; then nothing changes.
+    /// Fetches the next command of a submission queue, unless the controller does not run, is shut down, holds 64
+    /// commands already, has no such queue, or none waits there; then nothing changes.
     #[tactic(auto, unfolding(nvme_machine::specs::Controllers::after_fetch))]
     pub fn fetch(&mut self, qid: u16) -> Fetched
         ensures seen { WasFetched result ≡ (after_fetch qid self.old).seen }
@@ -46,7 +46,7 @@ impl Controller {
         let Some(mut queue) = self.fetchable(qid) else {
             return Fetched::Idle;
         };
-        let entry = entry_at(&self.window, queue.place());
+        let entry = entry_at(&self.window, queue.entry_address());
         queue.advance();
         put(&mut self.submission, qid, Some(queue));
         self.fetched.push(FetchedCommand {

@@ -1,4 +1,4 @@
-//! Marking what a Preempt and Abort has caught.
+//! Marks the fetched commands that a Preempt and Abort aborts.
 
 ghost use Rattle.std.specs.Prelude.{◌≡◌, map};
 ghost use Rattle.nvme_machine.specs.Controllers.{with_mark, with_marks};
@@ -6,7 +6,7 @@ ghost use Rattle.nvme_machine.specs.Controllers.{with_mark, with_marks};
 use crate::controller::Controller;
 use nvme_machine::FetchedCommand;
 
-/// A command, marked where it is an I/O command on the namespace.
+/// A command, marked if it is an I/O command on the namespace.
 fn marked(command: FetchedCommand, nsid: u32) -> FetchedCommand
     ensures { result ≡ with_mark nsid command }
 {
@@ -27,7 +27,7 @@ fn mark_all(commands: &mut [FetchedCommand], nsid: u32)
 }
 
 impl Controller {
-    /// Marks every fetched I/O command on the namespace: it is to be aborted.
+    /// Marks every fetched I/O command on the namespace, so that it will be aborted.
     pub fn mark(&mut self, nsid: u32)
         ensures { self.new ≡ with_marks nsid self.old }
     {

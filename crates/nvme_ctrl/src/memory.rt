@@ -17,7 +17,7 @@ impl Controller {
         &self.window
     }
 
-    /// The window of host memory, to be written. Nothing else changes, and it keeps its length.
+    /// The window of host memory, mutable. Nothing else changes, and it keeps its length.
     pub fn window_mut(&mut self) -> &mut Window
         ensures* writes_back { sem 𝓛 (LendsWindow self.entry result) }
         ensures bytes { result.now ≡ self.old.window }
@@ -29,7 +29,7 @@ impl Controller {
     ///
     /// # Errors
     ///
-    /// `OutsideWindow` where they do not all lie in the window; nothing is stored then.
+    /// `OutsideWindow` if some are outside the window; nothing is stored then.
     #[tactic(auto, unfolding(nvme_machine::specs::Controllers::after_store))]
     pub fn store(&mut self, address: u64, bytes: &[u8]) -> Result<(), OutsideWindow>
         ensures ok { OnOk result (after_store address bytes.now self.old ≡ reaction self.new Stored) }

@@ -1,9 +1,16 @@
-//! Posting a completion, and what an admin command does to the queues.
+//! Posts a completion, and applies an admin command's change of the queues.
 
 ghost use Rattle.std.specs.Prelude.{◌≡◌, ◌<◌, Option, Some, map, option_map, is_some, length, IfSome};
 ghost use Rattle.nvme_machine.specs.Controllers.{SubmissionQueue as Submissions, CompletionQueue as Completions};
 ghost use Rattle.nvme_spec.specs.Queues.{completion_room};
-ghost use Rattle.nvme_machine.specs.Controllers.{open_pair, after_posting, after_queue_change, queues_of, without_queue, completion_of};
+ghost use Rattle.nvme_machine.specs.Controllers.{
+  open_pair,
+  after_posting,
+  after_queue_change,
+  queues_of,
+  without_queue,
+  completion_of,
+};
 ghost use Rattle.nvme_ctrl.specs.Executions.{LiesInMemory};
 
 use crate::completion_queue::CompletionQueue;
@@ -16,7 +23,7 @@ use nvme_spec::{QueueChange, Queues};
 use nvme_wire::{Cqe, Status};
 use std::marker::Model;
 
-/// The queues of a command: its submission queue, and the completion queue that its completion goes to.
+/// The queues of a command: its submission queue, and the completion queue for its completion.
 #[derive(Clone, Copy, Debug)]
 pub struct QueuePair {
     submission: SubmissionQueue,
@@ -34,8 +41,8 @@ impl Model for QueuePair {
 }
 
 impl QueuePair {
-    /// The completion of a command: the command specific double word 0, and the status. It carries the head of its
-    /// submission queue as it is now.
+    /// The completion of a command, with the command specific double word 0, the status, and the present head of its
+    /// submission queue.
     fn completion_of(&self, command: &FetchedCommand, status: Status, dw0: u32) -> Cqe
         requires { status.sct < 8 }
         ensures { result ≡ completion_of command.now self.now status dw0 }
@@ -52,7 +59,7 @@ impl QueuePair {
 }
 
 impl Controller {
-    /// The queues of a fetched command, where its completion can be posted.
+    /// The queues of a fetched command, if its completion can be posted.
     #[tactic(auto, unfolding(nvme_machine::specs::Controllers::open_pair))]
     pub(crate) fn open_pair(&self, command: &FetchedCommand) -> Option<QueuePair>
         ensures pair { result ≡ open_pair self.now command.now }
@@ -66,8 +73,8 @@ impl Controller {
         })
     }
 
-    /// The i-th command leaves the list, and its completion is posted. That it is there, and that there is room for the
-    /// completion, is the caller's condition.
+    /// Removes the `i`-th command from the list and posts its completion. The command must exist, and there must be
+    /// room for the completion.
     #[tactic(auto, unfolding(nvme_machine::specs::Controllers::after_posting))]
     pub(crate) fn post(
         &mut self,
@@ -84,7 +91,7 @@ impl Controller {
     {
         let entry = pair.completion_of(command, status, dw0).to_bytes();
         let mut completion = pair.completion;
-        let _ = self.window.store(completion.place(), &entry);
+        let _ = self.window.store(completion.entry_address(), &entry);
         completion.advance();
         put(
             &mut self.completion,
@@ -109,7 +116,7 @@ fn existing(queues: &[Option<CompletionQueue>; 5]) -> [bool; 5]
     ]
 }
 
-/// The completion queue that the completions of a submission queue go to.
+/// The completion queue of a submission queue.
 fn destination(queue: &Option<SubmissionQueue>) -> Option<u16>
     ensures { result ≡ option_map (λ (q : Submissions). q.cqid) queue.now }
 {
@@ -119,7 +126,7 @@ fn destination(queue: &Option<SubmissionQueue>) -> Option<u16>
     }
 }
 
-/// The completion queue of each submission queue that exists.
+/// The completion queue of each existing submission queue.
 fn destinations(queues: &[Option<SubmissionQueue>; 5]) -> [Option<u16>; 5]
     ensures { result ≡ map (λ (o : Option Submissions). option_map (λ (q : Submissions). q.cqid) o) queues.now }
 {
@@ -151,8 +158,8 @@ impl Controller {
         }
     }
 
-    /// Does what an admin command asks of the queues. With a submission queue its fetched commands go. That a new queue
-    /// lies in host memory is the caller's condition.
+    /// Applies an admin command's change of the queues. Deleting a submission queue drops its fetched commands. A new
+    /// queue must be in host memory.
     #[tactic(auto, unfolding(nvme_machine::specs::Controllers::after_queue_change))]
     pub(crate) fn change_queues(&mut self, change: QueueChange)
         requires { LiesInMemory change }

@@ -1,4 +1,4 @@
-//! Register writes and what they bring about.
+//! Register writes and their effects.
 
 ghost use Rattle.std.specs.Prelude.{◌≡◌};
 ghost use Rattle.nvme_spec.specs.declared.registers.RegEffect.TheVariants.{Enable, Disable, SqTail, CqHead};
@@ -20,7 +20,7 @@ impl Controller {
         self.take_effect(effect);
     }
 
-    /// Does what a register write asks for.
+    /// Applies the effect of a register write.
     #[tactic(auto, unfolding(nvme_machine::specs::Controllers::taking_effect))]
     fn take_effect(&mut self, effect: RegEffect)
         ensures { self.new ≡ taking_effect effect self.old }
@@ -34,7 +34,7 @@ impl Controller {
         }
     }
 
-    /// The admin queues exist, empty, and no other queues; nothing is fetched.
+    /// Makes the admin queues, empty, and drops all others; nothing is fetched.
     #[tactic(auto, unfolding(nvme_machine::specs::Controllers::taking_effect))]
     fn enable(&mut self)
         ensures { self.new ≡ taking_effect Enable self.old }
@@ -46,7 +46,7 @@ impl Controller {
         }
     }
 
-    /// No queues exist, and nothing is fetched.
+    /// Drops all queues and fetched commands.
     #[tactic(auto, unfolding(nvme_machine::specs::Controllers::taking_effect))]
     fn drop_queues(&mut self)
         ensures { self.new ≡ taking_effect Disable self.old }
@@ -56,7 +56,7 @@ impl Controller {
         self.fetched.clear();
     }
 
-    /// The tail doorbell of a submission queue rings.
+    /// Takes the value of a submission queue's tail doorbell.
     #[tactic(auto, unfolding(nvme_machine::specs::Controllers::taking_effect))]
     fn set_tail(&mut self, qid: u16, tail: u16)
         ensures { self.new ≡ taking_effect (SqTail qid tail) self.old }
@@ -68,7 +68,7 @@ impl Controller {
         put(&mut self.submission, qid, queue);
     }
 
-    /// The head doorbell of a completion queue rings.
+    /// Takes the value of a completion queue's head doorbell.
     #[tactic(auto, unfolding(nvme_machine::specs::Controllers::taking_effect))]
     fn set_head(&mut self, qid: u16, head: u16)
         ensures { self.new ≡ taking_effect (CqHead qid head) self.old }

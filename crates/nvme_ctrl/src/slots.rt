@@ -1,4 +1,4 @@
-//! Queues stand at the places of their identifiers.
+//! The queues of a controller, each at the place of its identifier.
 
 ghost use Rattle.std.specs.Prelude.{◌≡◌, [], ◌∷◌, None, slice_index_or, slice_set};
 
@@ -9,7 +9,7 @@ pub fn none<Q: Copy>() -> [Option<Q>; 5]
     [None, None, None, None, None]
 }
 
-/// The queue of an identifier, where there is one.
+/// The queue with an identifier, if there is one.
 pub fn queue_at<Q: Copy>(queues: &[Option<Q>; 5], qid: u16) -> Option<Q>
     ensures { result ≡ slice_index_or queues.now qid None }
 {
@@ -19,7 +19,7 @@ pub fn queue_at<Q: Copy>(queues: &[Option<Q>; 5], qid: u16) -> Option<Q>
     }
 }
 
-/// Puts a queue, or none, at the place of an identifier. Where that is no queue's nothing changes.
+/// Puts a queue, or none, at the place of an identifier. If no queue can have that identifier, nothing changes.
 pub fn put<Q: Copy>(queues: &mut [Option<Q>; 5], qid: u16, queue: Option<Q>)
     ensures { queues.new ≡ slice_set queues.old qid queue }
 {

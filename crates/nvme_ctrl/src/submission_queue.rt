@@ -9,8 +9,8 @@ ghost use Rattle.nvme_machine.specs.Controllers.{with_tail};
 use nvme_ring::SqHead;
 use std::marker::Model;
 
-/// A submission queue: its address in host memory, the completion queue that its completions go to, and its head. It
-/// lies in host memory. Contracts see it as the record of these.
+/// A submission queue: its address, its completion queue, and its head. It is in host memory. Contracts see it as the
+/// record of these.
 #[derive(Clone, Copy, Debug)]
 pub struct SubmissionQueue {
     base: u64,
@@ -32,8 +32,8 @@ impl Model for SubmissionQueue {
 }
 
 impl SubmissionQueue {
-    /// An empty queue of `size` entries at `base`, whose completions go to the queue `cqid`. That it begins a page,
-    /// lies in host memory and has 2 to 64 entries is the caller's condition.
+    /// An empty queue of `size` entries, 2 to 64, at `base`, which must begin a page, with completion queue `cqid`. The
+    /// queue must be in host memory.
     pub fn new(base: u64, size: u16, cqid: u16) -> Self
         requires { IsQueuePlace base size 64 }
         ensures { result ≡ record { base = base; cqid = cqid; head = empty_submission_head size } }
@@ -52,28 +52,28 @@ impl SubmissionQueue {
         self.base
     }
 
-    /// How many entries it has.
+    /// The number of entries.
     pub fn size(&self) -> u16
         ensures { result ≡ self.now.head.size }
     {
         self.head.size()
     }
 
-    /// The tail, as its host has told it: the slot behind the last command that waits.
+    /// The tail, by its host's doorbell: the slot after the last command that waits.
     pub fn tail(&self) -> u16
         ensures { result ≡ slot_of self.now.head.size (self.now.head.fetched + self.now.head.waiting) }
     {
         self.head.tail()
     }
 
-    /// The completion queue that its completions go to.
+    /// Its completion queue.
     pub fn cqid(&self) -> u16
         ensures { result ≡ self.now.cqid }
     {
         self.cqid
     }
 
-    /// The head, as a completion carries it.
+    /// The head, as in completions.
     pub fn head(&self) -> u16
         ensures { result ≡ self.now.head.fetched }
     {
@@ -88,14 +88,14 @@ impl SubmissionQueue {
     }
 
     /// The address of the next command.
-    pub fn place(&self) -> u64
-        ensures place { result ≡ submission_place self.now.base self.now.head.size self.now.head.fetched }
+    pub fn entry_address(&self) -> u64
+        ensures address { result ≡ submission_place self.now.base self.now.head.size self.now.head.fetched }
         ensures inside { result + 64 ≤ window_size }
     {
         self.base + 64 * u64::from(self.head.slot())
     }
 
-    /// The next command is fetched. That one waits is the caller's condition.
+    /// Fetches the next command, which must exist.
     pub fn advance(&mut self)
         requires { 0 < self.old.head.waiting }
         ensures { self.new ≡ record self.old { head = after_fetch self.old.head } }

@@ -1,9 +1,19 @@
--- The parts of a driver's window.
+-- For `laws.rt`: the parts of a driver's window do not overlap.
 use Rattle.std.proofs.Common.{ℕ, ◌≤◌, ◌<◌, arith, refl, ap, inl, inr, ⊎_elim}
 use Rattle.std.specs.Prelude.{◌≢◌}
 use Rattle.std.proofs.lemmas.Bool.{cases_lt}
 use Rattle.nvme_driver.specs.declared.lane.Lane.TheVariants.{Admin, Io}
-use Rattle.nvme_driver.specs.Layout.{Commands, Completions, Listing, Holding, extent, AreApart, AreasLieInWindow, AreasAreApart, EntriesLieInTheirPages}
+use Rattle.nvme_driver.specs.Layout.{
+  Commands,
+  Completions,
+  Listing,
+  Holding,
+  extent,
+  AreApart,
+  AreasLieInWindow,
+  AreasAreApart,
+  EntriesLieInTheirPages,
+}
 
 pub areas_lie_in_window : AreasLieInWindow
 areas_lie_in_window (Commands Admin) h = omega arith

@@ -1,5 +1,29 @@
--- The entry of a request moves as many bytes as the request.
-use Rattle.std.proofs.Common.{◌≡◌, ℕ, zero, suc, ◌-◌, ◌/◌, ◌%◌, ◌≤◌, ◌<◌, nat_lt, ◌&&◌, ◌||◌, not, Bool, true, false, List, length, refl, ap, ◌∙◌, arith, ⊎_elim}
+-- For `laws.rt` and laws of mailboxes: the entry of a request transfers as many bytes as the request.
+use Rattle.std.proofs.Common.{
+  ◌≡◌,
+  ℕ,
+  zero,
+  suc,
+  ◌-◌,
+  ◌/◌,
+  ◌%◌,
+  ◌≤◌,
+  ◌<◌,
+  nat_lt,
+  ◌&&◌,
+  ◌||◌,
+  not,
+  Bool,
+  true,
+  false,
+  List,
+  length,
+  refl,
+  ap,
+  ◌∙◌,
+  arith,
+  ⊎_elim,
+}
 use Rattle.std.specs.Prelude.{◌==◌}
 use Rattle.std.proofs.lemmas.Bool.{cases_lt, lt-ltb, ne_eqb}
 use Rattle.nvme_wire.specs.declared.sqe.fields.SqeFields.{SqeFields}
@@ -7,7 +31,22 @@ use Rattle.nvme_wire.specs.Submission.{cdw10, cdw12}
 use Rattle.nvme_spec.specs.Limits.{most_bytes}
 use Rattle.nvme_spec.specs.Commands as commands
 use Rattle.nvme_spec.specs.AdminCommands as admin_commands
-use Rattle.nvme_driver.specs.declared.request.Request.TheVariants.{Read, Write, Compare, WriteZeroes, Flush, Register, Acquire, Release, Report, Identify, Protect, Protection, Attach, Detach}
+use Rattle.nvme_driver.specs.declared.request.Request.TheVariants.{
+  Read,
+  Write,
+  Compare,
+  WriteZeroes,
+  Flush,
+  Register,
+  Acquire,
+  Release,
+  Report,
+  Identify,
+  Protect,
+  Protection,
+  Attach,
+  Detach,
+}
 use Rattle.nvme_driver.specs.Requests.{are_whole_blocks}
 use Rattle.nvme_driver.specs.Drivers.{EntriesMoveTheirData}
 
@@ -16,7 +55,8 @@ pub within : (n most : ℕ) → ((n == 0) || nat_lt most n) ≡ false → (1 ≤
 within zero most e = absurd (cc (e))
 within (suc n) most e =
     ⊎_elim {C = (1 ≤ suc n) × (suc n ≤ most)}
-    (λ (over : most < suc n). (let t = lt-ltb most (suc n) over in let z = ne_eqb (suc n) 0 (λ k. omega (arith, k)) in absurd (cc (e, t, z))))
+    (λ (over : most < suc n).
+    (let t = lt-ltb most (suc n) over in let z = ne_eqb (suc n) 0 (λ k. omega (arith, k)) in absurd (cc (e, t, z))))
     (λ (under : suc n ≤ most). (omega arith, under))
     (cases_lt most (suc n))
 

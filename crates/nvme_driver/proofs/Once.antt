@@ -1,5 +1,35 @@
--- Each ticket is handed up at most once: a count of what is left to hand up falls by each answer.
-use Rattle.std.proofs.Common.{◌≡◌, ℕ, zero, suc, ◌+◌, ◌≤◌, ◌<◌, nat_lt, ◌&&◌, Bool, true, false, List, [], ◌∷◌, ◌++◌, length, map, Option, Some, None, Err, refl, sym, ap, ◌∙◌, arith, ⊎_elim}
+-- Proof of the law `tickets`: each ticket is delivered at most once, since the number of its possible deliveries
+-- decreases with each.
+use Rattle.std.proofs.Common.{
+  ◌≡◌,
+  ℕ,
+  zero,
+  suc,
+  ◌+◌,
+  ◌≤◌,
+  ◌<◌,
+  nat_lt,
+  ◌&&◌,
+  Bool,
+  true,
+  false,
+  List,
+  [],
+  ◌∷◌,
+  ◌++◌,
+  length,
+  map,
+  Option,
+  Some,
+  None,
+  Err,
+  refl,
+  sym,
+  ap,
+  ◌∙◌,
+  arith,
+  ⊎_elim,
+}
 use Rattle.std.specs.Prelude.{slice_set, position, is_none, if◌then◌else◌, ◌==◌}
 use Rattle.std.specs.List.{position_or_len}
 use Rattle.std.proofs.lemmas.Bool.{cases_lt, lt-ltb, le-ltb, eq-eqb, ne_eqb}
@@ -13,11 +43,55 @@ use Rattle.nvme_driver.specs.declared.ticket.Ticket.{Ticket}
 use Rattle.nvme_driver.specs.declared.request.Request.{Request}
 use Rattle.nvme_driver.specs.declared.faults.PollFault.TheVariants.{NotUp}
 use Rattle.nvme_driver.specs.Layout.{queue_id}
-use Rattle.nvme_driver.specs.Drivers.{Driver, Ends, new_driver, free_slot, placed, abort, with_ends, waiting_of, is_up, ends, put_ends, lane_of}
-use Rattle.nvme_driver.specs.Polls.{Poll, waiting_at, aborted_at, aborted_ticket, ticket_of, IsOldest, live_in, answered, answered_poll, found_poll, found, polled, freed, consumed_ends, without_calls}
-use Rattle.nvme_driver.specs.Once.{Event, Places, Polls, Resets, Stays, Happens, handed, handed_by, Run, times, bears, borne, HandsUpOutstanding, HandsUpOnce}
+use Rattle.nvme_driver.specs.Drivers.{
+  Driver,
+  Ends,
+  new_driver,
+  free_slot,
+  placed,
+  abort,
+  with_ends,
+  waiting_of,
+  is_up,
+  ends,
+  put_ends,
+  lane_of,
+}
+use Rattle.nvme_driver.specs.Polls.{
+  Poll,
+  waiting_at,
+  aborted_at,
+  aborted_ticket,
+  ticket_of,
+  IsOldest,
+  live_in,
+  answered,
+  answered_poll,
+  found_poll,
+  found,
+  polled,
+  freed,
+  consumed_ends,
+  without_calls,
+}
+use Rattle.nvme_driver.specs.Once.{
+  Event,
+  Places,
+  Polls,
+  Resets,
+  Stays,
+  Happens,
+  handed,
+  handed_by,
+  Run,
+  times,
+  bears,
+  borne,
+  HandsUpOutstanding,
+  HandsUpOnce,
+}
 
--- a request is taken out of its slot
+-- a request is removed from its slot
 pub taken : (t : ℕ) (slots : List (Option Waiting)) (i : ℕ) (w : Waiting) → waiting_at slots i ≡ Some w →
     bears t (Some w) + borne t (slice_set slots i None) ≡ borne t slots
 taken t [] i w e = absurd (cc (e))
@@ -49,7 +123,7 @@ next-kept : (lane : Lane) (e : Ends) (d : Driver) → (with_ends lane e d).next 
 next-kept Admin e d = refl
 next-kept Io e d = refl
 
--- What a poll hands up and leaves: the ticket is that of a request, which is taken out; no ticket is given.
+-- The effect of a poll on deliveries: its ticket is that of a request, which is removed; no ticket is issued.
 record Hands (t : ℕ) (d : Driver) (p : Poll) : Type 0 where
   count : times t (handed_by p.answer) + borne t p.driver.slots ≡ borne t d.slots
   given : p.driver.next ≡ d.next
@@ -62,11 +136,13 @@ aborted-by : (live : Bool) (u v : Ticket) → (if live then None else Some v) �
 aborted-by true u v e = absurd (cc (e))
 aborted-by false u v e = some-is v u e
 
-pub aborted-is : (x : Option Waiting) (u : Ticket) → aborted_ticket x ≡ Some u → (w : Waiting) × (x ≡ Some w) × (w.ticket ≡ u)
+pub aborted-is : (x : Option Waiting) (u : Ticket)
+    → aborted_ticket x ≡ Some u → (w : Waiting) × (x ≡ Some w) × (w.ticket ≡ u)
 aborted-is None u e = absurd (cc (e))
 aborted-is (Some w) u e = (w, refl, aborted-by w.live u w.ticket e)
 
-hands-aborted : (t : ℕ) (d : Driver) (slot : ℕ) (window : List ℕ) → IsOldest d.slots (Some slot) → Hands t d (polled d (Some slot) window)
+hands-aborted : (t : ℕ) (d : Driver) (slot : ℕ) (window : List ℕ)
+    → IsOldest d.slots (Some slot) → Hands t d (polled d (Some slot) window)
 hands-aborted t d slot window h =
     let a = aborted-is (waiting_at d.slots slot) h.0 h.1 in
     let e : (ticket_of (aborted_at d.slots slot)).0 ≡ a.0.ticket.0 =
@@ -86,13 +162,16 @@ live-is : (lane : Lane) (x : Option Waiting) (w : Waiting) → live_in lane x �
 live-is lane None w e = absurd (cc (e))
 live-is lane (Some v) w e = when-some ((queue_id v.lane == queue_id lane) && v.live) (Some v) w e
 
-answered-is : (d : Driver) (lane : Lane) (entry : List ℕ) (w : Waiting) → answered d lane entry ≡ Some w → waiting_at d.slots (cid entry) ≡ Some w
+answered-is : (d : Driver) (lane : Lane) (entry : List ℕ) (w : Waiting)
+    → answered d lane entry ≡ Some w → waiting_at d.slots (cid entry) ≡ Some w
 answered-is d lane entry w e =
     live-is lane (waiting_at d.slots (cid entry)) w
-    (when-some ((sq_id entry == queue_id lane) && can_be_heard (ends lane d).tail (sq_head entry)) (live_in lane (waiting_at d.slots (cid entry))) w e)
+    (when-some ((sq_id entry == queue_id lane) && can_be_heard (ends lane d).tail (sq_head entry))
+    (live_in lane (waiting_at d.slots (cid entry))) w e)
 
 hands-answered : (t : ℕ) (d : Driver) (window : List ℕ) (lane : Lane) (entry : List ℕ) (o : Option Waiting) →
-    ((w : Waiting) → o ≡ Some w → waiting_at d.slots (cid entry) ≡ Some w) → Hands t d (answered_poll d window lane entry o)
+    ((w : Waiting) → o ≡ Some w → waiting_at d.slots (cid entry) ≡ Some w)
+    → Hands t d (answered_poll d window lane entry o)
 hands-answered t d window lane entry None h = record { count = omega arith; given = refl }
 hands-answered t d window lane entry (Some w) h =
     let k = taken t d.slots (cid entry) w (h w refl) in
@@ -112,7 +191,8 @@ hands-up : (t : ℕ) (d : Driver) (window : List ℕ) (b : Bool) →
 hands-up t d window true = hands-found t d window (found d window)
 hands-up t d window false = record { count = omega arith; given = refl }
 
-hands : (t : ℕ) (d : Driver) (oldest : Option ℕ) (window : List ℕ) → IsOldest d.slots oldest → Hands t d (polled d oldest window)
+hands : (t : ℕ) (d : Driver) (oldest : Option ℕ) (window : List ℕ)
+    → IsOldest d.slots oldest → Hands t d (polled d oldest window)
 hands t d (Some slot) window h = hands-aborted t d slot window h
 hands t d None window h = hands-up t d window (is_up d.state)
 
@@ -123,15 +203,16 @@ hands_up_outstanding d oldest window t h e =
     ap (times t) e ∙ ap (λ b. (if b then 1 else 0) + 0) (eq-eqb t t refl) in
     omega (arith, k, one)
 
--- how often a ticket can still be handed up: by the slots, and where it was not given yet
+-- the number of possible deliveries of a ticket: in the slots, and 1 if it is not issued yet
 abbrev pub ungiven : ℕ → ℕ → ℕ
 ungiven t next = if nat_lt t next then 0 else 1
 
 abbrev pub left : ℕ → Driver → ℕ
 left t d = borne t d.slots + ungiven t d.next
 
--- the lowest free slot is one, and is free
-free-at : (slots : List (Option Waiting)) → position_or_len is_none slots < length slots → waiting_at slots (position_or_len is_none slots) ≡ None
+-- the lowest free slot exists, and is free
+free-at : (slots : List (Option Waiting)) → position_or_len is_none slots < length slots
+    → waiting_at slots (position_or_len is_none slots) ≡ None
 free-at [] h = absurd (omega (arith, h))
 free-at (None ∷ xs) h = refl
 free-at (Some w ∷ xs) h =
@@ -139,7 +220,8 @@ free-at (Some w ∷ xs) h =
     let e : 1 + position_or_len is_none xs ≡ suc (position_or_len is_none xs) = omega arith in
     ap (λ i. waiting_at (Some w ∷ xs) i) e ∙ k
 
-first-free : (slots : List (Option Waiting)) (i : ℕ) → position is_none slots ≡ Some i → (i < length slots) × (waiting_at slots i ≡ None)
+first-free : (slots : List (Option Waiting)) (i : ℕ) → position is_none slots ≡ Some i
+    → (i < length slots) × (waiting_at slots i ≡ None)
 first-free slots i e =
     ⊎_elim {C = (i < length slots) × (waiting_at slots i ≡ None)}
     (λ (l : position_or_len is_none slots < length slots).
@@ -154,22 +236,27 @@ first-free slots i e =
     absurd (cc (no_one))))
     (cases_lt (position_or_len is_none slots) (length slots))
 
-next-above : (t n : ℕ) → n ≤ t → (if n == t then 1 else 0) + (if nat_lt t (n + 1) then 0 else 1) ≡ (if nat_lt t n then 0 else 1)
+next-above : (t n : ℕ)
+    → n ≤ t → (if n == t then 1 else 0) + (if nat_lt t (n + 1) then 0 else 1) ≡ (if nat_lt t n then 0 else 1)
 next-above t n above =
     ⊎_elim {C = (if n == t then 1 else 0) + (if nat_lt t (n + 1) then 0 else 1) ≡ (if nat_lt t n then 0 else 1)}
-    (λ (over : n < t). rw (ne_eqb n t (λ e. omega (arith, e, over)), le-ltb t (n + 1) (omega (arith, over)), le-ltb t n above) refl)
-    (λ (under : t ≤ n). rw (eq-eqb n t (omega (arith, above, under)), lt-ltb t (n + 1) (omega (arith, under)), le-ltb t n above) refl)
+    (λ (over : n < t).
+    rw (ne_eqb n t (λ e. omega (arith, e, over)), le-ltb t (n + 1) (omega (arith, over)), le-ltb t n above) refl)
+    (λ (under : t ≤ n).
+    rw (eq-eqb n t (omega (arith, above, under)), lt-ltb t (n + 1) (omega (arith, under)), le-ltb t n above) refl)
     (cases_lt n t)
 
--- a ticket that is given is no longer left to give
+-- after a ticket is issued, it is no longer to be issued
 next-given : (t n : ℕ) → (if n == t then 1 else 0) + (if nat_lt t (n + 1) then 0 else 1) ≡ (if nat_lt t n then 0 else 1)
 next-given t n =
     ⊎_elim {C = (if n == t then 1 else 0) + (if nat_lt t (n + 1) then 0 else 1) ≡ (if nat_lt t n then 0 else 1)}
-    (λ (below : t < n). rw (ne_eqb n t (λ e. omega (arith, e, below)), lt-ltb t (n + 1) (omega (arith, below)), lt-ltb t n below) refl)
+    (λ (below : t < n).
+    rw (ne_eqb n t (λ e. omega (arith, e, below)), lt-ltb t (n + 1) (omega (arith, below)), lt-ltb t n below) refl)
     (λ (above : n ≤ t). next-above t n above)
     (cases_lt t n)
 
-places : (t : ℕ) (d : Driver) (request : Request) (slot : ℕ) → free_slot d ≡ Some slot → left t (placed d request slot) ≡ left t d
+places : (t : ℕ) (d : Driver) (request : Request) (slot : ℕ)
+    → free_slot d ≡ Some slot → left t (placed d request slot) ≡ left t d
 places t d request slot e =
     let free = first-free d.slots slot e in
     let w : Waiting = waiting_of d request in
@@ -180,7 +267,8 @@ places t d request slot e =
     let g = next-given t d.next in
     omega (arith, k, s, n, g)
 
-pub step : (t : ℕ) (event : Event) (d d' : Driver) → Happens event d d' → times t (handed event d) + left t d' ≡ left t d
+pub step : (t : ℕ) (event : Event) (d d' : Driver)
+    → Happens event d d' → times t (handed event d) + left t d' ≡ left t d
 step t (Places request slot) d d' h =
     let k : left t d' ≡ left t d = ap (left t) h.1 ∙ places t d request slot h.0 in
     omega (arith, k)
@@ -200,7 +288,8 @@ times-append : (t : ℕ) (us vs : List ℕ) → times t (us ++ vs) ≡ times t u
 times-append t [] vs = omega arith
 times-append t (u ∷ us) vs = let h = times-append t us vs in omega (arith, h)
 
-run : (t : ℕ) (events : List Event) (d : Driver) (tickets : List ℕ) (d' : Driver) → Run events d tickets d' → times t tickets + left t d' ≡ left t d
+run : (t : ℕ) (events : List Event) (d : Driver) (tickets : List ℕ) (d' : Driver)
+    → Run events d tickets d' → times t tickets + left t d' ≡ left t d
 run t [] d tickets d' h =
     let none = ap (times t) h.0 in
     let same = ap (left t) h.1 in

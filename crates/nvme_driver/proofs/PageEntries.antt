@@ -1,5 +1,27 @@
--- The entries of a list of pages, one behind the other, and read back.
-use Rattle.std.proofs.Common.{◌≡◌, ℕ, zero, suc, ◌+◌, ◌-◌, ◌*◌, ◌^◌, ◌<◌, List, ◌++◌, length, take, drop, refl, sym, ap, ◌∙◌, arith, append_assoc, length-append}
+-- For proofs about slots: the entries of a list of pages, one after the other, and read back.
+use Rattle.std.proofs.Common.{
+  ◌≡◌,
+  ℕ,
+  zero,
+  suc,
+  ◌+◌,
+  ◌-◌,
+  ◌*◌,
+  ◌^◌,
+  ◌<◌,
+  List,
+  ◌++◌,
+  length,
+  take,
+  drop,
+  refl,
+  sym,
+  ap,
+  ◌∙◌,
+  arith,
+  append_assoc,
+  length-append,
+}
 use Rattle.std.proofs.lemmas.List.{append-nil, take-take, take_at, drop_at, drop-drop, drop-take}
 use Rattle.std.proofs.lemmas.Nat.{from_le_bytes-to_le_bytes_8}
 use Rattle.std.specs.Int.{w64, from_le_bytes}
@@ -18,7 +40,7 @@ length-page_entries page (suc n) =
     let rest = length-page_entries (page + 4096) n in
     length-append (page_entry page) (page_entries (page + 4096) n) ∙ omega arith
 
--- one more entry behind them
+-- one more entry after them
 pub entries-more : (page n : ℕ) → page_entries page (n + 1) ≡ page_entries page n ++ page_entry (page + 4096 * n)
 unfolding page_entries
 entries-more page zero = append-nil (page_entry page) ∙ ap page_entry (omega arith)
@@ -30,8 +52,9 @@ entries-more page (suc n) =
     ∙ sym (append_assoc (page_entry page) (page_entries (page + 4096) n) (page_entry (page + 4096 + 4096 * n)))
     ∙ ap (λ a. (page_entry page ++ page_entries (page + 4096) n) ++ page_entry a) last
 
--- entry j, where n entries stand in a row
-pub entry-at : (w : List ℕ) (at n page j : ℕ) → take (8 * n) (drop at w) ≡ page_entries page n → j < n → take 8 (drop (at + 8 * j) w) ≡ page_entry (page + 4096 * j)
+-- entry j of n entries
+pub entry-at : (w : List ℕ) (at n page j : ℕ) → take (8 * n) (drop at w) ≡ page_entries page n → j < n
+    → take 8 (drop (at + 8 * j) w) ≡ page_entry (page + 4096 * j)
 unfolding page_entries
 entry-at w at zero page j e h = absurd (omega (arith, h))
 entry-at w at (suc n) page zero e h =
@@ -47,11 +70,13 @@ entry-at w at (suc n) page (suc j) e h =
     ∙ drop_at (page_entry page) (page_entries (page + 4096) n) 8 (length-page_entry page) in
     let here : at + 8 * suc j ≡ at + 8 + 8 * j = omega arith in
     let next : page + 4096 + 4096 * j ≡ page + 4096 * suc j = omega arith in
-    ap (λ k. take 8 (drop k w)) here ∙ entry-at w (at + 8) n (page + 4096) j rest (omega (arith, h)) ∙ ap page_entry next
+    ap (λ k. take 8 (drop k w)) here ∙ entry-at w (at + 8) n (page + 4096) j rest (omega (arith, h))
+    ∙ ap page_entry next
 
--- an entry as the number that it spells
+-- the number of an entry's bytes
 pub qword-entry : (w : List ℕ) (at page : ℕ) → page < 2 ^ 64 → take 8 (drop at w) ≡ page_entry page → qword w at ≡ page
 unfolding qword page_entry
 qword-entry w at page fits e =
     let width : at + 8 - at ≡ 8 = omega arith in
-    ap (λ k. from_le_bytes w64 (take k (drop at w))) width ∙ ap (from_le_bytes w64) e ∙ from_le_bytes-to_le_bytes_8 page fits
+    ap (λ k. from_le_bytes w64 (take k (drop at w))) width ∙ ap (from_le_bytes w64) e
+    ∙ from_le_bytes-to_le_bytes_8 page fits

@@ -1,4 +1,4 @@
--- What a placing leaves of the window.
+-- For the answer of `place`: the window after a request is placed.
 use Rattle.std.proofs.Common.{◌≡◌, ℕ, ◌+◌, ◌≤◌, ◌<◌, List, length, refl, sym, ap, ◌∙◌, arith, inl, subst}
 use Rattle.nvme_wire.specs.declared.sqe.fields.SqeFields.{SqeFields}
 use Rattle.nvme_wire.specs.Submission.{submission_entry, submission_of}
@@ -12,20 +12,35 @@ use Rattle.nvme_driver.specs.declared.request.Request.{Request}
 use Rattle.nvme_driver.specs.Layout.{command_place, list_page, data_area}
 use Rattle.nvme_driver.specs.Pointers.{stored_list, HasList, IsRequest}
 use Rattle.nvme_driver.specs.Requests.{asked_of}
-use Rattle.nvme_driver.specs.Drivers.{Driver, entry_fields, entry_of, entry_place, placed_window, lane_of, ends, HoldsRequest}
-use Rattle.nvme_driver.proofs.PageLists.{length-stored_list, part-apart, part-there, stored_list_is_there, stores_keep_lists}
+use Rattle.nvme_driver.specs.Drivers.{
+  Driver,
+  entry_fields,
+  entry_of,
+  entry_place,
+  placed_window,
+  lane_of,
+  ends,
+  HoldsRequest,
+}
+use Rattle.nvme_driver.proofs.PageLists.{
+  length-stored_list,
+  part-apart,
+  part-there,
+  stored_list_is_there,
+  stores_keep_lists,
+}
 use Rattle.nvme_driver.proofs.SlotPointers.{slots_are_contiguous}
 
 pub length-entry : (f : SqeFields) → length (submission_entry f) ≡ 64
 unfolding submission_entry
 length-entry f = refl
 
--- entries lie before the list pages
+-- entries are before the list pages
 entry-low : (lane : Lane) (n : ℕ) → command_place lane n + 64 ≤ 65536
 entry-low Admin n = omega arith
 entry-low Io n = omega arith
 
--- of a request that moves at most 131,072 bytes, in the window that its three stores leave
+-- for a request that transfers at most 131,072 bytes, in the window after its three stores
 holds-placed : (d : Driver) (window : List ℕ) (request : Request) (slot : ℕ) → length window ≡ window_size → slot < 24 →
     length (asked_of request).sent ≤ most_bytes → (asked_of request).moved ≤ most_bytes →
     submission_of (entry_of request slot) ≡ entry_fields (asked_of request) slot →
@@ -55,13 +70,14 @@ holds-placed d window request slot whole fits few most say =
       pointer = λ some.
           (let r : IsRequest two slot moved = record { whole = two-size; slot_fits = fits; some = some; most = most } in
           let there : HasList two slot moved =
-          stored_list_is_there one slot moved (record { whole = one-size; slot_fits = fits; some = some; most = most }) in
+          stored_list_is_there one slot moved
+          (record { whole = one-size; slot_fits = fits; some = some; most = most }) in
           slots_are_contiguous (with_bytes two place entry) slot moved
           (record { whole = all-size; slot_fits = fits; some = some; most = most })
           (stores_keep_lists two slot moved place entry r (omega arith) (inl (omega arith)) there));
     }
 
--- as the three stores of the code leave it
+-- after the three stores, as the code makes them
 pub holds : (d : Driver) (old one two new sent list entry : List ℕ) (request : Request) (slot a b c : ℕ) →
     length old ≡ window_size → slot < 24 → length sent ≤ most_bytes → (asked_of request).moved ≤ most_bytes →
     a ≡ data_area slot → sent ≡ (asked_of request).sent → b ≡ list_page slot →
@@ -69,14 +85,17 @@ pub holds : (d : Driver) (old one two new sent list entry : List ℕ) (request :
     one ≡ with_bytes old a sent → two ≡ with_bytes one b list → new ≡ with_bytes two c entry →
     submission_of (entry_of request slot) ≡ entry_fields (asked_of request) slot →
     HoldsRequest d old new request slot
-holds d old one two new sent list entry request slot a b c whole fits few most a-is sent-is b-is list-is c-is entry-is one-is two-is new-is say =
+holds d old one two new sent list entry request slot a b c whole fits few most a-is sent-is b-is list-is c-is entry-is
+    one-is two-is new-is say =
     let short : length (asked_of request).sent ≤ most_bytes = subst (λ xs. length xs ≤ most_bytes) sent-is few in
     let first : one ≡ with_bytes old (data_area slot) (asked_of request).sent =
     one-is ∙ ap (λ x. with_bytes old x sent) a-is ∙ ap (with_bytes old (data_area slot)) sent-is in
-    let second : two ≡ with_bytes (with_bytes old (data_area slot) (asked_of request).sent) (list_page slot) (stored_list slot (asked_of request).moved) =
+    let second : two ≡ with_bytes (with_bytes old (data_area slot) (asked_of request).sent) (list_page slot)
+    (stored_list slot (asked_of request).moved) =
     two-is ∙ ap (λ x. with_bytes one x list) b-is ∙ ap (with_bytes one (list_page slot)) list-is
     ∙ ap (λ w. with_bytes w (list_page slot) (stored_list slot (asked_of request).moved)) first in
     let third : new ≡ placed_window d old request slot =
     new-is ∙ ap (λ x. with_bytes two x entry) c-is ∙ ap (with_bytes two (entry_place d request)) entry-is
     ∙ ap (λ w. with_bytes w (entry_place d request) (entry_of request slot)) second in
-    subst (λ w. HoldsRequest d old w request slot) (sym third) (holds-placed d old request slot whole fits short most say)
+    subst (λ w. HoldsRequest d old w request slot) (sym third)
+    (holds-placed d old request slot whole fits short most say)

@@ -1,5 +1,27 @@
--- How a controller comes up, step by step.
-use Rattle.std.proofs.Common.{◌≡◌, ℕ, ◌<◌, List, refl, ap, sym, ◌∙◌, arith, zero, suc, true, false, Option, Some, None, Result, Ok, Err, subst, MatchOption}
+-- For the answers of `bring_up`: a controller comes up, step by step.
+use Rattle.std.proofs.Common.{
+  ◌≡◌,
+  ℕ,
+  ◌<◌,
+  List,
+  refl,
+  ap,
+  sym,
+  ◌∙◌,
+  arith,
+  zero,
+  suc,
+  true,
+  false,
+  Option,
+  Some,
+  None,
+  Result,
+  Ok,
+  Err,
+  subst,
+  MatchOption,
+}
 use Rattle.nvme_wire.specs.declared.sqe.fields.SqeFields.{SqeFields}
 use Rattle.nvme_wire.specs.declared.status.Status.{Status}
 use Rattle.nvme_wire.specs.Completion.{status}
@@ -8,36 +30,64 @@ use Rattle.nvme_driver.specs.declared.faults.UpFault.TheVariants.{NotReady}
 use Rattle.nvme_driver.specs.declared.state.State.TheVariants.{Up}
 use Rattle.nvme_driver.specs.Calls.{Call, Turns, Calls, Awaits}
 use Rattle.nvme_driver.specs.Drivers.{Driver, Ends}
-use Rattle.nvme_driver.specs.Rises.{own_answer, sent, send_calls, heard_own, heard_calls, Creates, fault_of, start_calls, is_ready, started, create_completion_queue, create_submission_queue, Rises}
+use Rattle.nvme_driver.specs.Rises.{
+  own_answer,
+  sent,
+  send_calls,
+  heard_own,
+  heard_calls,
+  Creates,
+  fault_of,
+  start_calls,
+  is_ready,
+  started,
+  create_completion_queue,
+  create_submission_queue,
+  Rises,
+}
 
--- no turn is left
-pub awaits-none : {S A : Type 0} (step : S → Call → S → Type 0) (look : S → Option A) (n : ℕ) (old : S) → n ≡ 0 → Awaits step look n old None old
+-- without turns there is no answer
+pub awaits-none : {S A : Type 0} (step : S → Call → S → Type 0) (look : S → Option A) (n : ℕ) (old : S)
+    → n ≡ 0 → Awaits step look n old None old
 unfolding Awaits
 awaits-none step look n old e = rw e (refl, refl)
 
--- a turn after which the look finds the answer
-pub awaits-found : {S A : Type 0} (step : S → Call → S → Type 0) (look : S → Option A) (n : ℕ) (old new : S) (e : A) → 0 < n →
+-- after this turn there is an answer
+pub awaits-found :
+    {S A : Type 0} (step : S → Call → S → Type 0) (look : S → Option A) (n : ℕ) (old new : S) (e : A) → 0 < n →
     step old Turns new → look new ≡ Some e → Awaits step look n old (Some e) new
 unfolding Awaits
 awaits-found step look zero old new e p h k = let b : ⊥ = omega (arith, p) in absurd b
 awaits-found step look (suc n) old new e p h k = (new, h, rw k (refl, refl))
 
--- a turn after which it doesn't
-pub awaits-more : {S A : Type 0} (step : S → Call → S → Type 0) (look : S → Option A) (n m : ℕ) (old mid new : S) (answer : Option A) → n ≡ suc m →
+-- after this turn there is no answer yet
+pub awaits-more : {S A : Type 0} (step : S → Call → S → Type 0) (look : S → Option A) (n m : ℕ) (old mid new : S)
+    (answer : Option A) → n ≡ suc m →
     step old Turns mid → look mid ≡ None → Awaits step look m mid answer new → Awaits step look n old answer new
 unfolding Awaits
 awaits-more step look n m old mid new answer e h k r = rw e (mid, h, rw k r)
 
 -- a command of the driver's own without an answer, and with one
-pub creates-none : {S : Type 0} (step : S → Call → S → Type 0) (bytes : S → List ℕ) (command : SqeFields) (d d' : Driver) (ends : Ends) (old rung new : S) → d' ≡ sent d →
-    Calls step old (send_calls d.admin command) rung → ends ≡ d'.admin → Awaits step (λ p. own_answer ends (bytes p)) 4 rung None new → Creates step bytes command d old None d' new
+pub creates-none : {S : Type 0} (step : S → Call → S → Type 0) (bytes : S → List ℕ) (command : SqeFields)
+    (d d' : Driver) (ends : Ends) (old rung new : S) → d' ≡ sent d →
+    Calls step old (send_calls d.admin command) rung → ends ≡ d'.admin
+    → Awaits step (λ p. own_answer ends (bytes p)) 4 rung None new → Creates step bytes command d old None d' new
 unfolding Creates
-creates-none step bytes command d d' ends old rung new e h is k =
-    (rung, None, new, h, subst (λ x. Awaits step (λ p. own_answer x (bytes p)) 4 rung None new) (is ∙ ap (λ (x : Driver). x.admin) e) k, (refl, e, refl))
+creates-none step bytes command d d' ends old rung new e h is k = (
+  rung,
+  None,
+  new,
+  h,
+  subst (λ x. Awaits step (λ p. own_answer x (bytes p)) 4 rung None new) (is ∙ ap (λ (x : Driver). x.admin) e) k,
+  (refl, e, refl),
+)
 
-pub creates-some : {S : Type 0} (step : S → Call → S → Type 0) (bytes : S → List ℕ) (command : SqeFields) (d d1 d' : Driver) (ends : Ends) (old rung seen new : S) (e : List ℕ) (s : Status) → d1 ≡ sent d →
-    Calls step old (send_calls d.admin command) rung → ends ≡ d1.admin → Awaits step (λ p. own_answer ends (bytes p)) 4 rung (Some e) seen →
-    d' ≡ heard_own d1 e → Calls step seen (heard_calls d1.admin e) new → s ≡ status e → Creates step bytes command d old (Some s) d' new
+pub creates-some : {S : Type 0} (step : S → Call → S → Type 0) (bytes : S → List ℕ) (command : SqeFields)
+    (d d1 d' : Driver) (ends : Ends) (old rung seen new : S) (e : List ℕ) (s : Status) → d1 ≡ sent d →
+    Calls step old (send_calls d.admin command) rung → ends ≡ d1.admin
+    → Awaits step (λ p. own_answer ends (bytes p)) 4 rung (Some e) seen →
+    d' ≡ heard_own d1 e → Calls step seen (heard_calls d1.admin e) new → s ≡ status e
+    → Creates step bytes command d old (Some s) d' new
 unfolding Creates
 creates-some step bytes command d d1 d' ends old rung seen new e s p h same k q t is = (
   rung,
@@ -48,12 +98,14 @@ creates-some step bytes command d d1 d' ends old rung seen new e s p h same k q 
   (ap Some is, q ∙ ap (λ x. heard_own x e) p, subst (λ (x : Driver). Calls step seen (heard_calls x.admin e) new) p t),
 )
 
--- what a judged answer comes to
-judged-fault : (o : Option UpFault) (r : Result (Unit {0}) UpFault) (f : UpFault) → MatchOption o (r ≡ Ok tt) (λ g. r ≡ Err g) → r ≡ Err f → o ≡ Some f
+-- the outcome of a judged answer
+judged-fault : (o : Option UpFault) (r : Result (Unit {0}) UpFault) (f : UpFault)
+    → MatchOption o (r ≡ Ok tt) (λ g. r ≡ Err g) → r ≡ Err f → o ≡ Some f
 judged-fault None r f h e = absurd (cc (h, e))
 judged-fault (Some g) r f h e = search (h, e)
 
-judged-fine : (o : Option UpFault) (r : Result (Unit {0}) UpFault) → MatchOption o (r ≡ Ok tt) (λ g. r ≡ Err g) → r ≡ Ok tt → o ≡ None
+judged-fine : (o : Option UpFault) (r : Result (Unit {0}) UpFault) → MatchOption o (r ≡ Ok tt) (λ g. r ≡ Err g)
+    → r ≡ Ok tt → o ≡ None
 judged-fine None r h e = refl
 judged-fine (Some g) r h e = absurd (cc (h, e))
 
@@ -64,13 +116,15 @@ pub rises-not : {S : Type 0} (step : S → Call → S → Type 0) (bytes : S →
 unfolding Rises
 rises-not step bytes d d' old new h e = (h.0, new, h.2, rw (sym h.1) (refl, e, refl))
 
--- a command that creates the queue that is meant
-creating : {S : Type 0} (step : S → Call → S → Type 0) (bytes : S → List ℕ) (q r : SqeFields) (d d' : Driver) (old new : S) (answer : Option Status) →
+-- a command that creates the intended queue
+creating : {S : Type 0} (step : S → Call → S → Type 0) (bytes : S → List ℕ) (q r : SqeFields) (d d' : Driver)
+    (old new : S) (answer : Option Status) →
     q ≡ r → Creates step bytes q d old answer d' new → Creates step bytes r d old answer d' new
 creating step bytes q r d d' old new answer e h = subst (λ x. Creates step bytes x d old answer d' new) e h
 
--- it is ready, and the first command came to a fault
-pub rises-first : {S : Type 0} (step : S → Call → S → Type 0) (bytes : S → List ℕ) (d d1 d2 : Driver) (old on new : S) (q : SqeFields) (answer : Option Status) (j r : Result (Unit {0}) UpFault) (f : UpFault) →
+-- it is ready, and the first command failed
+pub rises-first : {S : Type 0} (step : S → Call → S → Type 0) (bytes : S → List ℕ) (d d1 d2 : Driver) (old on new : S)
+    (q : SqeFields) (answer : Option Status) (j r : Result (Unit {0}) UpFault) (f : UpFault) →
     (value : ℕ) × (true ≡ is_ready value) × Calls step old (start_calls value) on → d1 ≡ started d →
     q ≡ create_completion_queue → Creates step bytes q d1 on answer d2 new →
     MatchOption (fault_of answer) (j ≡ Ok tt) (λ g. j ≡ Err g) → j ≡ Err f → r ≡ Err f →
@@ -78,11 +132,23 @@ pub rises-first : {S : Type 0} (step : S → Call → S → Type 0) (bytes : S �
 unfolding Rises
 rises-first step bytes d d1 d2 old on new q answer j r f h e q-is k judged is r-is =
     let fault : fault_of answer ≡ Some f = judged-fault (fault_of answer) j f judged is in
-    let made = creating step bytes q create_completion_queue d1 d2 on new answer q-is k in
-    (h.0, on, h.2, rw (sym h.1) (answer, d2, new, subst (λ x. Creates step bytes create_completion_queue x on answer d2 new) e made, rw fault (r-is, refl, refl)))
+    let made = creating step bytes q create_completion_queue d1 d2 on new answer q-is k in (
+      h.0,
+      on,
+      h.2,
+      rw (sym h.1) (
+        answer,
+        d2,
+        new,
+        subst (λ x. Creates step bytes create_completion_queue x on answer d2 new) e made,
+        rw fault (r-is, refl, refl),
+      ),
+    )
 
--- the first command succeeded, and the second came to a fault
-pub rises-second : {S : Type 0} (step : S → Call → S → Type 0) (bytes : S → List ℕ) (d d1 d2 d3 : Driver) (old on mid new : S) (q1 q2 : SqeFields) (a1 a2 : Option Status) (j1 j2 r : Result (Unit {0}) UpFault) (f : UpFault) →
+-- the first command succeeded, and the second failed
+pub rises-second : {S : Type 0} (step : S → Call → S → Type 0) (bytes : S → List ℕ) (d d1 d2 d3 : Driver)
+    (old on mid new : S) (q1 q2 : SqeFields) (a1 a2 : Option Status) (j1 j2 r : Result (Unit {0}) UpFault)
+    (f : UpFault) →
     (value : ℕ) × (true ≡ is_ready value) × Calls step old (start_calls value) on → d1 ≡ started d →
     q1 ≡ create_completion_queue → Creates step bytes q1 d1 on a1 d2 mid →
     MatchOption (fault_of a1) (j1 ≡ Ok tt) (λ g. j1 ≡ Err g) → j1 ≡ Ok tt →
@@ -90,7 +156,8 @@ pub rises-second : {S : Type 0} (step : S → Call → S → Type 0) (bytes : S 
     MatchOption (fault_of a2) (j2 ≡ Ok tt) (λ g. j2 ≡ Err g) → j2 ≡ Err f → r ≡ Err f →
     Rises step bytes d old r d3 new
 unfolding Rises
-rises-second step bytes d d1 d2 d3 old on mid new q1 q2 a1 a2 j1 j2 r f h e q1-is k judged is q2-is k2 judged2 is2 r-is =
+rises-second step bytes d d1 d2 d3 old on mid new q1 q2 a1 a2 j1 j2 r f h e q1-is k judged is q2-is k2
+    judged2 is2 r-is =
     let none : fault_of a1 ≡ None = judged-fine (fault_of a1) j1 judged is in
     let fault : fault_of a2 ≡ Some f = judged-fault (fault_of a2) j2 f judged2 is2 in
     let made = creating step bytes q1 create_completion_queue d1 d2 on mid a1 q1-is k in (
@@ -102,12 +169,14 @@ rises-second step bytes d d1 d2 d3 old on mid new q1 q2 a1 a2 j1 j2 r f h e q1-i
         d2,
         mid,
         subst (λ x. Creates step bytes create_completion_queue x on a1 d2 mid) e made,
-        rw none (a2, d3, creating step bytes q2 create_submission_queue d2 d3 mid new a2 q2-is k2, rw fault (r-is, refl)),
+        rw none
+            (a2, d3, creating step bytes q2 create_submission_queue d2 d3 mid new a2 q2-is k2, rw fault (r-is, refl)),
       ),
     )
 
 -- both succeeded
-pub rises-up : {S : Type 0} (step : S → Call → S → Type 0) (bytes : S → List ℕ) (d d1 d2 d3 d' : Driver) (old on mid new : S) (q1 q2 : SqeFields) (a1 a2 : Option Status) (j1 j2 : Result (Unit {0}) UpFault) →
+pub rises-up : {S : Type 0} (step : S → Call → S → Type 0) (bytes : S → List ℕ) (d d1 d2 d3 d' : Driver)
+    (old on mid new : S) (q1 q2 : SqeFields) (a1 a2 : Option Status) (j1 j2 : Result (Unit {0}) UpFault) →
     (value : ℕ) × (true ≡ is_ready value) × Calls step old (start_calls value) on → d1 ≡ started d →
     q1 ≡ create_completion_queue → Creates step bytes q1 d1 on a1 d2 mid →
     MatchOption (fault_of a1) (j1 ≡ Ok tt) (λ g. j1 ≡ Err g) → j1 ≡ Ok tt →
@@ -127,6 +196,7 @@ rises-up step bytes d d1 d2 d3 d' old on mid new q1 q2 a1 a2 j1 j2 h e q1-is k j
         d2,
         mid,
         subst (λ x. Creates step bytes create_completion_queue x on a1 d2 mid) e made,
-        rw none (a2, d3, creating step bytes q2 create_submission_queue d2 d3 mid new a2 q2-is k2, rw fine (refl, d-is)),
+        rw none
+            (a2, d3, creating step bytes q2 create_submission_queue d2 d3 mid new a2 q2-is k2, rw fine (refl, d-is)),
       ),
     )

@@ -1,58 +1,114 @@
--- Bringing up has one outcome, where each call has one: of two, from the same state, the one is the other.
-use Rattle.std.proofs.Common.{◌≡◌, ◌≤◌, ℕ, zero, suc, Bool, true, false, List, [], ◌∷◌, ◌++◌, take, Option, None, Some, Result, sym, ap, subst, ◌∙◌, arith}
+-- For `nvme_fleet`: bringing up has one outcome if each call has one, shown for two outcomes from the same state.
+use Rattle.std.proofs.Common.{
+  ◌≡◌,
+  ◌≤◌,
+  ℕ,
+  zero,
+  suc,
+  Bool,
+  true,
+  false,
+  List,
+  [],
+  ◌∷◌,
+  ◌++◌,
+  take,
+  Option,
+  None,
+  Some,
+  Result,
+  sym,
+  ap,
+  subst,
+  ◌∙◌,
+  arith,
+}
 use Rattle.std.specs.Prelude.{MatchOption}
 use Rattle.nvme_wire.specs.declared.sqe.fields.SqeFields.{SqeFields}
 use Rattle.nvme_wire.specs.declared.status.Status.{Status}
 use Rattle.nvme_driver.specs.declared.faults.UpFault.{UpFault}
 use Rattle.nvme_driver.specs.Calls.{Call, Reads, Turns, Calls, Awaits}
 use Rattle.nvme_driver.specs.Drivers.{Driver}
-use Rattle.nvme_driver.specs.Rises.{Rises, Creates, CreatesBoth, CreatesSubmissions, Concludes, Hears, create_completion_queue, create_submission_queue, csts, start_calls, started, is_ready, fault_of, own_answer, sent, send_calls, heard_calls}
+use Rattle.nvme_driver.specs.Rises.{
+  Rises,
+  Creates,
+  CreatesBoth,
+  CreatesSubmissions,
+  Concludes,
+  Hears,
+  create_completion_queue,
+  create_submission_queue,
+  csts,
+  start_calls,
+  started,
+  is_ready,
+  fault_of,
+  own_answer,
+  sent,
+  send_calls,
+  heard_calls,
+}
 
--- A count never falls over a call, and a call over which it stays has one outcome; a read, one value.
+-- A count never falls over a call; a call over which it stays has one outcome, and a read one value.
 pub record IsSure {S : Type 0} (step : S → Call → S → Type 0) (count : S → ℕ) (base : ℕ) : Type 0 where
   pub grows : (call : Call) (p q : S) → step p call q → count p ≤ count q
-  pub alone : (call : Call) (p q r : S) → count p ≡ base → count q ≡ base → count r ≡ base → step p call q → step p call r → r ≡ q
-  pub value : (offset v u : ℕ) (p q r : S) → count p ≡ base → count q ≡ base → count r ≡ base → step p (Reads offset v) q → step p (Reads offset u) r → u ≡ v
+  pub alone : (call : Call) (p q r : S) → count p ≡ base → count q ≡ base → count r ≡ base → step p call q
+      → step p call r → r ≡ q
+  pub value : (offset v u : ℕ) (p q r : S) → count p ≡ base → count q ≡ base → count r ≡ base
+      → step p (Reads offset v) q → step p (Reads offset u) r → u ≡ v
 
 between : (a b c : ℕ) → a ≤ b → b ≤ c → (n : ℕ) → a ≡ n → c ≡ n → b ≡ n
 between a b c low high n first last = omega (arith, low, high, first, last)
 
 -- Calls.
 
-calls-grow : {S : Type 0} (step : S → Call → S → Type 0) (count : S → ℕ) (base : ℕ) → IsSure step count base → (calls : List Call) (old new : S) → Calls step old calls new → count old ≤ count new
+calls-grow : {S : Type 0} (step : S → Call → S → Type 0) (count : S → ℕ) (base : ℕ)
+    → IsSure step count base → (calls : List Call) (old new : S) → Calls step old calls new → count old ≤ count new
 calls-grow step count base m [] old new h = let e = ap count h in omega (arith, e)
 calls-grow step count base m (call ∷ calls) old new (mid, one, rest) =
     let a = m.grows call old mid one in
     let b = calls-grow step count base m calls mid new rest in
     omega (arith, a, b)
 
-calls-alone : {S : Type 0} (step : S → Call → S → Type 0) (count : S → ℕ) (base : ℕ) → IsSure step count base → (calls : List Call) (old new other : S) → count old ≡ base → count new ≡ base → count other ≡ base
+calls-alone : {S : Type 0} (step : S → Call → S → Type 0) (count : S → ℕ) (base : ℕ) → IsSure step count base
+    → (calls : List Call) (old new other : S) → count old ≡ base → count new ≡ base → count other ≡ base
     → Calls step old calls new → Calls step old calls other → other ≡ new
 calls-alone step count base m [] old new other a b c h g = g ∙ sym h
 calls-alone step count base m (call ∷ calls) old new other a b c (mid, one, rest) (mid', one', rest') =
-    let p = between (count old) (count mid) (count new) (m.grows call old mid one) (calls-grow step count base m calls mid new rest) base a b in
-    let q = between (count old) (count mid') (count other) (m.grows call old mid' one') (calls-grow step count base m calls mid' other rest') base a c in
+    let p = between (count old) (count mid) (count new) (m.grows call old mid one)
+    (calls-grow step count base m calls mid new rest) base a b in
+    let q = between (count old) (count mid') (count other) (m.grows call old mid' one')
+    (calls-grow step count base m calls mid' other rest') base a c in
     let same : mid' ≡ mid = m.alone call old mid mid' a p q one one' in
     calls-alone step count base m calls mid new other p b c rest (subst (λ x. Calls step x calls other) same rest')
 
 -- those that end with a read
-reads-alone : {S : Type 0} (step : S → Call → S → Type 0) (count : S → ℕ) (base : ℕ) → IsSure step count base → (calls : List Call) (offset v u : ℕ) (old new other : S) → count old ≡ base → count new ≡ base → count other ≡ base
+reads-alone : {S : Type 0} (step : S → Call → S → Type 0) (count : S → ℕ) (base : ℕ)
+    → IsSure step count base → (calls : List Call) (offset v u : ℕ) (old new other : S)
+    → count old ≡ base → count new ≡ base → count other ≡ base
     → Calls step old (calls ++ Reads offset v ∷ []) new → Calls step old (calls ++ Reads offset u ∷ []) other → u ≡ v
 reads-alone step count base m [] offset v u old new other a b c (mid, one, rest) (mid', one', rest') =
     m.value offset v u old mid mid' a (sym (ap count rest) ∙ b) (sym (ap count rest') ∙ c) one one'
 reads-alone step count base m (call ∷ calls) offset v u old new other a b c (mid, one, rest) (mid', one', rest') =
-    let p = between (count old) (count mid) (count new) (m.grows call old mid one) (calls-grow step count base m (calls ++ Reads offset v ∷ []) mid new rest) base a b in
-    let q = between (count old) (count mid') (count other) (m.grows call old mid' one') (calls-grow step count base m (calls ++ Reads offset u ∷ []) mid' other rest') base a c in
+    let p = between (count old) (count mid) (count new) (m.grows call old mid one)
+    (calls-grow step count base m (calls ++ Reads offset v ∷ []) mid new rest) base a b in
+    let q = between (count old) (count mid') (count other) (m.grows call old mid' one')
+    (calls-grow step count base m (calls ++ Reads offset u ∷ []) mid' other rest') base a c in
     let same : mid' ≡ mid = m.alone call old mid mid' a p q one one' in
-    reads-alone step count base m calls offset v u mid new other p b c rest (subst (λ x. Calls step x (calls ++ Reads offset u ∷ []) other) same rest')
+    reads-alone step count base m calls offset v u mid new other p b c rest
+    (subst (λ x. Calls step x (calls ++ Reads offset u ∷ []) other) same rest')
 
 -- Waiting.
 
-found-grows : {S A : Type 0} (count : S → ℕ) (o answer : Option A) (mid new : S) (P : Type 0) → (P → count mid ≤ count new) → MatchOption o P (λ found. (answer ≡ Some found) × (new ≡ mid)) → count mid ≤ count new
+found-grows : {S A : Type 0} (count : S → ℕ) (o answer : Option A) (mid new : S) (P : Type 0)
+    → (P → count mid ≤ count new) → MatchOption o P (λ found. (answer ≡ Some found) × (new ≡ mid))
+    → count mid ≤ count new
 found-grows count None answer mid new P g h = g h
 found-grows count (Some found) answer mid new P g h = let e = ap count h.1 in omega (arith, e)
 
-awaits-grow : {S A : Type 0} (step : S → Call → S → Type 0) (count : S → ℕ) (base : ℕ) → IsSure step count base → (look : S → Option A) (n : ℕ) (old new : S) (answer : Option A) → Awaits step look n old answer new → count old ≤ count new
+awaits-grow : {S A : Type 0} (step : S → Call → S → Type 0) (count : S → ℕ) (base : ℕ)
+    → IsSure step count base → (look : S → Option A) (n : ℕ) (old new : S) (answer : Option A)
+    → Awaits step look n old answer new → count old ≤ count new
 unfolding Awaits
 awaits-grow step count base m look zero old new answer h = let e = ap count h.1 in omega (arith, e)
 awaits-grow step count base m look (suc n) old new answer (mid, turn, next) =
@@ -60,40 +116,56 @@ awaits-grow step count base m look (suc n) old new answer (mid, turn, next) =
     let b = found-grows count (look mid) answer mid new _ (awaits-grow step count base m look n mid new answer) next in
     omega (arith, a, b)
 
-found-alone : {S A : Type 0} (o answer answer' : Option A) (mid new other : S) (P Q : Type 0) → (P → Q → (answer' ≡ answer) × (other ≡ new)) → MatchOption o P (λ found. (answer ≡ Some found) × (new ≡ mid))
+found-alone : {S A : Type 0} (o answer answer' : Option A) (mid new other : S) (P Q : Type 0)
+    → (P → Q → (answer' ≡ answer) × (other ≡ new)) → MatchOption o P (λ found. (answer ≡ Some found) × (new ≡ mid))
     → MatchOption o Q (λ found. (answer' ≡ Some found) × (other ≡ mid)) → (answer' ≡ answer) × (other ≡ new)
 found-alone None answer answer' mid new other P Q both h g = both h g
 found-alone (Some found) answer answer' mid new other P Q both h g = (g.0 ∙ sym h.0, g.1 ∙ sym h.1)
 
-awaits-alone : {S A : Type 0} (step : S → Call → S → Type 0) (count : S → ℕ) (base : ℕ) → IsSure step count base → (look : S → Option A) (n : ℕ) (old new other : S) (answer answer' : Option A)
-    → count old ≡ base → count new ≡ base → count other ≡ base → Awaits step look n old answer new → Awaits step look n old answer' other → (answer' ≡ answer) × (other ≡ new)
+awaits-alone : {S A : Type 0} (step : S → Call → S → Type 0) (count : S → ℕ) (base : ℕ)
+    → IsSure step count base → (look : S → Option A) (n : ℕ) (old new other : S) (answer answer' : Option A)
+    → count old ≡ base → count new ≡ base → count other ≡ base → Awaits step look n old answer new
+    → Awaits step look n old answer' other → (answer' ≡ answer) × (other ≡ new)
 unfolding Awaits
 awaits-alone step count base m look zero old new other answer answer' a b c h g = (g.0 ∙ sym h.0, g.1 ∙ sym h.1)
 awaits-alone step count base m look (suc n) old new other answer answer' a b c (mid, turn, next) (mid', turn', next') =
-    let p = between (count old) (count mid) (count new) (m.grows Turns old mid turn) (found-grows count (look mid) answer mid new _ (awaits-grow step count base m look n mid new answer) next) base a b in
-    let q = between (count old) (count mid') (count other) (m.grows Turns old mid' turn') (found-grows count (look mid') answer' mid' other _ (awaits-grow step count base m look n mid' other answer') next') base a c in
+    let p = between (count old) (count mid) (count new) (m.grows Turns old mid turn) (found-grows count
+    (look mid) answer mid new _ (awaits-grow step count base m look n mid new answer) next) base a b in
+    let q = between (count old) (count mid') (count other) (m.grows Turns old mid' turn') (found-grows count
+    (look mid') answer' mid' other _ (awaits-grow step count base m look n mid' other answer') next') base a c in
     let same : mid' ≡ mid = m.alone Turns old mid mid' a p q turn turn' in
-    found-alone (look mid) answer answer' mid new other _ _ (awaits-alone step count base m look n mid new other answer answer' p b c) next
-    (subst (λ x. MatchOption (look x) (Awaits step look n x answer' other) (λ found. (answer' ≡ Some found) × (other ≡ x))) same next')
+    found-alone (look mid) answer answer' mid new other _ _
+    (awaits-alone step count base m look n mid new other answer answer' p b c) next
+    (subst (λ x. MatchOption (look x) (Awaits step look n x answer' other)
+    (λ found. (answer' ≡ Some found) × (other ≡ x))) same next')
 
 -- A command of the driver's own.
 
-hears-grow : {S : Type 0} (step : S → Call → S → Type 0) (count : S → ℕ) (base : ℕ) → IsSure step count base → (d d' : Driver) (answer : Option (List ℕ)) (old new : S) (result : Option Status)
+hears-grow : {S : Type 0} (step : S → Call → S → Type 0) (count : S → ℕ) (base : ℕ)
+    → IsSure step count base → (d d' : Driver) (answer : Option (List ℕ)) (old new : S) (result : Option Status)
     → Hears step d answer old result d' new → count old ≤ count new
 hears-grow step count base m d d' None old new result h = let e = ap count h.2 in omega (arith, e)
-hears-grow step count base m d d' (Some entry) old new result h = calls-grow step count base m (heard_calls d.admin entry) old new h.2
+hears-grow step count base m d d' (Some entry) old new result h =
+    calls-grow step count base m (heard_calls d.admin entry) old new h.2
 
--- what comes of it, and the driver and the state that it leaves
+-- its result, and the driver and the state after it
 abbrev Same : {S A : Type 0} → A → A → Driver → Driver → S → S → Type 0
 Same result result' d d' new other = (result' ≡ result) × (d' ≡ d) × (other ≡ new)
 
-hears-alone : {S : Type 0} (step : S → Call → S → Type 0) (count : S → ℕ) (base : ℕ) → IsSure step count base → (d d' d'' : Driver) (answer : Option (List ℕ)) (old new other : S) (result result' : Option Status)
-    → count old ≡ base → count new ≡ base → count other ≡ base → Hears step d answer old result d' new → Hears step d answer old result' d'' other → Same result result' d' d'' new other
-hears-alone step count base m d d' d'' None old new other result result' a b c h g = (g.0 ∙ sym h.0, g.1 ∙ sym h.1, g.2 ∙ sym h.2)
-hears-alone step count base m d d' d'' (Some entry) old new other result result' a b c h g =
-    (g.0 ∙ sym h.0, g.1 ∙ sym h.1, calls-alone step count base m (heard_calls d.admin entry) old new other a b c h.2 g.2)
+hears-alone : {S : Type 0} (step : S → Call → S → Type 0) (count : S → ℕ) (base : ℕ) → IsSure step count base
+    → (d d' d'' : Driver) (answer : Option (List ℕ)) (old new other : S) (result result' : Option Status)
+    → count old ≡ base → count new ≡ base → count other ≡ base → Hears step d answer old result d' new
+    → Hears step d answer old result' d'' other → Same result result' d' d'' new other
+hears-alone step count base m d d' d'' None old new other result result' a b c h g =
+    (g.0 ∙ sym h.0, g.1 ∙ sym h.1, g.2 ∙ sym h.2)
+hears-alone step count base m d d' d'' (Some entry) old new other result result' a b c h g = (
+  g.0 ∙ sym h.0,
+  g.1 ∙ sym h.1,
+  calls-alone step count base m (heard_calls d.admin entry) old new other a b c h.2 g.2,
+)
 
-creates-grow : {S : Type 0} (step : S → Call → S → Type 0) (count : S → ℕ) (base : ℕ) → IsSure step count base → (bytes : S → List ℕ) (command : SqeFields) (d d' : Driver) (old new : S) (result : Option Status)
+creates-grow : {S : Type 0} (step : S → Call → S → Type 0) (count : S → ℕ) (base : ℕ) → IsSure step count base
+    → (bytes : S → List ℕ) (command : SqeFields) (d d' : Driver) (old new : S) (result : Option Status)
     → Creates step bytes command d old result d' new → count old ≤ count new
 unfolding Creates
 creates-grow step count base m bytes command d d' old new result (rung, answer, seen, sends, awaits, hears) =
@@ -102,10 +174,14 @@ creates-grow step count base m bytes command d d' old new result (rung, answer, 
     let c = hears-grow step count base m (sent d) d' answer seen new result hears in
     omega (arith, a, b, c)
 
-creates-alone : {S : Type 0} (step : S → Call → S → Type 0) (count : S → ℕ) (base : ℕ) → IsSure step count base → (bytes : S → List ℕ) (command : SqeFields) (d d' d'' : Driver) (old new other : S) (result result' : Option Status)
-    → count old ≡ base → count new ≡ base → count other ≡ base → Creates step bytes command d old result d' new → Creates step bytes command d old result' d'' other → Same result result' d' d'' new other
+creates-alone : {S : Type 0} (step : S → Call → S → Type 0) (count : S → ℕ) (base : ℕ) → IsSure step count base
+    → (bytes : S → List ℕ) (command : SqeFields) (d d' d'' : Driver) (old new other : S)
+    (result result' : Option Status)
+    → count old ≡ base → count new ≡ base → count other ≡ base → Creates step bytes command d old result d' new
+    → Creates step bytes command d old result' d'' other → Same result result' d' d'' new other
 unfolding Creates
-creates-alone {S} step count base m bytes command d d' d'' old new other result result' a b c (rung, answer, seen, sends, awaits, hears) (rung', answer', seen', sends', awaits', hears') =
+creates-alone {S} step count base m bytes command d d' d'' old new other result result' a b c
+    (rung, answer, seen, sends, awaits, hears) (rung', answer', seen', sends', awaits', hears') =
     let look : S → Option (List ℕ) = λ p. own_answer (sent d).admin (bytes p) in
     let one = calls-grow step count base m (send_calls d.admin command) old rung sends in
     let two = awaits-grow step count base m look 4 rung seen answer awaits in
@@ -117,34 +193,47 @@ creates-alone {S} step count base m bytes command d d' d'' old new other result 
     let q : count seen ≡ base = omega (arith, one, two, three, a, b) in
     let p' : count rung' ≡ base = omega (arith, one', two', three', a, c) in
     let q' : count seen' ≡ base = omega (arith, one', two', three', a, c) in
-    let same : rung' ≡ rung = calls-alone step count base m (send_calls d.admin command) old rung rung' a p p' sends sends' in
-    let found = awaits-alone step count base m look 4 rung seen seen' answer answer' p q q' awaits (subst (λ x. Awaits step look 4 x answer' seen') same awaits') in
+    let same : rung' ≡ rung =
+    calls-alone step count base m (send_calls d.admin command) old rung rung' a p p' sends sends' in
+    let found = awaits-alone step count base m look 4 rung seen seen' answer answer' p q q' awaits
+    (subst (λ x. Awaits step look 4 x answer' seen') same awaits') in
     hears-alone step count base m (sent d) d' d'' answer seen new other result result' q b c hears
-    (subst (λ x. Hears step (sent d) answer x result' d'' other) found.1 (subst (λ x. Hears step (sent d) x seen' result' d'' other) found.0 hears'))
+    (subst (λ x. Hears step (sent d) answer x result' d'' other) found.1
+    (subst (λ x. Hears step (sent d) x seen' result' d'' other) found.0 hears'))
 
 -- Both queues.
 
-concludes-alone : (fault : Option UpFault) (result result' : Result (Unit {0}) UpFault) (d d' d'' : Driver) → Concludes fault result d d' → Concludes fault result' d d'' → (result' ≡ result) × (d'' ≡ d')
+concludes-alone : (fault : Option UpFault) (result result' : Result (Unit {0}) UpFault) (d d' d'' : Driver)
+    → Concludes fault result d d' → Concludes fault result' d d'' → (result' ≡ result) × (d'' ≡ d')
 concludes-alone None result result' d d' d'' h g = (g.0 ∙ sym h.0, g.1 ∙ sym h.1)
 concludes-alone (Some fault) result result' d d' d'' h g = (g.0 ∙ sym h.0, g.1 ∙ sym h.1)
 
-submissions-grow : {S : Type 0} (step : S → Call → S → Type 0) (count : S → ℕ) (base : ℕ) → IsSure step count base → (bytes : S → List ℕ) (fault : Option UpFault) (d d' : Driver) (old new : S) (result : Result (Unit {0}) UpFault)
+submissions-grow : {S : Type 0} (step : S → Call → S → Type 0) (count : S → ℕ) (base : ℕ) → IsSure step count base
+    → (bytes : S → List ℕ) (fault : Option UpFault) (d d' : Driver) (old new : S) (result : Result (Unit {0}) UpFault)
     → CreatesSubmissions step bytes fault d old result d' new → count old ≤ count new
 submissions-grow step count base m bytes (Some fault) d d' old new result h = let e = ap count h.2 in omega (arith, e)
 submissions-grow step count base m bytes None d d' old new result (answer, left, creates, concludes) =
     creates-grow step count base m bytes create_submission_queue d left old new answer creates
 
-submissions-alone : {S : Type 0} (step : S → Call → S → Type 0) (count : S → ℕ) (base : ℕ) → IsSure step count base → (bytes : S → List ℕ) (fault : Option UpFault) (d d' d'' : Driver) (old new other : S)
-    (result result' : Result (Unit {0}) UpFault) → count old ≡ base → count new ≡ base → count other ≡ base → CreatesSubmissions step bytes fault d old result d' new → CreatesSubmissions step bytes fault d old result' d'' other
+submissions-alone : {S : Type 0} (step : S → Call → S → Type 0) (count : S → ℕ) (base : ℕ)
+    → IsSure step count base → (bytes : S → List ℕ) (fault : Option UpFault) (d d' d'' : Driver) (old new other : S)
+    (result result' : Result (Unit {0}) UpFault)
+    → count old ≡ base → count new ≡ base → count other ≡ base → CreatesSubmissions step bytes fault d old result d' new
+    → CreatesSubmissions step bytes fault d old result' d'' other
     → Same result result' d' d'' new other
-submissions-alone step count base m bytes (Some fault) d d' d'' old new other result result' a b c h g = (g.0 ∙ sym h.0, g.1 ∙ sym h.1, g.2 ∙ sym h.2)
-submissions-alone step count base m bytes None d d' d'' old new other result result' a b c (answer, left, creates, concludes) (answer', left', creates', concludes') =
-    let one = creates-alone step count base m bytes create_submission_queue d left left' old new other answer answer' a b c creates creates' in
+submissions-alone step count base m bytes (Some fault) d d' d'' old new other result result' a b c h g =
+    (g.0 ∙ sym h.0, g.1 ∙ sym h.1, g.2 ∙ sym h.2)
+submissions-alone step count base m bytes None d d' d'' old new other result result' a b c
+    (answer, left, creates, concludes) (answer', left', creates', concludes') =
+    let one = creates-alone step count base m bytes create_submission_queue d left left' old new other answer answer' a
+    b c creates creates' in
     let two = concludes-alone (fault_of answer) result result' left d' d'' concludes
-    (subst (λ x. Concludes (fault_of answer) result' x d'') one.1 (subst (λ x. Concludes (fault_of x) result' left' d'') one.0 concludes')) in
+    (subst (λ x. Concludes (fault_of answer) result' x d'') one.1
+    (subst (λ x. Concludes (fault_of x) result' left' d'') one.0 concludes')) in
     (two.0, two.1, one.2)
 
-both-grow : {S : Type 0} (step : S → Call → S → Type 0) (count : S → ℕ) (base : ℕ) → IsSure step count base → (bytes : S → List ℕ) (ready : Bool) (d d' : Driver) (old new : S) (result : Result (Unit {0}) UpFault)
+both-grow : {S : Type 0} (step : S → Call → S → Type 0) (count : S → ℕ) (base : ℕ) → IsSure step count base
+    → (bytes : S → List ℕ) (ready : Bool) (d d' : Driver) (old new : S) (result : Result (Unit {0}) UpFault)
     → CreatesBoth step bytes ready d old result d' new → count old ≤ count new
 both-grow step count base m bytes false d d' old new result h = let e = ap count h.2 in omega (arith, e)
 both-grow step count base m bytes true d d' old new result (answer, left, mid, creates, submissions) =
@@ -152,63 +241,89 @@ both-grow step count base m bytes true d d' old new result (answer, left, mid, c
     let b = submissions-grow step count base m bytes (fault_of answer) left d' mid new result submissions in
     omega (arith, a, b)
 
-both-alone : {S : Type 0} (step : S → Call → S → Type 0) (count : S → ℕ) (base : ℕ) → IsSure step count base → (bytes : S → List ℕ) (ready : Bool) (d d' d'' : Driver) (old new other : S)
-    (result result' : Result (Unit {0}) UpFault) → count old ≡ base → count new ≡ base → count other ≡ base → CreatesBoth step bytes ready d old result d' new → CreatesBoth step bytes ready d old result' d'' other
+both-alone : {S : Type 0} (step : S → Call → S → Type 0) (count : S → ℕ) (base : ℕ)
+    → IsSure step count base → (bytes : S → List ℕ) (ready : Bool) (d d' d'' : Driver) (old new other : S)
+    (result result' : Result (Unit {0}) UpFault) → count old ≡ base → count new ≡ base → count other ≡ base
+    → CreatesBoth step bytes ready d old result d' new → CreatesBoth step bytes ready d old result' d'' other
     → Same result result' d' d'' new other
-both-alone step count base m bytes false d d' d'' old new other result result' a b c h g = (g.0 ∙ sym h.0, g.1 ∙ sym h.1, g.2 ∙ sym h.2)
-both-alone step count base m bytes true d d' d'' old new other result result' a b c (answer, left, mid, creates, submissions) (answer', left', mid', creates', submissions') =
-    let p = between (count old) (count mid) (count new) (creates-grow step count base m bytes create_completion_queue d left old mid answer creates)
+both-alone step count base m bytes false d d' d'' old new other result result' a b c h g =
+    (g.0 ∙ sym h.0, g.1 ∙ sym h.1, g.2 ∙ sym h.2)
+both-alone step count base m bytes true d d' d'' old new other result result' a b c
+    (answer, left, mid, creates, submissions) (answer', left', mid', creates', submissions') =
+    let p = between (count old) (count mid) (count new)
+    (creates-grow step count base m bytes create_completion_queue d left old mid answer creates)
     (submissions-grow step count base m bytes (fault_of answer) left d' mid new result submissions) base a b in
-    let q = between (count old) (count mid') (count other) (creates-grow step count base m bytes create_completion_queue d left' old mid' answer' creates')
+    let q = between (count old) (count mid') (count other)
+    (creates-grow step count base m bytes create_completion_queue d left' old mid' answer' creates')
     (submissions-grow step count base m bytes (fault_of answer') left' d'' mid' other result' submissions') base a c in
-    let one = creates-alone step count base m bytes create_completion_queue d left left' old mid mid' answer answer' a p q creates creates' in
-    submissions-alone step count base m bytes (fault_of answer) left d' d'' mid new other result result' p b c submissions
+    let one = creates-alone step count base m bytes create_completion_queue d left left' old mid mid' answer answer' a p
+    q creates creates' in
+    submissions-alone step count base m bytes
+    (fault_of answer) left d' d'' mid new other result result' p b c submissions
     (subst (λ x. CreatesSubmissions step bytes (fault_of answer) left x result' d'' other) one.2
     (subst (λ x. CreatesSubmissions step bytes (fault_of answer) x mid' result' d'' other) one.1
     (subst (λ x. CreatesSubmissions step bytes (fault_of x) left' mid' result' d'' other) one.0 submissions')))
 
--- The whole.
+-- Bringing up.
 
 -- the calls of a start, before the read
 abbrev before_read : List Call
 before_read = take 11 (start_calls 0)
 
-pub rises-alone : {S : Type 0} (step : S → Call → S → Type 0) (count : S → ℕ) (base : ℕ) → IsSure step count base → (bytes : S → List ℕ) (d d' d'' : Driver) (old new other : S)
-    (result result' : Result (Unit {0}) UpFault) → count old ≡ base → count new ≡ base → count other ≡ base → Rises step bytes d old result d' new → Rises step bytes d old result' d'' other
+pub rises-alone : {S : Type 0} (step : S → Call → S → Type 0) (count : S → ℕ) (base : ℕ)
+    → IsSure step count base → (bytes : S → List ℕ) (d d' d'' : Driver) (old new other : S)
+    (result result' : Result (Unit {0}) UpFault) → count old ≡ base → count new ≡ base → count other ≡ base
+    → Rises step bytes d old result d' new → Rises step bytes d old result' d'' other
     → Same result result' d' d'' new other
 unfolding Rises
-rises-alone step count base m bytes d d' d'' old new other result result' a b c (value, on, starts, both) (value', on', starts', both') =
-    let p = between (count old) (count on) (count new) (calls-grow step count base m (start_calls value) old on starts) (both-grow step count base m bytes (is_ready value) (started d) d' on new result both) base a b in
-    let q = between (count old) (count on') (count other) (calls-grow step count base m (start_calls value') old on' starts') (both-grow step count base m bytes (is_ready value') (started d) d'' on' other result' both') base a c in
-    let read : value' ≡ value = reads-alone step count base m before_read csts value value' old on on' a p q starts starts' in
-    let same : on' ≡ on = calls-alone step count base m (start_calls value) old on on' a p q starts (subst (λ v. Calls step old (start_calls v) on') read starts') in
+rises-alone step count base m bytes d d' d'' old new other result result' a b c (value, on, starts, both)
+    (value', on', starts', both') =
+    let p = between (count old) (count on) (count new) (calls-grow step count base m (start_calls value) old on starts)
+    (both-grow step count base m bytes (is_ready value) (started d) d' on new result both) base a b in
+    let q =
+    between (count old) (count on') (count other) (calls-grow step count base m (start_calls value') old on' starts')
+    (both-grow step count base m bytes (is_ready value') (started d) d'' on' other result' both') base a c in
+    let read : value' ≡ value =
+    reads-alone step count base m before_read csts value value' old on on' a p q starts starts' in
+    let same : on' ≡ on = calls-alone step count base m (start_calls value) old on on' a p q starts
+    (subst (λ v. Calls step old (start_calls v) on') read starts') in
     both-alone step count base m bytes (is_ready value) (started d) d' d'' on new other result result' p b c both
-    (subst (λ x. CreatesBoth step bytes (is_ready value) (started d) x result' d'' other) same (subst (λ v. CreatesBoth step bytes (is_ready v) (started d) on' result' d'' other) read both'))
+    (subst (λ x. CreatesBoth step bytes (is_ready value) (started d) x result' d'' other) same
+    (subst (λ v. CreatesBoth step bytes (is_ready v) (started d) on' result' d'' other) read both'))
 
 -- And the requests of the driver stay as they are.
 
-hears-keeps : {S : Type 0} (step : S → Call → S → Type 0) (d d' : Driver) (answer : Option (List ℕ)) (old new : S) (result : Option Status) → Hears step d answer old result d' new → (d'.slots ≡ d.slots) × (d'.next ≡ d.next)
+hears-keeps : {S : Type 0} (step : S → Call → S → Type 0) (d d' : Driver) (answer : Option (List ℕ)) (old new : S)
+    (result : Option Status) → Hears step d answer old result d' new → (d'.slots ≡ d.slots) × (d'.next ≡ d.next)
 hears-keeps step d d' None old new result h = (ap (λ (x : Driver). x.slots) h.1, ap (λ (x : Driver). x.next) h.1)
-hears-keeps step d d' (Some entry) old new result h = (ap (λ (x : Driver). x.slots) h.1, ap (λ (x : Driver). x.next) h.1)
+hears-keeps step d d' (Some entry) old new result h =
+    (ap (λ (x : Driver). x.slots) h.1, ap (λ (x : Driver). x.next) h.1)
 
-creates-keeps : {S : Type 0} (step : S → Call → S → Type 0) (bytes : S → List ℕ) (command : SqeFields) (d d' : Driver) (old new : S) (result : Option Status) → Creates step bytes command d old result d' new
+creates-keeps : {S : Type 0} (step : S → Call → S → Type 0) (bytes : S → List ℕ) (command : SqeFields) (d d' : Driver)
+    (old new : S) (result : Option Status) → Creates step bytes command d old result d' new
     → (d'.slots ≡ d.slots) × (d'.next ≡ d.next)
 unfolding Creates
-creates-keeps step bytes command d d' old new result (rung, answer, seen, sends, awaits, hears) = hears-keeps step (sent d) d' answer seen new result hears
+creates-keeps step bytes command d d' old new result (rung, answer, seen, sends, awaits, hears) =
+    hears-keeps step (sent d) d' answer seen new result hears
 
-concludes-keeps : (fault : Option UpFault) (result : Result (Unit {0}) UpFault) (d d' : Driver) → Concludes fault result d d' → (d'.slots ≡ d.slots) × (d'.next ≡ d.next)
+concludes-keeps : (fault : Option UpFault) (result : Result (Unit {0}) UpFault) (d d' : Driver)
+    → Concludes fault result d d' → (d'.slots ≡ d.slots) × (d'.next ≡ d.next)
 concludes-keeps None result d d' h = (ap (λ (x : Driver). x.slots) h.1, ap (λ (x : Driver). x.next) h.1)
 concludes-keeps (Some fault) result d d' h = (ap (λ (x : Driver). x.slots) h.1, ap (λ (x : Driver). x.next) h.1)
 
-submissions-keep : {S : Type 0} (step : S → Call → S → Type 0) (bytes : S → List ℕ) (fault : Option UpFault) (d d' : Driver) (old new : S) (result : Result (Unit {0}) UpFault) → CreatesSubmissions step bytes fault d old result d' new
+submissions-keep : {S : Type 0} (step : S → Call → S → Type 0)
+    (bytes : S → List ℕ) (fault : Option UpFault) (d d' : Driver) (old new : S) (result : Result (Unit {0}) UpFault)
+    → CreatesSubmissions step bytes fault d old result d' new
     → (d'.slots ≡ d.slots) × (d'.next ≡ d.next)
-submissions-keep step bytes (Some fault) d d' old new result h = (ap (λ (x : Driver). x.slots) h.1, ap (λ (x : Driver). x.next) h.1)
+submissions-keep step bytes (Some fault) d d' old new result h =
+    (ap (λ (x : Driver). x.slots) h.1, ap (λ (x : Driver). x.next) h.1)
 submissions-keep step bytes None d d' old new result (answer, left, creates, concludes) =
     let a = creates-keeps step bytes create_submission_queue d left old new answer creates in
     let b = concludes-keeps (fault_of answer) result left d' concludes in
     (b.0 ∙ a.0, b.1 ∙ a.1)
 
-both-keep : {S : Type 0} (step : S → Call → S → Type 0) (bytes : S → List ℕ) (ready : Bool) (d d' : Driver) (old new : S) (result : Result (Unit {0}) UpFault) → CreatesBoth step bytes ready d old result d' new
+both-keep : {S : Type 0} (step : S → Call → S → Type 0) (bytes : S → List ℕ) (ready : Bool) (d d' : Driver)
+    (old new : S) (result : Result (Unit {0}) UpFault) → CreatesBoth step bytes ready d old result d' new
     → (d'.slots ≡ d.slots) × (d'.next ≡ d.next)
 both-keep step bytes false d d' old new result h = (ap (λ (x : Driver). x.slots) h.1, ap (λ (x : Driver). x.next) h.1)
 both-keep step bytes true d d' old new result (answer, left, mid, creates, submissions) =
@@ -216,7 +331,9 @@ both-keep step bytes true d d' old new result (answer, left, mid, creates, submi
     let b = submissions-keep step bytes (fault_of answer) left d' mid new result submissions in
     (b.0 ∙ a.0, b.1 ∙ a.1)
 
-pub rises-keeps : {S : Type 0} (step : S → Call → S → Type 0) (bytes : S → List ℕ) (d d' : Driver) (old new : S) (result : Result (Unit {0}) UpFault) → Rises step bytes d old result d' new
+pub rises-keeps : {S : Type 0} (step : S → Call → S → Type 0) (bytes : S → List ℕ) (d d' : Driver) (old new : S)
+    (result : Result (Unit {0}) UpFault) → Rises step bytes d old result d' new
     → (d'.slots ≡ d.slots) × (d'.next ≡ d.next)
 unfolding Rises
-rises-keeps step bytes d d' old new result (value, on, starts, both) = both-keep step bytes (is_ready value) (started d) d' on new result both
+rises-keeps step bytes d d' old new result (value, on, starts, both) =
+    both-keep step bytes (is_ready value) (started d) d' on new result both

@@ -1,14 +1,77 @@
--- A pointer whose pages lie in a row is contiguous, and so is that of each slot.
-use Rattle.std.proofs.Common.{◌≡◌, ℕ, zero, suc, ◌+◌, ◌-◌, ◌*◌, ◌/◌, ◌%◌, ◌<◌, ◌≤◌, ◌&&◌, List, [], ◌∷◌, ◌++◌, length, take, drop, nat_eq, nat_lt, nat_le, true, false, refl, sym, ap, ◌∙◌, arith, append_assoc, None, ⊎_elim}
+-- For the law `pointers` and the answer of `place`: a pointer to adjacent pages is contiguous, and so is that of each
+-- slot.
+use Rattle.std.proofs.Common.{
+  ◌≡◌,
+  ℕ,
+  zero,
+  suc,
+  ◌+◌,
+  ◌-◌,
+  ◌*◌,
+  ◌/◌,
+  ◌%◌,
+  ◌<◌,
+  ◌≤◌,
+  ◌&&◌,
+  List,
+  [],
+  ◌∷◌,
+  ◌++◌,
+  length,
+  take,
+  drop,
+  nat_eq,
+  nat_lt,
+  nat_le,
+  true,
+  false,
+  refl,
+  sym,
+  ap,
+  ◌∙◌,
+  arith,
+  append_assoc,
+  None,
+  ⊎_elim,
+}
 use Rattle.std.specs.List.{flat_map, range_with_len}
 use Rattle.std.proofs.lemmas.Bool.{cases_lt, eq-eqb, ne_eqb, lt-ltb, le-ltb, le-leb, lt-leb, cond-true, cond-false}
 use Rattle.nvme_spec.specs.Memory.{qword}
-use Rattle.nvme_spec.specs.Pointer.{AddressTest, fault_of, first_fault, or_else, page_test, PageList, listed, slot, goes_on, slots, entry_tests, Transfer, room, further_pages, further_tests, list, page, address}
+use Rattle.nvme_spec.specs.Pointer.{
+  AddressTest,
+  fault_of,
+  first_fault,
+  or_else,
+  page_test,
+  PageList,
+  listed,
+  slot,
+  goes_on,
+  slots,
+  entry_tests,
+  Transfer,
+  room,
+  further_pages,
+  further_tests,
+  list,
+  page,
+  address,
+}
 use Rattle.nvme_spec.specs.Transfers.{addresses, pieces_of, gathered_bytes, with_scattered}
 use Rattle.nvme_spec.proofs.PagesJoined.{counts, address-near, joined}
 use Rattle.nvme_spec.proofs.Runs.{gathered_bytes-run, with_scattered-run, take-range}
 use Rattle.nvme_driver.specs.Layout.{list_page, data_area}
-use Rattle.nvme_driver.specs.Pointers.{pages_behind, second_entry, page_entries, HasList, slot_transfer, IsContiguous, IsRequest, SlotsAreContiguous, SlotsMoveOneRun}
+use Rattle.nvme_driver.specs.Pointers.{
+  pages_behind,
+  second_entry,
+  page_entries,
+  HasList,
+  slot_transfer,
+  IsContiguous,
+  IsRequest,
+  SlotsAreContiguous,
+  SlotsMoveOneRun,
+}
 use Rattle.nvme_driver.proofs.PageEntries.{entry-at, qword-entry}
 
 -- an address without a fault
@@ -19,21 +82,24 @@ fault-none test aligned inside =
     let b : nat_lt test.address 4194304 ≡ true = lt-ltb _ _ inside in
     rw (a, b) refl
 
--- a list that does not go on has all its entries behind its first slot
+-- a list on one page has all its entries from its first slot
 slot-flat : (l : PageList) (j : ℕ) → goes_on l ≡ false → slot l j ≡ l.start + 8 * j
 unfolding slot
 slot-flat l j flat = cond-false _ _ _ (ap (λ b. b && nat_le (slots l - 1) j) flat)
 
-entries-sound : (l : PageList) (n j : ℕ) → goes_on l ≡ false → ((i : ℕ) → i < j + n → fault_of (page_test (listed l i)) ≡ None) → first_fault (flat_map (entry_tests l) (range_with_len j n)) ≡ None
+entries-sound : (l : PageList) (n j : ℕ)
+    → goes_on l ≡ false → ((i : ℕ) → i < j + n → fault_of (page_test (listed l i)) ≡ None)
+    → first_fault (flat_map (entry_tests l) (range_with_len j n)) ≡ None
 unfolding first_fault entry_tests
 entries-sound l zero j flat sound = refl
 entries-sound l (suc n) j flat sound =
-    let one : entry_tests l j ≡ page_test (listed l j) ∷ [] = cond-false _ _ _ (ap (λ b. b && nat_eq j (slots l - 1)) flat) in
+    let one : entry_tests l j ≡ page_test (listed l j) ∷ [] =
+    cond-false _ _ _ (ap (λ b. b && nat_eq j (slots l - 1)) flat) in
     ap (λ xs. first_fault (xs ++ flat_map (entry_tests l) (range_with_len (j + 1) n))) one
     ∙ ap (λ f. or_else f (first_fault (flat_map (entry_tests l) (range_with_len (j + 1) n)))) (sound j (omega arith))
     ∙ entries-sound l n (j + 1) flat (λ i lt. sound i (omega (arith, lt)))
 
--- A transfer whose pages lie in a row, from the start of the first on.
+-- A transfer to adjacent pages, from the start of the first.
 record InARow (t : Transfer) : Type 0 where
   aligned : t.prp1 % 4096 ≡ 0
   some : 1 ≤ t.bytes
@@ -84,7 +150,8 @@ is-contiguous t r =
     let inside = r.inside in
     record {
       sound =
-          ap (λ f. or_else f (first_fault (further_tests t (further_pages t)))) (fault-none (record { address = t.prp1; unit = 4 }) (omega arith) (omega arith))
+          ap (λ f. or_else f (first_fault (further_tests t (further_pages t))))
+          (fault-none (record { address = t.prp1; unit = 4 }) (omega arith) (omega arith))
           ∙ further-sound t (further_pages t) r refl;
       places = λ k h.
           ⊎_elim {C = address t k ≡ t.prp1 + k}
@@ -93,11 +160,12 @@ is-contiguous t r =
           (cases_lt k (room t.prp1));
     }
 
--- the further pages of a request
+-- the pages of a request after the first
 behind : (window : List ℕ) (s bytes : ℕ) → further_pages (slot_transfer window s bytes) ≡ pages_behind bytes
 behind window s bytes = omega arith
 
-row-short : (window : List ℕ) (s bytes : ℕ) → IsRequest window s bytes → bytes ≤ 4096 → InARow (slot_transfer window s bytes)
+row-short : (window : List ℕ) (s bytes : ℕ) → IsRequest window s bytes → bytes ≤ 4096
+    → InARow (slot_transfer window s bytes)
 row-short window s bytes r short =
     let some = r.some in
     let fits = r.slot_fits in
@@ -112,12 +180,14 @@ row-short window s bytes r short =
       flat = λ h. absurd (omega (arith, h));
     }
 
-row-two : (window : List ℕ) (s bytes : ℕ) → IsRequest window s bytes → 4096 < bytes → bytes ≤ 8192 → InARow (slot_transfer window s bytes)
+row-two : (window : List ℕ) (s bytes : ℕ) → IsRequest window s bytes → 4096 < bytes → bytes ≤ 8192
+    → InARow (slot_transfer window s bytes)
 row-two window s bytes r more short =
     let some = r.some in
     let fits = r.slot_fits in
     let one = behind window s bytes in
-    let second : second_entry s bytes ≡ data_area s + 4096 = cond-false _ _ _ (lt-leb bytes 4096 more) ∙ cond-true _ _ _ (le-leb bytes 8192 short) in
+    let second : second_entry s bytes ≡ data_area s + 4096 =
+    cond-false _ _ _ (lt-leb bytes 4096 more) ∙ cond-true _ _ _ (le-leb bytes 8192 short) in
     record {
       aligned = omega arith;
       some = some;
@@ -128,18 +198,21 @@ row-two window s bytes r more short =
       flat = λ h. absurd (omega (arith, h));
     }
 
-row-long : (window : List ℕ) (s bytes : ℕ) → IsRequest window s bytes → 8192 < bytes → HasList window s bytes → InARow (slot_transfer window s bytes)
+row-long : (window : List ℕ) (s bytes : ℕ) → IsRequest window s bytes → 8192 < bytes → HasList window s bytes
+    → InARow (slot_transfer window s bytes)
 row-long window s bytes r long has =
     let some = r.some in
     let fits = r.slot_fits in
     let most = r.most in
     let count = behind window s bytes in
     let t : Transfer = slot_transfer window s bytes in
-    let second : second_entry s bytes ≡ list_page s = cond-false _ _ _ (lt-leb bytes 4096 (omega arith)) ∙ cond-false _ _ _ (lt-leb bytes 8192 long) in
+    let second : second_entry s bytes ≡ list_page s =
+    cond-false _ _ _ (lt-leb bytes 4096 (omega arith)) ∙ cond-false _ _ _ (lt-leb bytes 8192 long) in
     let several : 1 < further_pages t = omega arith in
     let flat : goes_on (list t) ≡ false = le-ltb _ _ (omega arith) in
     let width : list_page s + 8 * pages_behind bytes - list_page s ≡ 8 * pages_behind bytes = omega arith in
-    let content : take (8 * pages_behind bytes) (drop (list_page s) window) ≡ page_entries (data_area s + 4096) (pages_behind bytes) =
+    let content : take (8 * pages_behind bytes) (drop (list_page s) window) ≡ page_entries (data_area s + 4096)
+    (pages_behind bytes) =
     ap (λ k. take k (drop (list_page s) window)) (sym width) ∙ has long in
     record {
       aligned = omega arith;
@@ -155,7 +228,8 @@ row-long window s bytes r long has =
       flat = λ h. flat;
     }
 
-in-a-row : (window : List ℕ) (s bytes : ℕ) → IsRequest window s bytes → HasList window s bytes → InARow (slot_transfer window s bytes)
+in-a-row : (window : List ℕ) (s bytes : ℕ) → IsRequest window s bytes → HasList window s bytes
+    → InARow (slot_transfer window s bytes)
 in-a-row window s bytes r has =
     ⊎_elim {C = InARow (slot_transfer window s bytes)}
     (λ (more : 4096 < bytes).
@@ -181,7 +255,8 @@ slots_move_one_run window slot bytes r has =
     let width : data_area slot + bytes - data_area slot ≡ bytes = omega arith in
     record {
       run = places;
-      gathering = ap (gathered_bytes window) places ∙ gathered_bytes-run window (data_area slot) bytes (omega arith) ∙ ap (λ k. take k (drop (data_area slot) window)) (sym width);
+      gathering = ap (gathered_bytes window) places ∙ gathered_bytes-run window (data_area slot) bytes (omega arith)
+          ∙ ap (λ k. take k (drop (data_area slot) window)) (sym width);
       scattering = λ read few.
           ap (λ xs. with_scattered window (take (length read) xs) read) places
           ∙ ap (λ xs. with_scattered window xs read) (take-range (length read) (data_area slot) bytes few)

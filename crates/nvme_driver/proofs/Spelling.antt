@@ -1,5 +1,30 @@
--- Bytes spelled one part after the other, at the front of zeros.
-use Rattle.std.proofs.Common.{◌≡◌, ℕ, zero, suc, ◌+◌, ◌-◌, ◌*◌, ◌<◌, ◌≤◌, List, [], ◌∷◌, ◌++◌, length, take, drop, replicate, refl, sym, ap, ◌∙◌, arith, append_assoc, length-append}
+-- For the answers of `spell` and `spell_list`: bytes written one part after the other, at the front of zeros.
+use Rattle.std.proofs.Common.{
+  ◌≡◌,
+  ℕ,
+  zero,
+  suc,
+  ◌+◌,
+  ◌-◌,
+  ◌*◌,
+  ◌<◌,
+  ◌≤◌,
+  List,
+  [],
+  ◌∷◌,
+  ◌++◌,
+  length,
+  take,
+  drop,
+  replicate,
+  refl,
+  sym,
+  ap,
+  ◌∙◌,
+  arith,
+  append_assoc,
+  length-append,
+}
 use Rattle.std.specs.Prelude.{slice_index_or}
 use Rattle.std.specs.List.{flat_map}
 use Rattle.std.specs.Int.{w16, w64, to_le_bytes}
@@ -14,7 +39,8 @@ use Rattle.nvme_driver.proofs.PageEntries.{length-page_entries, entries-more}
 drop-zeros : (k n : ℕ) → drop {A = ℕ} k (replicate n 0) ≡ replicate (n - k) 0
 drop-zeros zero n = let e : n ≡ n - 0 = omega arith in ap (λ m. replicate m 0) e
 drop-zeros (suc k) zero = let e : 0 ≡ 0 - suc k = omega arith in ap (λ m. replicate m 0) e
-drop-zeros (suc k) (suc n) = let e : suc n - suc k ≡ n - k = omega arith in drop-zeros k n ∙ ap (λ m. replicate m 0) (sym e)
+drop-zeros (suc k) (suc n) = let e : suc n - suc k ≡ n - k = omega arith in
+    drop-zeros k n ∙ ap (λ m. replicate m 0) (sym e)
 
 -- one more part
 pub part-put : (done part : List ℕ) (at n m : ℕ) → at ≡ length done → m ≡ n - length part →
@@ -44,13 +70,15 @@ controller_list_length xs h =
     let e = length-replicate {A = ℕ} (4094 - 2 * length xs) 0 in
     omega (arith, a, b, c, d, e, h)
 
-words-more : (xs : List ℕ) (i : ℕ) → i < length xs → words (take (i + 1) xs) ≡ words (take i xs) ++ to_le_bytes w16 (slice_index_or xs i 0)
+words-more : (xs : List ℕ) (i : ℕ)
+    → i < length xs → words (take (i + 1) xs) ≡ words (take i xs) ++ to_le_bytes w16 (slice_index_or xs i 0)
 words-more xs i h =
     ap words (take_more xs i 0 h) ∙ flat_map-append (to_le_bytes w16) (take i xs) (slice_index_or xs i 0 ∷ [])
     ∙ ap (λ ys. words (take i xs) ++ ys) (append-nil (to_le_bytes w16 (slice_index_or xs i 0)))
 
 -- the count of a list, at the front of zeros
-pub count-put : (count : ℕ) (page part : List ℕ) → part ≡ to_le_bytes w16 count → page ≡ with_bytes (replicate 4096 0) 0 part →
+pub count-put : (count : ℕ) (page part : List ℕ)
+    → part ≡ to_le_bytes w16 count → page ≡ with_bytes (replicate 4096 0) 0 part →
     page ≡ (to_le_bytes w16 count ++ []) ++ replicate 4094 0
 count-put count page part e h =
     h ∙ ap (with_bytes (replicate 4096 0) 0) e ∙ part-put [] (to_le_bytes w16 count) 0 4096 4094 refl refl
@@ -64,11 +92,13 @@ pub identifier-put : (count i : ℕ) (xs page part new : List ℕ) → i < lengt
 identifier-put count i xs page part new h page-is part-is e =
     let size : length (take i xs) ≡ i = length-take-le i xs (omega (arith, h)) in
     let done : 2 + 2 * i ≡ length (to_le_bytes w16 count ++ words (take i xs)) =
-    sym (length-append (to_le_bytes w16 count) (words (take i xs)) ∙ (let k = length-words (take i xs) in omega arith)) in
+    sym
+    (length-append (to_le_bytes w16 count) (words (take i xs)) ∙ (let k = length-words (take i xs) in omega arith)) in
     let left : 4094 - 2 * (i + 1) ≡ 4094 - 2 * i - 2 = omega arith in
     e ∙ ap (λ p. with_bytes p (2 + 2 * i) part) page-is
     ∙ ap (with_bytes ((to_le_bytes w16 count ++ words (take i xs)) ++ replicate (4094 - 2 * i) 0) (2 + 2 * i)) part-is
-    ∙ part-put (to_le_bytes w16 count ++ words (take i xs)) (to_le_bytes w16 (slice_index_or xs i 0)) (2 + 2 * i) (4094 - 2 * i) (4094 - 2 * (i + 1)) done left
+    ∙ part-put (to_le_bytes w16 count ++ words (take i xs)) (to_le_bytes w16 (slice_index_or xs i 0)) (2 + 2 * i)
+    (4094 - 2 * i) (4094 - 2 * (i + 1)) done left
     ∙ ap (λ ys. ys ++ replicate (4094 - 2 * (i + 1)) 0)
     (sym (append_assoc (to_le_bytes w16 count) (words (take i xs)) (to_le_bytes w16 (slice_index_or xs i 0)))
     ∙ ap (λ ys. to_le_bytes w16 count ++ ys) (sym (words-more xs i h)))
@@ -83,12 +113,13 @@ list-spelled count i xs page e h p =
     ∙ ap (λ k. (to_le_bytes w16 k ++ words xs) ++ replicate (4094 - 2 * i) 0) e
     ∙ ap (λ k. (to_le_bytes w16 (length xs) ++ words xs) ++ replicate (4094 - 2 * k) 0) h
 
--- entries of a list of pages, at the front of zeros: none, and one more
+-- entries of a list of pages, at the front of zeros: none, or one more
 pub no-entry-put : (first : ℕ) → replicate 248 0 ≡ page_entries first 0 ++ replicate 248 0
 unfolding page_entries
 no-entry-put first = refl
 
-pub page-entry-put : (first i : ℕ) (bytes part new : List ℕ) → bytes ≡ page_entries first i ++ replicate (248 - 8 * i) 0 →
+pub page-entry-put : (first i : ℕ) (bytes part new : List ℕ)
+    → bytes ≡ page_entries first i ++ replicate (248 - 8 * i) 0 →
     part ≡ to_le_bytes w64 (first + 4096 * i) → new ≡ with_bytes bytes (8 * i) part →
     new ≡ page_entries first (i + 1) ++ replicate (248 - 8 * (i + 1)) 0
 unfolding page_entry
@@ -97,5 +128,6 @@ page-entry-put first i bytes part new bytes-is part-is e =
     let left : 248 - 8 * (i + 1) ≡ 248 - 8 * i - 8 = omega arith in
     e ∙ ap (λ b. with_bytes b (8 * i) part) bytes-is
     ∙ ap (with_bytes (page_entries first i ++ replicate (248 - 8 * i) 0) (8 * i)) part-is
-    ∙ part-put (page_entries first i) (to_le_bytes w64 (first + 4096 * i)) (8 * i) (248 - 8 * i) (248 - 8 * (i + 1)) done left
+    ∙ part-put (page_entries first i) (to_le_bytes w64 (first + 4096 * i)) (8 * i) (248 - 8 * i)
+    (248 - 8 * (i + 1)) done left
     ∙ ap (λ xs. xs ++ replicate (248 - 8 * (i + 1)) 0) (sym (entries-more first i))

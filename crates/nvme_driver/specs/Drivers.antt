@@ -1,10 +1,45 @@
--- A driver: what it waits for, and its ends of the queues; what it places, rings and puts back (Base Specification:
--- Submission Queue and Completion Queue, Command Identifier; Controller Level Reset).
-use Rattle.std.specs.Prelude.{◌≡◌, ◌≤◌, slice_range, ℕ, ◌+◌, ◌^◌, ◌==◌, nat_lt, Bool, true, false, not, if◌then◌else◌, List, [], ◌∷◌, length, map, replicate, position, is_none, slice_set, Option, None, Some}
+-- A driver: its requests and its ends of the queues; the effects of placing, ringing and resetting (Base Specification:
+-- Submission Queue and Completion Queue, Command Identifier; Controller Level Reset). A lane is a queue pair of the
+-- driver, the admin or the I/O queues.
+use Rattle.std.specs.Prelude.{
+  ◌≡◌,
+  ◌≤◌,
+  slice_range,
+  ℕ,
+  ◌+◌,
+  ◌^◌,
+  ◌==◌,
+  nat_lt,
+  Bool,
+  true,
+  false,
+  not,
+  if◌then◌else◌,
+  List,
+  [],
+  ◌∷◌,
+  length,
+  map,
+  replicate,
+  position,
+  is_none,
+  slice_set,
+  Option,
+  None,
+  Some,
+}
 use Rattle.nvme_wire.specs.declared.sqe.fields.SqeFields.{SqeFields}
 use Rattle.nvme_wire.specs.Submission.{submission_entry, submission_of, opcode}
 use Rattle.nvme_spec.specs.Bytes.{with_bytes}
-use Rattle.nvme_spec.specs.Queues.{SubmissionTail, CompletionHead, empty_submission_tail, empty_completion_head, submission_room, after_put, slot_of}
+use Rattle.nvme_spec.specs.Queues.{
+  SubmissionTail,
+  CompletionHead,
+  empty_submission_tail,
+  empty_completion_head,
+  submission_room,
+  after_put,
+  slot_of,
+}
 use Rattle.nvme_spec.specs.Commands as commands
 use Rattle.nvme_spec.specs.AdminCommands as admin_commands
 use Rattle.nvme_driver.specs.declared.lane.Lane.{Lane}
@@ -14,9 +49,23 @@ use Rattle.nvme_driver.specs.declared.state.State.TheVariants.{Down, Up, Failed}
 use Rattle.nvme_driver.specs.declared.slots.Waiting.{Waiting}
 use Rattle.nvme_driver.specs.declared.request.Request.{Request}
 use Rattle.nvme_driver.specs.declared.faults.PlaceRefusal.{PlaceRefusal}
-use Rattle.nvme_driver.specs.declared.faults.PlaceRefusal.TheVariants.{NotReady, BadRequest, NoSlot, RingFull, TicketsExhausted}
+use Rattle.nvme_driver.specs.declared.faults.PlaceRefusal.TheVariants.{
+  NotReady,
+  BadRequest,
+  NoSlot,
+  RingFull,
+  TicketsExhausted,
+}
 use Rattle.nvme_driver.specs.Calls.{Call, Stores, Writes, Calls}
-use Rattle.nvme_driver.specs.Layout.{submission_entries, completion_entries, slot_count, command_place, tail_doorbell, list_page, data_area}
+use Rattle.nvme_driver.specs.Layout.{
+  submission_entries,
+  completion_entries,
+  slot_count,
+  command_place,
+  tail_doorbell,
+  list_page,
+  data_area,
+}
 use Rattle.nvme_driver.specs.Pointers.{first_entry, second_entry, stored_list, slot_transfer, IsContiguous}
 use Rattle.nvme_driver.specs.Requests.{Asked, asked_of, is_bad}
 
@@ -29,8 +78,8 @@ abbrev pub empty_ends : Ends
 empty_ends =
     record { tail = empty_submission_tail submission_entries; head = empty_completion_head completion_entries }
 
--- A driver: its state; the next ticket, 2 ^ 64 where none is left; the slots, each with the request that has not been
--- handed up, live or aborted; and its ends of each lane.
+-- A driver: its state; the next ticket, 2 ^ 64 if none is left; the slots, each with a request that has not been
+-- delivered, live or aborted; and its ends of each lane.
 pub record Driver : Type 0 where
   pub state : State
   pub next : ℕ
@@ -53,7 +102,7 @@ is_down Down = true
 is_down Up = false
 is_down Failed = false
 
--- its ends of one lane, and a driver with other ends of that lane
+-- its ends of one lane, and the driver with other ends there
 abbrev pub ends : Lane → Driver → Ends
 ends Admin d = d.admin
 ends Io d = d.io
@@ -62,7 +111,7 @@ abbrev pub with_ends : Lane → Ends → Driver → Driver
 with_ends Admin e d = record d { admin = e }
 with_ends Io e d = record d { io = e }
 
--- how many tickets there are: the last one is one less
+-- the number of tickets: the last one is one less
 abbrev pub ticket_count : ℕ
 ticket_count = 2 ^ 64
 
@@ -82,7 +131,7 @@ place_refusal d request =
     else (if submission_room (ends (lane_of request) d).tail == 0 then Some RingFull
     else (if nat_lt d.next ticket_count then None else Some TicketsExhausted))))
 
--- the fields of a request's command in a slot: its number is the Command Identifier
+-- the fields of a request's command in a slot: the slot's number is the Command Identifier
 abbrev pub entry_fields : Asked → ℕ → SqeFields
 entry_fields a slot = record {
   opcode = a.command.opcode;
@@ -101,7 +150,7 @@ entry_fields a slot = record {
 abbrev pub entry_of : Request → ℕ → List ℕ
 entry_of request slot = submission_entry (entry_fields (asked_of request) slot)
 
--- the stores of a placing, in order: the data, the list where PRP entry 2 names it, and the entry
+-- the stores of a placing, in order: the data, the list at PRP entry 2, and the entry
 abbrev pub entry_place : Driver → Request → ℕ
 entry_place d request = command_place (lane_of request) (ends (lane_of request) d).tail.put
 
@@ -112,7 +161,7 @@ stores_of d request slot =
     ∷ Stores (entry_place d request) (entry_of request slot)
     ∷ []
 
--- the window that these stores leave
+-- the window after these stores
 abbrev pub placed_window : Driver → List ℕ → Request → ℕ → List ℕ
 placed_window d window request slot =
     with_bytes
@@ -120,7 +169,7 @@ placed_window d window request slot =
     (stored_list slot (asked_of request).moved))
     (entry_place d request) (entry_of request slot)
 
--- the driver once a request was placed in a slot
+-- the driver after a request was placed in a slot
 abbrev pub put_ends : Ends → Ends
 put_ends e = record e { tail = after_put e.tail }
 
@@ -143,8 +192,8 @@ IsPlaced step d request old d' new =
     (slot : ℕ) × (free_slot d ≡ Some slot) × (d' ≡ placed d request slot)
     × Calls step old (stores_of d request slot) new
 
--- What a placing leaves of the window: the entry says what the request asks, the data are there, and where the request
--- moves some, the entry's pointer has no fault and names the slot's data, byte after byte.
+-- The window after a placing: the entry is the request's command, the data are there, and if the request transfers
+-- data, the entry's pointer has no fault and is the slot's data, byte after byte.
 pub record HoldsRequest (d : Driver) (old new : List ℕ) (request : Request) (slot : ℕ) : Type 0 where
   pub window : new ≡ placed_window d old request slot
   pub says : submission_of (entry_of request slot) ≡ entry_fields (asked_of request) slot
@@ -152,23 +201,23 @@ pub record HoldsRequest (d : Driver) (old new : List ℕ) (request : Request) (s
       slice_range new (data_area slot) (data_area slot + length (asked_of request).sent) ≡ (asked_of request).sent
   pub pointer : 1 ≤ (asked_of request).moved → IsContiguous (slot_transfer new slot (asked_of request).moved)
 
--- how many bytes the command of an entry moves, by the definitions of the commands of its lane
+-- the number of bytes that the command of an entry transfers, by the definitions of its lane's commands
 abbrev pub entry_length : Lane → List ℕ → ℕ
 entry_length Io entry = commands.data_length_of (commands.command_of (opcode entry)) entry
 entry_length Admin entry = admin_commands.data_length_of (admin_commands.command_of (opcode entry)) entry
 
--- a controller that reads an entry with these fields moves as many bytes as the request
+-- a controller that reads an entry with these fields transfers as many bytes as the request
 abbrev pub EntriesMoveTheirData : Type 0
 EntriesMoveTheirData =
     (request : Request) (slot : ℕ) (entry : List ℕ) → is_bad request ≡ false
     → submission_of entry ≡ entry_fields (asked_of request) slot
     → entry_length (lane_of request) entry ≡ (asked_of request).moved
 
--- the window of a placed request, whatever its slot is
+-- the window of a placed request, for any slot
 abbrev pub HoldsItsRequest : Driver → List ℕ → List ℕ → Request → Type 0
 HoldsItsRequest d old new request = (slot : ℕ) × (free_slot d ≡ Some slot) × HoldsRequest d old new request slot
 
--- the doorbells of a ringing, where the driver is up: both tails
+-- the doorbells of a ringing, if the driver is up: both tails
 abbrev pub tail_of : Ends → ℕ
 tail_of e = slot_of submission_entries e.tail.put
 
@@ -178,12 +227,12 @@ ring_calls d =
     then Writes (tail_doorbell Admin) (tail_of d.admin) ∷ Writes (tail_doorbell Io) (tail_of d.io) ∷ []
     else []
 
--- a request once its controller was reset
+-- a request after its controller was reset
 abbrev pub abort : Option Waiting → Option Waiting
 abort None = None
 abort (Some w) = Some (record w { live = false })
 
--- the driver once it was reset, and the register write of a reset
+-- the driver after a reset, and the register write of a reset
 abbrev pub after_reset : Driver → Driver
 after_reset d =
     record d { state = Down; slots = map abort d.slots; admin = empty_ends; io = empty_ends }

@@ -1,4 +1,4 @@
--- What the worked examples speak of.
+-- Requests, drivers and registers of the worked examples.
 use Rattle.std.specs.Prelude.{ℕ, List, [], ◌∷◌, ◌++◌, replicate}
 use Rattle.nvme_spec.specs.Registers.{Registers, initial_registers, after_writes}
 use Rattle.nvme_driver.specs.declared.lane.Lane.TheVariants.{Admin}
@@ -16,7 +16,7 @@ small_read = Read 1 0 1
 abbrev pub large_read : Request
 large_read = Read 1 0 24
 
--- a driver that is up, once the small Read was placed
+-- a driver that is up, after the small Read was placed
 abbrev pub reading_driver : Driver
 reading_driver = placed (record (new_driver 1) { state = Up }) small_read 0
 
@@ -25,7 +25,7 @@ abbrev pub io_completion : ℕ → ℕ → List ℕ
 io_completion head identifier =
     replicate 8 0 ++ head ∷ 0 ∷ 1 ∷ 0 ∷ identifier ∷ 0 ∷ 1 ∷ 0 ∷ []
 
--- the registers of a new controller once a driver has written them up to Controller Configuration
+-- the registers of a new controller after a driver has written all of them before Controller Configuration
 abbrev pub registers_set : Registers
 registers_set =
     after_writes initial_registers

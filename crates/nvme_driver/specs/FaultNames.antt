@@ -1,4 +1,4 @@
--- The texts of a driver's faults: their names.
+-- The texts of a driver's faults, which are their names.
 use Rattle.std.specs.Prelude.{ℕ, List, ◌++◌, codes}
 use Rattle.nvme_wire.specs.StatusNames.{status_text}
 use Rattle.nvme_driver.specs.declared.faults.UpFault.{UpFault}

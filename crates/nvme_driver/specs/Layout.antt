@@ -1,6 +1,6 @@
--- Where the parts of a driver's window lie: the queue pages of its two lanes, and for each of its 24 slots a page for a
--- PRP list and an area for data. The doorbells too (Base Specification: Submission Queue Tail Doorbell, Completion
--- Queue Head Doorbell).
+-- The parts of a driver's window: the queue pages of its two lanes (queue pairs), and for each of its 24 slots a page
+-- for a PRP list and an area for data. Also the doorbells (Base Specification: Submission Queue Tail Doorbell,
+-- Completion Queue Head Doorbell).
 use Rattle.std.specs.Prelude.{ℕ, ◌+◌, ◌*◌, ◌<◌, ◌≤◌, ◌≢◌, ◌⊎◌}
 use Rattle.nvme_spec.specs.Limits.{memory_page, most_bytes}
 use Rattle.nvme_spec.specs.Memory.{LiesInWindow}
@@ -12,7 +12,7 @@ use Rattle.nvme_driver.specs.declared.lane.Lane.TheVariants.{Admin, Io}
 abbrev pub slot_count : ℕ
 slot_count = 24
 
--- the entries of a lane's two queues
+-- the numbers of entries of a lane's two queues
 abbrev pub submission_entries : ℕ
 submission_entries = 8
 
@@ -31,7 +31,7 @@ submission_queue lane = 0x2000 * queue_id lane
 abbrev pub completion_queue : Lane → ℕ
 completion_queue lane = 0x1000 + 0x2000 * queue_id lane
 
--- where the n-th command and the n-th completion of a lane lie
+-- the addresses of the n-th command and of the n-th completion of a lane
 abbrev pub command_place : Lane → ℕ → ℕ
 command_place lane n = submission_place (submission_queue lane) submission_entries n
 
@@ -71,7 +71,7 @@ extent (Completions lane) = record { address = completion_queue lane; len = memo
 extent (Listing slot) = record { address = list_page slot; len = memory_page }
 extent (Holding slot) = record { address = data_area slot; len = most_bytes }
 
--- each lies in the window
+-- each is in the window
 abbrev pub AreasLieInWindow : Type 0
 AreasLieInWindow = (a : Area) → IsArea a → LiesInWindow (extent a)
 
@@ -83,7 +83,7 @@ AreApart p q = (p.address + p.len ≤ q.address) ⊎ (q.address + q.len ≤ p.ad
 abbrev pub AreasAreApart : Type 0
 AreasAreApart = (a b : Area) → IsArea a → IsArea b → a ≢ b → AreApart (extent a) (extent b)
 
--- entries lie in their queue's page
+-- entries are in their queue's page
 abbrev pub EntriesLieInTheirPages : Type 0
 EntriesLieInTheirPages =
     (lane : Lane) (n : ℕ) →

@@ -1,5 +1,23 @@
--- How often a ticket is handed up: whatever a host calls, and whatever stands in the window, at most once.
-use Rattle.std.specs.Prelude.{◌≡◌, ◌≤◌, ℕ, ◌+◌, ◌==◌, if◌then◌else◌, List, [], ◌∷◌, ◌++◌, Option, None, Some, Result, Ok, Err}
+-- Statements of the law `tickets`: a ticket is delivered at most once, for any calls of the host and any bytes of the
+-- window.
+use Rattle.std.specs.Prelude.{
+  ◌≡◌,
+  ◌≤◌,
+  ℕ,
+  ◌+◌,
+  ◌==◌,
+  if◌then◌else◌,
+  List,
+  [],
+  ◌∷◌,
+  ◌++◌,
+  Option,
+  None,
+  Some,
+  Result,
+  Ok,
+  Err,
+}
 use Rattle.nvme_driver.specs.declared.slots.Waiting.{Waiting}
 use Rattle.nvme_driver.specs.declared.request.Request.{Request}
 use Rattle.nvme_driver.specs.declared.answer.Answer.{Answer}
@@ -8,8 +26,8 @@ use Rattle.nvme_driver.specs.declared.faults.PollFault.{PollFault}
 use Rattle.nvme_driver.specs.Drivers.{Driver, new_driver, free_slot, placed, after_reset}
 use Rattle.nvme_driver.specs.Polls.{IsOldest, polled}
 
--- What a call does to the requests: one is placed in a slot; a poll over a window, with this oldest aborted request; a
--- reset; or nothing, as in a ringing, a bringing up or a refusal.
+-- The effect of a call on the requests: a request is placed in a slot; a poll of a window, with this oldest aborted
+-- request; a reset; or no effect, like that of a ring, a bring-up or a refusal.
 pub data Event : Type 0 where
   Places : Request → ℕ → Event
   Polls : Option ℕ → List ℕ → Event
@@ -22,7 +40,7 @@ Happens (Polls oldest window) d d' = IsOldest d.slots oldest × (d' ≡ (polled 
 Happens Resets d d' = d' ≡ after_reset d
 Happens Stays d d' = (d'.slots ≡ d.slots) × (d'.next ≡ d.next)
 
--- the ticket that an answer bears
+-- the ticket of an answer
 abbrev pub handed_by : Result (Option Answer) PollFault → List ℕ
 handed_by (Ok (Some (Done ticket status word len))) = ticket.0 ∷ []
 handed_by (Ok (Some (Aborted ticket))) = ticket.0 ∷ []
@@ -35,19 +53,19 @@ handed (Polls oldest window) d = handed_by (polled d oldest window).answer
 handed Resets d = []
 handed Stays d = []
 
--- these calls, one after the other, and the tickets that they hand up
+-- these calls, in order, and the tickets that they deliver
 abbrev pub Run : List Event → Driver → List ℕ → Driver → Type 0
 Run [] d tickets d' = (tickets ≡ []) × (d' ≡ d)
 Run (event ∷ events) d tickets d' =
     (mid : Driver) × (later : List ℕ) × Happens event d mid × (tickets ≡ handed event d ++ later)
     × Run events mid later d'
 
--- how often a number stands in a list
+-- the number of occurrences in a list
 abbrev pub times : ℕ → List ℕ → ℕ
 times t [] = 0
 times t (u ∷ us) = (if u == t then 1 else 0) + times t us
 
--- how many slots hold a request with this ticket
+-- the number of slots that hold a request with this ticket
 abbrev pub bears : ℕ → Option Waiting → ℕ
 bears t None = 0
 bears t (Some w) = if w.ticket.0 == t then 1 else 0
@@ -56,13 +74,13 @@ abbrev pub borne : ℕ → List (Option Waiting) → ℕ
 borne t [] = 0
 borne t (x ∷ xs) = bears t x + borne t xs
 
--- a ticket that is handed up is that of a request in a slot
+-- a ticket that is delivered is that of a request in a slot
 abbrev pub HandsUpOutstanding : Type 0
 HandsUpOutstanding =
     (d : Driver) (oldest : Option ℕ) (window : List ℕ) (t : ℕ) → IsOldest d.slots oldest
     → handed (Polls oldest window) d ≡ t ∷ [] → 1 ≤ borne t d.slots
 
--- no ticket is handed up twice
+-- no ticket is delivered twice
 abbrev pub HandsUpOnce : Type 0
 HandsUpOnce =
     (first : ℕ) (events : List Event) (tickets : List ℕ) (d : Driver) (t : ℕ)

@@ -1,4 +1,4 @@
--- The bytes of a payload.
+-- The bytes of a payload, for the contracts of `payload.rt`.
 use Rattle.std.specs.Prelude.{ℕ, ◌≤◌, List, [], length}
 use Rattle.nvme_spec.specs.Limits.{longest_controller_list}
 use Rattle.nvme_driver.specs.declared.payload.Payload.{Payload}

@@ -1,5 +1,30 @@
--- What a poll hands up (Base Specification: Completion Queue Entry, Phase Tag, Command Identifier, SQ Head Pointer).
-use Rattle.std.specs.Prelude.{◌≡◌, ◌≤◌, slice_range, slice_get, slice_set, ℕ, ◌+◌, ◌==◌, Bool, not, ◌&&◌, if◌then◌else◌, List, [], ◌∷◌, length, take, Option, None, Some, Result, Ok, Err}
+-- The result and the effect of a poll (Base Specification: Completion Queue Entry, Phase Tag, Command Identifier, SQ
+-- Head Pointer).
+use Rattle.std.specs.Prelude.{
+  ◌≡◌,
+  ◌≤◌,
+  slice_range,
+  slice_get,
+  slice_set,
+  ℕ,
+  ◌+◌,
+  ◌==◌,
+  Bool,
+  not,
+  ◌&&◌,
+  if◌then◌else◌,
+  List,
+  [],
+  ◌∷◌,
+  length,
+  take,
+  Option,
+  None,
+  Some,
+  Result,
+  Ok,
+  Err,
+}
 use Rattle.std.specs.Option.{option_flatten}
 use Rattle.nvme_wire.specs.Completion.{dw0, sq_head, sq_id, cid, phase, status}
 use Rattle.nvme_wire.specs.declared.status.Status.{Status}
@@ -45,12 +70,12 @@ IsOldest slots (Some slot) =
 
 -- Completions.
 
--- the entry that the next completion of a lane will have
+-- the entry of the next completion of a lane
 abbrev pub next_entry : Lane → Ends → List ℕ → List ℕ
 next_entry lane e window =
     slice_range window (completion_place_in lane e.head.consumed) (completion_place_in lane e.head.consumed + 16)
 
--- it is new: its phase tag is the one that is expected
+-- it is new: its phase tag is the expected one
 abbrev pub is_new : Ends → List ℕ → Bool
 is_new e entry =
     if phase entry then phase_tag completion_entries e.head.consumed
@@ -77,28 +102,28 @@ live_in lane None = None
 live_in lane (Some w) = if (queue_id w.lane == queue_id lane) && w.live then Some w else None
 
 -- the request that a completion answers: its queue is the lane's, its identifier is the slot of a live request of that
--- lane, and its head lies between the last one heard and the tail
+-- lane, and its head is between the last accepted one and the tail
 abbrev pub answered : Driver → Lane → List ℕ → Option Waiting
 answered d lane entry =
     if (sq_id entry == queue_id lane) && can_be_heard (ends lane d).tail (sq_head entry)
     then live_in lane (waiting_at d.slots (cid entry))
     else None
 
--- the ends of a lane once a completion with this head was consumed
+-- the ends of a lane after a completion with this head was consumed
 abbrev pub consumed_ends : Ends → ℕ → Ends
 consumed_ends e head = record { tail = after_head e.tail head; head = after_consumption e.head }
 
 abbrev pub head_of : Ends → ℕ
 head_of e = slot_of completion_entries e.head.consumed
 
--- how many bytes come with an answer: where the command succeeded, those of its request
+-- the number of bytes of an answer: those of its request if the command succeeded
 abbrev pub is_success : Status → Bool
 is_success s = (s.sct == 0) && (s.sc == 0)
 
 abbrev pub answer_len : ℕ → Status → ℕ
 answer_len received s = if is_success s then received else 0
 
--- What a poll comes to: its answer, the driver after it, its calls of the port, and the bytes at the front of the
+-- The outcome of a poll: its answer, the driver after it, its calls of the port, and the bytes at the front of the
 -- buffer.
 pub record Poll : Type 0 where
   pub answer : Result (Option Answer) PollFault
@@ -109,7 +134,7 @@ pub record Poll : Type 0 where
 abbrev pub without_calls : Result (Option Answer) PollFault → Driver → Poll
 without_calls result d = record { answer = result; driver = d; calls = []; bytes = [] }
 
--- an aborted request is handed up, and its slot is free
+-- an aborted request is delivered, and its slot is free
 abbrev pub ticket_of : Option Ticket → Ticket
 ticket_of None = record { 0 = 0 }
 ticket_of (Some t) = t
@@ -140,19 +165,19 @@ abbrev pub found_poll : Driver → List ℕ → Option Found → Poll
 found_poll d window None = without_calls (Ok None) d
 found_poll d window (Some f) = entry_poll d window f.lane f.entry
 
--- an aborted request comes first, in every state; else the driver must be up; then the first new completion decides
+-- an aborted request comes first, in every state; otherwise the driver must be up, and the first new completion decides
 abbrev pub polled : Driver → Option ℕ → List ℕ → Poll
 polled d (Some slot) window = aborted_poll d slot
 polled d None window =
     if is_up d.state then found_poll d window (found d window) else without_calls (Err NotUp) d
 
--- how many bytes a poll hands up: those that come with the answer of a request
+-- the number of bytes that a poll delivers: those of the answer of a request
 abbrev pub handed_len : Result (Option Answer) PollFault → ℕ
 handed_len (Ok (Some (Done ticket status dw0 len))) = len
 handed_len other = 0
 
--- A poll of a driver over a window, by its calls of the port: some request, or none, is the oldest aborted one, and
--- what the poll then comes to is the answer, the driver after it, the calls, and the front of the buffer.
+-- A poll of a driver over a window, with its calls of the port. The outcome is that for the slot of the oldest aborted
+-- request, if there is one: the answer, the driver afterwards, the calls, and the front of the buffer.
 abbrev pub IsPolled :
     {S : Type 0} → (S → Call → S → Type 0) → Driver → List ℕ → S → Result (Option Answer) PollFault → Driver → S
     → List ℕ

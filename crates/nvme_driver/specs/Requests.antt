@@ -1,7 +1,29 @@
--- What each request of a host asks: the command, and the data that go with it (NVM Command Set Specification: Flush,
--- Write, Read, Compare, Write Zeroes; Base Specification: Reservation Register, Acquire, Release and Report, Identify,
--- Namespace Write Protection Config, Namespace Attachment, Controller List).
-use Rattle.std.specs.Prelude.{ℕ, ◌+◌, ◌-◌, ◌*◌, ◌/◌, ◌%◌, ◌^◌, ◌==◌, nat_lt, Bool, false, not, ◌&&◌, ◌||◌, if◌then◌else◌, List, [], ◌∷◌, ◌++◌, length, replicate}
+-- The command of each request of a host, and its data (NVM Command Set Specification: Flush, Write, Read, Compare,
+-- Write Zeroes; Base Specification: Reservation Register, Acquire, Release and Report, Identify, Namespace Write
+-- Protection Config, Namespace Attachment, Controller List).
+use Rattle.std.specs.Prelude.{
+  ℕ,
+  ◌+◌,
+  ◌-◌,
+  ◌*◌,
+  ◌/◌,
+  ◌%◌,
+  ◌^◌,
+  ◌==◌,
+  nat_lt,
+  Bool,
+  false,
+  not,
+  ◌&&◌,
+  ◌||◌,
+  if◌then◌else◌,
+  List,
+  [],
+  ◌∷◌,
+  ◌++◌,
+  length,
+  replicate,
+}
 use Rattle.std.specs.List.{flat_map}
 use Rattle.std.specs.Int.{w16, w64, to_le_bytes}
 use Rattle.nvme_spec.specs.declared.command.Command as standard
@@ -14,10 +36,25 @@ use Rattle.nvme_spec.specs.AdminCommands as admin_commands
 use Rattle.nvme_driver.specs.declared.lane.Lane.{Lane}
 use Rattle.nvme_driver.specs.declared.lane.Lane.TheVariants.{Admin, Io}
 use Rattle.nvme_driver.specs.declared.request.Request.{Request}
-use Rattle.nvme_driver.specs.declared.request.Request.TheVariants.{Read, Write, Compare, WriteZeroes, Flush, Register, Acquire, Release, Report, Identify, Protect, Protection, Attach, Detach}
+use Rattle.nvme_driver.specs.declared.request.Request.TheVariants.{
+  Read,
+  Write,
+  Compare,
+  WriteZeroes,
+  Flush,
+  Register,
+  Acquire,
+  Release,
+  Report,
+  Identify,
+  Protect,
+  Protection,
+  Attach,
+  Detach,
+}
 
--- What a request gives of its command: its lane, its opcode, its namespace and the double words 10, 11 and 12. All
--- other fields are its slot's, or 0.
+-- The fields of the command that a request gives: its lane (queue pair), its opcode, its namespace and the double words
+-- 10, 11 and 12. All other fields are its slot's, or 0.
 pub record Command : Type 0 where
   pub lane : Lane
   pub opcode : ℕ
@@ -29,8 +66,8 @@ pub record Command : Type 0 where
 abbrev pub words_of : Command → List ℕ
 words_of c = c.cdw10 ∷ c.cdw11 ∷ c.cdw12 ∷ []
 
--- The command and its data: how many bytes it moves, the bytes that go to the controller, and how many come from there
--- where it succeeds.
+-- The command and its data: the number of bytes that it transfers, the bytes for the controller, and the number of
+-- bytes from there if it succeeds.
 pub record Asked : Type 0 where
   pub command : Command
   pub moved : ℕ
@@ -62,11 +99,11 @@ on_admin which namespace word10 word11 = record {
 abbrev pub on_blocks : standard.Command → ℕ → ℕ → ℕ → Command
 on_blocks which namespace slba blocks = on_io which namespace (slba % 2 ^ 32) (slba / 2 ^ 32) (blocks - 1)
 
--- a command on a reservation: the action in bits 2:0 of double word 10, the rest of it from bit 3 on
+-- a command on a reservation: the action in bits 2:0 of double word 10, the rest of it from bit 3
 abbrev pub on_reservation : standard.Command → ℕ → ℕ → ℕ → Command
 on_reservation which namespace action rest = on_io which namespace (action + rest) 0 0
 
--- a command without data, one whose data come from the controller, and one whose data, so many bytes, go there
+-- a command without data, one that receives data from the controller, and one that sends data to it
 abbrev pub without_data : Command → Asked
 without_data which = record { command = which; moved = 0; sent = []; received = 0 }
 
@@ -80,7 +117,7 @@ sending which count bytes = record { command = which; moved = count; sent = byte
 abbrev pub key : ℕ → List ℕ
 key k = to_le_bytes w64 k
 
--- a Controller List: how many identifiers there are, these, and zeros up to the end of the page
+-- a Controller List: the number of identifiers, the identifiers, and zeros to the end of the page
 unfoldable pub controller_list : List ℕ → List ℕ
 controller_list list =
     to_le_bytes w16 (length list) ++ flat_map (to_le_bytes w16) list ++ replicate (4094 - 2 * length list) 0
@@ -117,7 +154,7 @@ abbrev pub are_whole_blocks : List ℕ → Bool
 are_whole_blocks bytes =
     not (length bytes == 0) && (length bytes % block_size == 0) && not (nat_lt most_bytes (length bytes))
 
--- a request that no command can carry
+-- a request that no command can express
 abbrev pub is_bad : Request → Bool
 is_bad (Read nsid slba blocks) = (blocks == 0) || nat_lt most_blocks blocks
 is_bad (Write nsid slba bytes) = not (are_whole_blocks bytes.now)

@@ -1,6 +1,30 @@
--- How a driver brings its controller up (Base Specification: Memory-based Controller Initialization, Create I/O
--- Completion Queue, Create I/O Submission Queue).
-use Rattle.std.specs.Prelude.{◌≡◌, ℕ, ◌+◌, ◌-◌, ◌*◌, ◌%◌, ◌^◌, ◌==◌, Bool, true, false, ◌&&◌, if◌then◌else◌, List, [], ◌∷◌, replicate, Option, None, Some, Result, Ok, Err}
+-- A driver brings its controller up (Base Specification: Memory-based Controller Initialization, Create I/O Completion
+-- Queue, Create I/O Submission Queue).
+use Rattle.std.specs.Prelude.{
+  ◌≡◌,
+  ℕ,
+  ◌+◌,
+  ◌-◌,
+  ◌*◌,
+  ◌%◌,
+  ◌^◌,
+  ◌==◌,
+  Bool,
+  true,
+  false,
+  ◌&&◌,
+  if◌then◌else◌,
+  List,
+  [],
+  ◌∷◌,
+  replicate,
+  Option,
+  None,
+  Some,
+  Result,
+  Ok,
+  Err,
+}
 use Rattle.nvme_wire.specs.declared.sqe.fields.SqeFields.{SqeFields}
 use Rattle.nvme_wire.specs.declared.status.Status.{Status}
 use Rattle.nvme_wire.specs.Submission.{submission_entry}
@@ -14,7 +38,17 @@ use Rattle.nvme_driver.specs.declared.state.State.TheVariants.{Down, Up}
 use Rattle.nvme_driver.specs.declared.faults.UpFault.{UpFault}
 use Rattle.nvme_driver.specs.declared.faults.UpFault.TheVariants.{NotReady, NoAnswer, Refused}
 use Rattle.nvme_driver.specs.Calls.{Call, Stores, Writes, Reads, Calls, Awaits}
-use Rattle.nvme_driver.specs.Layout.{submission_entries, completion_entries, slot_count, queue_id, submission_queue, completion_queue, command_place, tail_doorbell, head_doorbell}
+use Rattle.nvme_driver.specs.Layout.{
+  submission_entries,
+  completion_entries,
+  slot_count,
+  queue_id,
+  submission_queue,
+  completion_queue,
+  command_place,
+  tail_doorbell,
+  head_doorbell,
+}
 use Rattle.nvme_driver.specs.Drivers.{Ends, Driver, empty_ends, put_ends, tail_of, cc}
 use Rattle.nvme_driver.specs.Polls.{new_in, consumed_ends, head_of, is_success}
 
@@ -46,7 +80,7 @@ admin_sizes = submission_entries - 1 + 2 ^ 16 * (completion_entries - 1)
 abbrev pub enabling : ℕ
 enabling = 1 + 2 ^ 16 * 6 + 2 ^ 20 * 4
 
--- a page of zeros. It is no `abbrev`, so that no proof computes its bytes
+-- a page of zeros. It is not an `abbrev`, so that no proof computes its bytes
 unfoldable pub zero_page : List ℕ
 zero_page = replicate memory_page 0
 
@@ -109,7 +143,7 @@ create_submission_queue =
     own_fields (opcode_of CreateSubmissionQueue) (submission_queue Io) (queue_word submission_entries)
     (1 + 2 ^ 16 * queue_id Io)
 
--- such a command is put and rung
+-- such a command is put, and the tail doorbell written
 abbrev pub sent : Driver → Driver
 sent d = record d { admin = put_ends d.admin }
 
@@ -119,7 +153,7 @@ send_calls e command =
     ∷ Writes (tail_doorbell Admin) (tail_of (put_ends e))
     ∷ []
 
--- the completion that answers it, where it is the next one and new
+-- whether an entry is the next completion, new, and answers such a command
 abbrev pub answers_own : Ends → List ℕ → Bool
 answers_own e entry = (sq_id entry == queue_id Admin) && ((cid entry == own_cid) && (sq_head entry == tail_of e))
 
@@ -143,8 +177,8 @@ Hears step d None old result d' new = (result ≡ None) × (d' ≡ d) × (new �
 Hears step d (Some entry) old result d' new =
     (result ≡ Some (status entry)) × (d' ≡ heard_own d entry) × Calls step old (heard_calls d.admin entry) new
 
--- Such a command is put and rung; its answer is waited for, for at most four turns, and consumed. The result is the
--- answer's status, if one came.
+-- Such a command is put and rung; the driver waits for its answer for at most four turns, and consumes it. The result
+-- is the answer's status, if one came.
 unfoldable pub Creates :
     {S : Type 0} → (S → Call → S → Type 0) → (S → List ℕ) → SqeFields → Driver → S → Option Status → Driver → S
     → Type 0
@@ -154,7 +188,7 @@ Creates {S} step bytes command d old result d' new =
     × Awaits step (λ p. own_answer (sent d).admin (bytes p)) 4 rung answer seen
     × Hears step (sent d) answer seen result d' new
 
--- what comes of the answer to such a command: it is a fault unless the command succeeded
+-- the fault of the answer to such a command, unless it succeeded
 abbrev pub fault_of : Option Status → Option UpFault
 fault_of None = Some NoAnswer
 fault_of (Some s) = if is_success s then None else Some (Refused s)
@@ -172,7 +206,7 @@ CreatesSubmissions step bytes None d old result d' new =
     (answer : Option Status) × (left : Driver) × Creates step bytes create_submission_queue d old answer left new
     × Concludes (fault_of answer) result left d'
 
--- a controller that is ready is asked to create both queues
+-- a ready controller creates both queues, on command
 abbrev pub CreatesBoth :
     {S : Type 0} → (S → Call → S → Type 0) → (S → List ℕ) → Bool → Driver → S → Result (Unit {0}) UpFault
     → Driver → S → Type 0
@@ -182,12 +216,12 @@ CreatesBoth {S} step bytes true d old result d' new =
     × Creates step bytes create_completion_queue d old answer left mid
     × CreatesSubmissions step bytes (fault_of answer) left mid result d' new
 
--- the state that this leaves a driver in that was down
+-- the state of the driver, which was down, after that
 abbrev pub risen_state : Result (Unit {0}) UpFault → State
 risen_state (Ok u) = Up
 risen_state (Err fault) = Down
 
--- a driver that is down comes up, or tells why not
+-- a driver that is down comes up, or returns why not
 unfoldable pub Rises :
     {S : Type 0} → (S → Call → S → Type 0) → (S → List ℕ) → Driver → S → Result (Unit {0}) UpFault → Driver → S
     → Type 0

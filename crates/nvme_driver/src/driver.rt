@@ -2,7 +2,16 @@
 
 ghost use Rattle.std.specs.Prelude.{◌≡◌, ◌<◌, ◌↔◌, is_ok, IfSome, IsSome};
 ghost use Rattle.nvme_driver.specs.Calls.{Calls};
-ghost use Rattle.nvme_driver.specs.Drivers.{ticket_count, new_driver, is_up as up, ends as ends_of, with_ends, ring_calls, after_reset, reset_calls};
+ghost use Rattle.nvme_driver.specs.Drivers.{
+  ticket_count,
+  new_driver,
+  is_up as up,
+  ends as ends_of,
+  with_ends,
+  ring_calls,
+  after_reset,
+  reset_calls,
+};
 
 use crate::ends::Ends;
 use crate::faults::NotUp;
@@ -19,14 +28,14 @@ mod bring_up;
 mod place;
 mod poll;
 
-/// A host's driver: it places requests in a window that it shares with a controller, and hands up each one's answer
-/// once. Contracts see it as the record `Driver` of its state, the next ticket, its slots and its ends of the queues.
+/// A host's driver: it places requests in a window that it shares with a controller, and delivers the answer to each
+/// once. Contracts see the record `Driver` of its state, the next ticket, its slots and its ends of the queues.
 #[derive(Drop)]
 pub struct Driver {
     state: State,
     tickets: Tickets,
     slots: [Option<Waiting>; 24],
-    /// Whether the slots were looked through, and none had an aborted request.
+    /// Whether the slots are known to have no aborted request.
     none_aborted: bool,
     admin: Ends,
     io: Ends,
@@ -73,7 +82,7 @@ impl Driver {
         self.state
     }
 
-    /// The next ticket, or `None` where none is left.
+    /// The next ticket, or `None` if none is left.
     pub fn next_ticket(&self) -> Option<Ticket>
         ensures next { IfSome result (λ ticket. ticket ≡ record { 0 = self.now.next }) }
         ensures left { IsSome result ↔ (self.now.next < ticket_count) }
@@ -81,7 +90,7 @@ impl Driver {
         self.tickets.peek()
     }
 
-    /// The slots of the requests that were not handed up, live or aborted.
+    /// The slots of the requests that were not delivered, live or aborted.
     pub fn slots(&self) -> &[Option<Waiting>]
         ensures { result.now ≡ self.now.slots }
     {
@@ -95,7 +104,7 @@ impl Driver {
         matches!(self.state, State::Up)
     }
 
-    /// The ends of a lane.
+    /// The ends of a lane (queue pair).
     fn ends(&self, lane: Lane) -> Ends
         ensures { result ≡ ends_of lane self.now }
     {
@@ -115,10 +124,11 @@ impl Driver {
         }
     }
 
-    /// Writes both lanes' tails to their doorbells, so that the controller sees what was placed.
+    /// Writes both lanes' tails to their doorbells, so that the controller sees the placed requests.
     ///
     /// # Errors
-    /// `NotUp` where the driver is not up. The port is then not called.
+    ///
+    /// `NotUp` if the driver is not up. The port is not called then.
     pub fn ring<P: Port>(&mut self, port: &mut P) -> Result<(), NotUp>
         ensures driver { self.new ≡ self.old }
         ensures up { is_ok result ≡ up self.old.state }
@@ -133,7 +143,7 @@ impl Driver {
         Ok(())
     }
 
-    /// Resets the controller. The driver is then down, and all requests that were not handed up are aborted.
+    /// Resets the controller. The driver is then down, and all requests that were not delivered are aborted.
     pub fn reset<P: Port>(&mut self, port: &mut P)
         ensures driver { self.new ≡ after_reset self.old }
         ensures calls { Calls P.step port.old reset_calls port.new }

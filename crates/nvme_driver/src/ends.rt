@@ -1,4 +1,4 @@
-//! The host's ends of the two queues of a lane.
+//! The host's ends of the two queues of a lane (queue pair).
 
 ghost use Rattle.std.specs.Prelude.{◌≡◌, ◌<◌, ◌==◌, true};
 ghost use Rattle.nvme_spec.specs.Queues.{submission_room, can_be_heard, phase_tag};
@@ -49,7 +49,7 @@ impl Ends {
         self.tail.room() == 0
     }
 
-    /// The slot of the next command, which is also the tail that the doorbell takes.
+    /// The slot of the next command, which is also the value for the tail doorbell.
     pub fn tail(&self) -> u16
         ensures slot { result ≡ tail_of self.now }
         ensures below { result < 8 }
@@ -57,7 +57,7 @@ impl Ends {
         self.tail.slot()
     }
 
-    /// The next command was put. That there is room is the caller's condition.
+    /// Puts the next command, for which there must be room.
     pub fn put(&mut self)
         requires { 0 < submission_room self.old.tail }
         ensures { self.new ≡ put_ends self.old }
@@ -65,7 +65,7 @@ impl Ends {
         self.tail.advance();
     }
 
-    /// The slot of the next completion, which is also the head that the doorbell takes.
+    /// The slot of the next completion, which is also the value for the head doorbell.
     pub fn head(&self) -> u16
         ensures slot { result ≡ head_of self.now }
         ensures below { result < completion_entries }
@@ -80,8 +80,8 @@ impl Ends {
         self.head.phase()
     }
 
-    /// The next completion was consumed, and carried this head of the submission queue. Where it does not lie between
-    /// the last one heard and the tail, the answer is false, and it is not heard.
+    /// Consumes the next completion, which has this head of the submission queue. Returns false, and ignores the head,
+    /// if it is not between the last accepted one and the tail.
     pub fn consume(&mut self, sq_head: u16) -> bool
         ensures heard { result ≡ can_be_heard self.old.tail sq_head }
         ensures after { self.new ≡ consumed_ends self.old sq_head }

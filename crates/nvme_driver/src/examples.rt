@@ -1,5 +1,4 @@
-//! Worked examples of the definitions. The functions do nothing: their contracts are proved by computing, so that each
-//! definition is seen to say what its reader takes it to say.
+//! Worked examples of the definitions. Each is the contract of an empty function, proved by computing.
 #![tactic(auto, unfolding(nvme_wire::specs::Submission::submission_entry, nvme_wire::specs::Completion::sq_head, nvme_wire::specs::Completion::sq_id, nvme_wire::specs::Completion::cid, nvme_wire::specs::Completion::phase, nvme_spec::specs::Entries::command_entry, crate::specs::Pointers::page_entry, crate::specs::Pointers::page_entries, crate::specs::Requests::controller_list, nvme_spec::specs::Registers::value_at, nvme_spec::specs::Registers::can_enable, nvme_spec::specs::Registers::configured, nvme_spec::specs::Registers::prepared, nvme_spec::specs::Registers::doorbell, nvme_spec::specs::Registers::after_write))]
 
 ghost use Rattle.std.specs.Prelude.{◌≡◌, ◌++◌, [], ◌∷◌, None, Some, take, slice_range, true, false};
@@ -39,7 +38,7 @@ fn bringing_up()
     ensures ready { is_ready (value_at (after_writes registers_set ((cc, enabling) ∷ [])) csts) ≡ true }
 {}
 
-/// A request is answered by its own identifier, lane and a head that can be, and by nothing else.
+/// A request is answered only by its own identifier and lane (queue pair), with a possible head.
 fn answers()
     ensures slot { free_slot reading_driver ≡ Some 1 }
     ensures its_own { answered reading_driver Lane.Io (io_completion 1 0)

@@ -1,4 +1,4 @@
-//! Why a driver refuses a call. The text of each is its name.
+//! Why a driver refuses a call. The text of each fault is its name.
 
 ghost use Rattle.std.specs.Prelude.{Some, codes};
 ghost use Rattle.nvme_driver.specs.FaultNames.{up_fault_text, refusal_text, poll_fault_text};
@@ -11,7 +11,7 @@ use std::fmt;
 pub enum UpFault {
     /// It is up already, or has failed and was not reset.
     AlreadyUp,
-    /// The controller does not show that it is ready.
+    /// The controller's status is not ready.
     NotReady,
     /// The controller did not answer one of the driver's own commands within four turns.
     NoAnswer,
@@ -24,13 +24,13 @@ pub enum UpFault {
 pub enum PlaceRefusal {
     /// The driver is not up.
     NotReady,
-    /// No command can carry the request.
+    /// No command can express the request.
     BadRequest,
-    /// Every slot holds a request that was not handed up.
+    /// Every slot holds a request that was not delivered.
     NoSlot,
-    /// The controller is not known to have fetched any of the commands that its queue has room for.
+    /// By the heads of completions, all commands that fit the queue may still wait there.
     RingFull,
-    /// Every ticket was given.
+    /// Every ticket was issued.
     TicketsExhausted,
 }
 
@@ -38,7 +38,7 @@ pub enum PlaceRefusal {
 #[derive(Clone, Copy, Debug, PartialEq, Eq)]
 pub struct NotUp;
 
-/// Why a poll gave no answer.
+/// Why a poll delivered no answer.
 #[derive(Clone, Copy, Debug, PartialEq, Eq)]
 pub enum PollFault {
     /// The driver is not up.

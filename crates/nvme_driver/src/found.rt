@@ -9,14 +9,14 @@ use nvme_mem::Window;
 use nvme_spec::Piece;
 use nvme_wire::{Cqe, Status};
 
-/// A new completion, and the lane in whose queue it stands.
+/// A new completion, and the lane (queue pair) in whose queue it is.
 #[derive(Clone, Copy)]
 pub struct Found {
     pub lane: Lane,
     pub entry: Cqe,
 }
 
-/// The next completion of a lane, where it is new.
+/// The next completion of a lane, if it is new.
 pub fn new_in(lane: Lane, ends: Ends, window: &Window) -> Option<Cqe>
     ensures { result ≡ spec_new_in lane ends window.now }
 {
@@ -27,7 +27,7 @@ pub fn new_in(lane: Lane, ends: Ends, window: &Window) -> Option<Cqe>
     (entry.phase() == ends.phase()).then_some(entry)
 }
 
-/// Whether a status says that the command was carried out.
+/// Whether a status means that the command was executed.
 pub fn is_success(status: Status) -> bool
     ensures { result ≡ success status }
 {

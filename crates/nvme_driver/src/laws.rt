@@ -1,11 +1,18 @@
-//! Laws that follow from the definitions, each the contract of a function that does nothing.
+//! Laws that follow from the definitions. Each is the contract of an empty function.
 
 ghost use Rattle.nvme_driver.specs.Layout.{AreasLieInWindow, AreasAreApart, EntriesLieInTheirPages};
-ghost use Rattle.nvme_driver.specs.Pointers.{SlotsAreContiguous, SlotsMoveOneRun, OtherPartsStay, StoredListIsThere, StoresKeepLists, ListsKeepOthers};
+ghost use Rattle.nvme_driver.specs.Pointers.{
+  SlotsAreContiguous,
+  SlotsMoveOneRun,
+  OtherPartsStay,
+  StoredListIsThere,
+  StoresKeepLists,
+  ListsKeepOthers,
+};
 ghost use Rattle.nvme_driver.specs.Once.{HandsUpOutstanding, HandsUpOnce};
 ghost use Rattle.nvme_driver.specs.Drivers.{EntriesMoveTheirData};
 
-/// The parts of the window: each lies in it, no two have a common byte, and entries lie in their queue's page.
+/// The parts of the window: each is in it, no two have a common byte, and entries are in their queue's page.
 #[tactic(auto, using(crate::proofs::Areas::areas_lie_in_window, crate::proofs::Areas::areas_are_apart, crate::proofs::Areas::entries_lie_in_their_pages))]
 pub fn layout()
     ensures inside { AreasLieInWindow }
@@ -13,13 +20,13 @@ pub fn layout()
     ensures entries { EntriesLieInTheirPages }
 {}
 
-/// The pointer of a slot has no fault and names the slot's data, byte after byte, as one run.
+/// The pointer of a slot has no fault and is the slot's data, byte after byte, as one run.
 pub fn pointers()
     ensures contiguous { SlotsAreContiguous }
     ensures moves { SlotsMoveOneRun }
 {}
 
-/// What stores keep of the window, and of the lists in it.
+/// What stores leave of the window, and of the lists in it.
 #[tactic(auto, using(crate::proofs::PageLists::other_parts_stay, crate::proofs::PageLists::stored_list_is_there, crate::proofs::PageLists::stores_keep_lists, crate::proofs::PageLists::lists_keep_others))]
 pub fn lists()
     ensures apart { OtherPartsStay }
@@ -28,14 +35,14 @@ pub fn lists()
     ensures others { ListsKeepOthers }
 {}
 
-/// A ticket that is handed up is that of a request that waits, and none is handed up twice: whatever a host calls, in
-/// any order, and whatever stands in the window.
+/// Each delivered ticket is that of a waiting request, and no ticket is delivered twice, for any calls of the host in
+/// any order, and any bytes of the window.
 pub fn tickets()
     ensures outstanding { HandsUpOutstanding }
     ensures once { HandsUpOnce }
 {}
 
-/// A controller that reads the entry of a request moves as many bytes as the request.
+/// A controller that reads the entry of a request transfers as many bytes as the request.
 #[tactic(auto, using(crate::proofs::Moving::entries_move_their_data))]
 pub fn data()
     ensures { EntriesMoveTheirData }

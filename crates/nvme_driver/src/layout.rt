@@ -1,23 +1,23 @@
-//! Where the parts of a driver's window lie.
+//! The parts of a driver's window.
 
 ghost use Rattle.std.specs.Prelude.{◌≡◌, ◌<◌};
 ghost use Rattle.nvme_driver.specs.Layout as layout;
 
 use crate::lane::Lane;
 
-/// How many requests can wait for their answers.
+/// The number of requests that can wait for their answers.
 pub const SLOTS: usize = 24;
 
 /// A memory page, in bytes.
 pub const PAGE: usize = 0x1000;
 
-/// The entries of a lane's submission queue.
+/// The entries of a lane's (queue pair's) submission queue.
 pub const SUBMISSION_ENTRIES: u16 = 8;
 
 /// The entries of a lane's completion queue.
 pub const COMPLETION_ENTRIES: u16 = 32;
 
-/// The page in which the list of a slot stands.
+/// The page for the list of a slot.
 pub fn list_page(slot: usize) -> u64
     requires { slot < layout.slot_count }
     ensures { result ≡ layout.list_page slot }
@@ -25,7 +25,7 @@ pub fn list_page(slot: usize) -> u64
     0x1_0000 + 0x1000 * slot as u64
 }
 
-/// Where the data of a slot begin.
+/// The address of the data of a slot.
 pub fn data_area(slot: usize) -> u64
     requires { slot < layout.slot_count }
     ensures { result ≡ layout.data_area slot }

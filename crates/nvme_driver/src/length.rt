@@ -1,11 +1,11 @@
-//! How many bytes a transfer has.
+//! The length of a transfer.
 
 ghost use Rattle.std.specs.Prelude.{◌≡◌, ◌≤◌};
 ghost use Rattle.nvme_spec.specs.Limits.{most_bytes};
 
 use std::marker::Model;
 
-/// A count of bytes of one transfer, at most 131,072. Contracts see it as its number.
+/// The number of bytes of one transfer, at most 131,072. Contracts see it as a number.
 #[derive(Clone, Copy, Debug)]
 pub struct Length {
     bytes: usize,
@@ -25,7 +25,7 @@ impl Model for Length {
 }
 
 impl Length {
-    /// A length of so many bytes.
+    /// A length of this many bytes.
     pub fn new(bytes: usize) -> Length
         requires { bytes ≤ most_bytes }
         ensures { result ≡ bytes }

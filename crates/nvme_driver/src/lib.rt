@@ -1,8 +1,9 @@
-//! The driver that each host runs: it places requests in its half of a window of host memory, and hands up each
+//! The driver that each host runs: it places requests in its part of a window of host memory, and delivers each
 //! completion once, as the answer to its own request.
 //!
-//! A driver takes no memory and has no clock. It reaches its controller by a `Port`, of which it asks nothing but that
-//! a store stores: a controller that answers late, never or wrongly is told by its fault, and no answer is made up.
+//! A driver takes no memory and has no clock. It reaches its controller through a `Port`, of which it requires only
+//! that a store writes its bytes. If the controller answers late, never or wrongly, the driver reports a fault; it
+//! never invents an answer.
 #![tactic(auto)]
 
 mod answer;

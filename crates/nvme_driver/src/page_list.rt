@@ -13,8 +13,8 @@ use crate::layout::{PAGE, data_area, list_page};
 use crate::port::Port;
 use std::marker::Model;
 
-/// A PRP list: the addresses of the second and the later pages of a slot's data, or no bytes where PRP entry 2 does
-/// not name a list. Contracts see its bytes.
+/// A PRP list: the addresses of the second and the later pages of a slot's data, or empty if PRP entry 2 is not the
+/// address of a list. Contracts see its bytes.
 #[derive(Drop)]
 struct PageList {
     bytes: [u8; 248],
@@ -31,7 +31,7 @@ impl Model for PageList {
     ghost invariant = { λ l. l.len ≤ 248 };
 }
 
-/// How many pages a list names for so many bytes: none where two PRP entries name them all.
+/// The number of pages in the list for `moved` bytes: none if two PRP entries are enough.
 fn listed_pages(moved: usize) -> usize
     requires { moved ≤ most_bytes }
     ensures pages { result ≡ pages_listed moved }
@@ -44,7 +44,7 @@ fn listed_pages(moved: usize) -> usize
     }
 }
 
-/// The addresses of so many pages that lie one after the other from `first` on, eight bytes each, and zeros.
+/// The addresses of `pages` adjacent pages from `first`, eight bytes each, and zeros.
 fn spell(first: u64, pages: usize) -> [u8; 248]
     requires few { pages ≤ 31 }
     requires fits { first < 2 ^ 32 }
@@ -59,7 +59,7 @@ fn spell(first: u64, pages: usize) -> [u8; 248]
 }
 
 impl PageList {
-    /// The list of a slot for so many bytes.
+    /// The list of a slot for `moved` bytes.
     fn new(slot: usize, moved: usize) -> PageList
         requires slot { slot < slot_count }
         requires moved { moved ≤ most_bytes }
@@ -80,7 +80,8 @@ impl PageList {
     }
 }
 
-/// Stores the list of a slot for so many bytes in the page of its list: no bytes where PRP entry 2 does not name a list.
+/// Stores the list of a slot for `moved` bytes in the slot's list page; nothing if PRP entry 2 is not the address of a
+/// list.
 #[tactic(auto, unfolding(crate::specs::Pointers::page_entries))]
 pub fn store_page_list<P: Port>(port: &mut P, slot: usize, moved: usize)
     requires slot { slot < slot_count }
@@ -96,8 +97,8 @@ pub fn store_page_list<P: Port>(port: &mut P, slot: usize, moved: usize)
     }
 }
 
-/// Stores a list that names pages.
-// Not inlined, so that the requests whose data have a page or two do not pay for the room of a list.
+/// Stores a list of pages.
+// Not inlined, so that requests with a page or two of data do not pay for a list's buffer.
 #[inline(never)]
 fn store_pages<P: Port>(port: &mut P, slot: usize, moved: usize)
     requires slot { slot < slot_count }

@@ -1,4 +1,4 @@
-//! The data that go to the controller with a request.
+//! The data that a request sends to the controller.
 
 ghost use Rattle.std.specs.Prelude.{◌≡◌, ◌+◌, ◌++◌, ◌≤◌, false, length, replicate};
 ghost use Rattle.nvme_spec.specs.Bytes.{with_bytes};
@@ -12,7 +12,7 @@ use crate::bytes::put_bytes;
 use crate::port::Port;
 use crate::request::Request;
 
-/// The data that go to the controller with a request: the caller's, or made from the request's fields.
+/// The data that a request sends to the controller: the caller's, or made from the request's fields.
 #[derive(Clone, Copy)]
 pub enum Payload<'a> {
     /// None.
@@ -28,7 +28,7 @@ pub enum Payload<'a> {
 }
 
 impl Payload<'_> {
-    /// Stores the bytes from `addr` on.
+    /// Stores the bytes at `addr`.
     pub(crate) fn store<P: Port>(&self, port: &mut P, addr: u64)
         requires inside { addr + length (bytes_of self.now) ≤ window_size }
         requires short { IsSpelled self.now }
@@ -47,8 +47,8 @@ impl Payload<'_> {
     }
 }
 
-/// Stores a Controller List from `addr` on.
-// Not inlined, so that only the requests that send a list pay for the room of its page.
+/// Stores a Controller List at `addr`.
+// Not inlined, so that only requests that send a list pay for its page.
 #[inline(never)]
 fn store_list<P: Port>(port: &mut P, addr: u64, list: &[u16])
     requires inside { addr + length (list_bytes list.now) ≤ window_size }
@@ -63,7 +63,7 @@ fn store_list<P: Port>(port: &mut P, addr: u64, list: &[u16])
     port.store(addr, &page);
 }
 
-/// Two reservation keys, one after the other.
+/// Two adjacent reservation keys.
 fn keys(first: u64, second: u64) -> [u8; 16]
     ensures { result ≡ key first ++ key second }
 {
@@ -73,7 +73,7 @@ fn keys(first: u64, second: u64) -> [u8; 16]
     bytes
 }
 
-/// Spells a Controller List of at most 2,047 identifiers in a page of zeros.
+/// Writes a Controller List of at most 2,047 identifiers into a page of zeros.
 fn spell_list(page: &mut [u8], list: &[u16])
     requires zeros { page.old ≡ replicate 4096 0 }
     requires short { length list.now ≤ 2047 }
@@ -86,7 +86,7 @@ fn spell_list(page: &mut [u8], list: &[u16])
 }
 
 impl<'a> Request<'a> {
-    /// The data that go to the controller with the request.
+    /// The data that the request sends to the controller.
     #[tactic(auto, using(crate::proofs::Spelling::controller_list_length))]
     pub(crate) fn payload(&self) -> Payload<'a>
         requires { bad self.now ≡ false }

@@ -1,4 +1,4 @@
-//! A host's way to its controller.
+//! A host's access to its controller.
 
 ghost use Rattle.std.specs.Prelude.{◌≡◌, ◌+◌, ◌≤◌, ℕ, List, length};
 ghost use Rattle.std.specs.Borrow.{GName};
@@ -8,12 +8,12 @@ ghost use Rattle.nvme_driver.specs.Calls.{Call, Stores, Writes, Reads, Turns};
 
 use nvme_mem::Window;
 
-/// A host's way to its controller: the window of host memory that they share, and the controller's registers, whose
-/// offsets are in bytes. For contracts a port tells by `step` which states may follow each call, by `bytes` what the
-/// window holds, and by `links` which references it works through, all of which stay.
+/// A host's access to its controller: the window of host memory that they share, and the controller's registers, with
+/// offsets in bytes. For contracts a port defines by `step` which states may follow each call, by `bytes` the bytes of
+/// the window, and by `links` the references that it works through, all of which stay.
 ///
-/// A store stores. Nothing else is asked: when a register is used or a turn is taken, the device may do anything to the
-/// window.
+/// The only requirement is that a store writes its bytes. When the host reads or writes a register, or the device takes
+/// a turn, the device may change the window in any way.
 pub trait Port {
     ghost bytes: { Self → List ℕ };
 
@@ -25,7 +25,7 @@ pub trait Port {
     fn window(&self) -> &Window
         ensures { result.now ≡ bytes self.now };
 
-    /// Stores bytes in the window from `addr` on. That they lie in it is the caller's condition.
+    /// Stores bytes in the window at `addr`. They must fit.
     fn store(&mut self, addr: u64, part: &[u8])
         requires { addr + length part.now ≤ window_size }
         ensures step { step self.old (Stores addr part.now) self.new }
@@ -33,7 +33,7 @@ pub trait Port {
         ensures bytes { bytes self.new ≡ with_bytes (bytes self.old) addr part.now }
         ensures links { links self.new ≡ links self.old };
 
-    /// What the register at an offset reads.
+    /// Reads the register at an offset.
     fn read32(&mut self, offset: u64) -> u32
         ensures step { step self.old (Reads offset result) self.new }
         ensures links { links self.new ≡ links self.old };

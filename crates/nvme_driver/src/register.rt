@@ -1,5 +1,5 @@
-//! The registers of a controller that a driver uses (Base Specification 2.0, Controller Properties): where they lie, in
-//! bytes, and what is written there.
+//! The registers of a controller that a driver uses (Base Specification 2.0, Controller Properties): their offsets in
+//! bytes, and the values that it writes there.
 
 /// Controller Configuration.
 pub const CC: u64 = 0x14;

@@ -1,4 +1,4 @@
-//! What a host asks of its driver.
+//! The requests of a host to its driver.
 
 ghost use Rattle.std.specs.Prelude.{◌≡◌, ◌-◌, ◌/◌, ◌%◌, ◌^◌, ◌≤◌, length, false, [], ◌∷◌};
 ghost use Rattle.nvme_spec.specs.Limits.{most_bytes, block_size};
@@ -16,29 +16,29 @@ const EXTENDED_DATA_STRUCTURE: u32 = 1;
 /// SEL of a Namespace Attachment that detaches.
 const DETACH: u32 = 1;
 
-/// A request of a host. Each is one command, with the fields of the command that the standard gives that name; the
-/// other fields are 0. Data are the caller's bytes, and stay with the caller once the request is placed.
+/// A request of a host. Each is one command. Its fields have the standard's names, and the command's other fields are
+/// 0. Data are the caller's bytes, which the driver no longer needs after the request is placed.
 #[derive(Clone, Copy)]
 pub enum Request<'a> {
-    /// Reads 1 to 256 blocks from the block `slba` on.
+    /// Reads 1 to 256 blocks from block `slba`.
     Read {
         nsid: u32,
         slba: u64,
         blocks: u32,
     },
-    /// Writes these bytes, 1 to 256 whole blocks, from the block `slba` on.
+    /// Writes these bytes, 1 to 256 whole blocks, from block `slba`.
     Write {
         nsid: u32,
         slba: u64,
         bytes: &'a [u8],
     },
-    /// Compares these bytes, 1 to 256 whole blocks, with the blocks from `slba` on.
+    /// Compares these bytes, 1 to 256 whole blocks, with the blocks from `slba`.
     Compare {
         nsid: u32,
         slba: u64,
         bytes: &'a [u8],
     },
-    /// Fills 1 to 65,536 blocks from the block `slba` on with zeros.
+    /// Fills 1 to 65,536 blocks from block `slba` with zeros.
     WriteZeroes {
         nsid: u32,
         slba: u64,
@@ -87,7 +87,7 @@ pub enum Request<'a> {
         nsid: u32,
         state: u8,
     },
-    /// Asks for the namespace's write protection state.
+    /// Gets the namespace's write protection state.
     Protection {
         nsid: u32,
     },
@@ -103,7 +103,7 @@ pub enum Request<'a> {
     },
 }
 
-/// How many blocks these bytes are.
+/// The number of blocks of these bytes.
 fn block_count(bytes: &[u8]) -> u32
     requires { length bytes.now ≤ most_bytes }
     ensures { result ≡ length bytes.now / block_size }
@@ -111,7 +111,7 @@ fn block_count(bytes: &[u8]) -> u32
     (bytes.len() / 512) as u32
 }
 
-/// Double words 10, 11 and 12 of a command on `blocks` blocks, one at least.
+/// Double words 10, 11 and 12 of a command on `blocks` blocks, at least one.
 fn range(slba: u64, blocks: u32) -> [u32; 3]
     requires { 1 ≤ blocks }
     ensures { result ≡ slba % 2 ^ 32 ∷ slba / 2 ^ 32 ∷ (blocks - 1) ∷ [] }
@@ -122,7 +122,7 @@ fn range(slba: u64, blocks: u32) -> [u32; 3]
 }
 
 impl Request<'_> {
-    /// Whether no command can carry the request: a count is 0 or too high, or a field too wide.
+    /// Whether no command can express the request: a count is 0 or too high, or a field too wide.
     pub(crate) fn is_bad(&self) -> bool
         ensures { result ≡ bad self.now }
     {
@@ -141,7 +141,7 @@ impl Request<'_> {
         }
     }
 
-    /// The lane of the request's command.
+    /// The lane (queue pair) of the request's command.
     pub(crate) fn lane(&self) -> Lane
         ensures { result ≡ (asked_of self.now).command.lane }
     {
@@ -155,7 +155,7 @@ impl Request<'_> {
         }
     }
 
-    /// How many bytes the request's command moves, in either direction.
+    /// The number of bytes that the request's command transfers, in either direction.
     pub(crate) fn moved(&self) -> usize
         requires { bad self.now ≡ false }
         ensures moved { result ≡ (asked_of self.now).moved }
@@ -172,7 +172,7 @@ impl Request<'_> {
         }
     }
 
-    /// How many bytes come from the controller where the request's command succeeds.
+    /// The number of bytes from the controller if the request's command succeeds.
     pub(crate) fn received(&self) -> usize
         requires { bad self.now ≡ false }
         ensures received { result ≡ (asked_of self.now).received }

@@ -1,23 +1,41 @@
-//! The slots of a driver, one for each request that it has not handed up.
+//! The slots of a driver, one for each request that it has not delivered.
 
-ghost use Rattle.std.specs.Prelude.{◌≡◌, ◌<◌, position, is_none, length, map, IfSome, None, Some, nat_lt, true, MatchOption};
+ghost use Rattle.std.specs.Prelude.{
+  ◌≡◌,
+  ◌<◌,
+  position,
+  is_none,
+  length,
+  map,
+  IfSome,
+  None,
+  Some,
+  nat_lt,
+  true,
+  MatchOption,
+};
 ghost use Rattle.nvme_driver.specs.Drivers.{abort};
-ghost use Rattle.nvme_driver.specs.Polls.{waiting_at as spec_waiting_at, aborted_at as spec_aborted_at, live_in as spec_live_in, IsOldest};
+ghost use Rattle.nvme_driver.specs.Polls.{
+  waiting_at as spec_waiting_at,
+  aborted_at as spec_aborted_at,
+  live_in as spec_live_in,
+  IsOldest,
+};
 
 use crate::lane::Lane;
 use crate::length::Length;
 use crate::ticket::Ticket;
 
-/// A request that was not handed up.
+/// A request that was not delivered.
 #[derive(Clone, Copy, Debug)]
 pub struct Waiting {
     /// Its ticket.
     pub ticket: Ticket,
-    /// The lane of its command.
+    /// The lane (queue pair) of its command.
     pub lane: Lane,
-    /// How many bytes its answer has if it succeeds: those of a Read, a Report or an Identify, else 0.
+    /// The number of bytes of its answer if it succeeds: those of a Read, a Report or an Identify, else 0.
     pub received: Length,
-    /// Whether its answer is waited for: else it was aborted.
+    /// Whether it waits for its answer: otherwise it was aborted.
     pub live: bool,
 }
 
@@ -80,7 +98,7 @@ pub fn oldest_aborted(slots: &[Option<Waiting>]) -> Option<(usize, Ticket)>
     oldest
 }
 
-/// A slot's request once its controller was reset.
+/// A slot's request after its controller was reset.
 fn aborted(slot: Option<Waiting>) -> Option<Waiting>
     ensures { result ≡ abort slot }
 {
@@ -90,7 +108,7 @@ fn aborted(slot: Option<Waiting>) -> Option<Waiting>
     })
 }
 
-/// Makes all requests aborted.
+/// Aborts all requests.
 pub fn abort_all(slots: &mut [Option<Waiting>])
     ensures { slots.new ≡ map abort slots.old }
 {

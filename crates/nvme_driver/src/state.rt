@@ -1,4 +1,4 @@
-//! Whether a driver can be used.
+//! The state of a driver.
 
 /// The state of a driver.
 #[derive(Clone, Copy, Debug, PartialEq, Eq)]
@@ -7,6 +7,6 @@ pub enum State {
     Down,
     /// Its controller takes requests.
     Up,
-    /// Its controller answered a command that does not wait. Only a reset goes on from here.
+    /// Its controller answered a command that does not wait. Only a reset leaves this state.
     Failed,
 }

@@ -1,15 +1,15 @@
-//! Tickets, by which a host knows its requests.
+//! Tickets, the numbers of a host's requests.
 
 ghost use Rattle.std.specs.Prelude.{◌≡◌, ◌+◌, ◌^◌, ◌<◌, ◌≤◌, IfSome, IsSome, ◌↔◌};
 ghost use Rattle.nvme_driver.specs.Drivers.{ticket_count};
 
 use std::marker::Model;
 
-/// The number of a request: each driver counts its own, and gives none twice.
+/// The number of a request: each driver counts its own, and issues none twice.
 #[derive(Clone, Copy, Debug, PartialEq, Eq)]
 pub struct Ticket(pub u64);
 
-/// The tickets that are left. Contracts see the next one's number, 2 ^ 64 where none is left.
+/// The tickets that are left. Contracts see the next one's number, 2 ^ 64 if none is left.
 #[derive(Drop)]
 pub struct Tickets {
     next: Option<u64>,
@@ -25,14 +25,14 @@ impl Model for Tickets {
 }
 
 impl Tickets {
-    /// All tickets from `first` on.
+    /// All tickets from `first`.
     pub fn starting_at(first: u64) -> Tickets
         ensures { result ≡ first }
     {
         Tickets { next: Some(first) }
     }
 
-    /// The next ticket, or `None` where none is left.
+    /// The next ticket, or `None` if none is left.
     pub fn peek(&self) -> Option<Ticket>
         ensures next { IfSome result (λ ticket. ticket ≡ record { 0 = self.now }) }
         ensures left { IsSome result ↔ (self.now < ticket_count) }
@@ -40,7 +40,7 @@ impl Tickets {
         self.next.map(Ticket)
     }
 
-    /// The next ticket was given. That there is one is the caller's condition.
+    /// Issues the next ticket, which must exist.
     pub fn advance(&mut self)
         requires { self.old < ticket_count }
         ensures { self.new ≡ self.old + 1 }

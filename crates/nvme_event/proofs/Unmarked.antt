@@ -1,4 +1,4 @@
--- Nothing is marked where nothing was before, whatever an event gave.
+-- For `bare.rt`: empty marks are the marks of the event.
 use Rattle.std.proofs.Common.{◌≡◌, refl}
 use Rattle.nvme_spec.specs.declared.outcome.Marks.{Marks}
 use Rattle.nvme_spec.specs.Execution.{no_marks}

@@ -1,4 +1,5 @@
--- What an event of a fleet gives to see, and the same but for what an execution marks.
+-- The results of a fleet's events, with and without the marks of an execution, for contracts that write marks to a
+-- caller's list.
 use Rattle.nvme_spec.specs.declared.outcome.Marks.{Marks}
 use Rattle.nvme_spec.specs.Execution.{no_marks}
 use Rattle.nvme_machine.specs.Bare.{executed_with, marks_by_executed}
@@ -7,7 +8,7 @@ use Rattle.nvme_event.specs.declared.bare.BareFleetSeen.TheVariants as bare
 use Rattle.nvme_event.specs.declared.seen.FleetSeen.{FleetSeen}
 use Rattle.nvme_event.specs.declared.seen.FleetSeen.TheVariants as seen
 
--- what an event gave, with what it marks
+-- the result of an event with its marks
 abbrev pub seen_with : Marks → BareFleetSeen → FleetSeen
 seen_with m (bare.Up up) = seen.Up up
 seen_with m (bare.Placed placed) = seen.Placed placed
@@ -24,11 +25,11 @@ seen_with m bare.NoController = seen.NoController
 seen_with m bare.NoDriver = seen.NoDriver
 seen_with m bare.NotRaw = seen.NotRaw
 
--- what is marked: what an execution that posted says, and nothing by any other event
+-- the marks after an event: those of an execution that posted a completion, else none
 abbrev pub marks_by : BareFleetSeen → Marks → Marks
 marks_by (bare.Executed executed) m = marks_by_executed executed m
 marks_by other m = no_marks
 
--- what an event gave that marks nothing
+-- the result of an event that marks nothing
 abbrev pub seen_of : BareFleetSeen → FleetSeen
 seen_of s = seen_with no_marks s

@@ -1,9 +1,20 @@
--- What can happen to a fleet.
+-- The controllers of a fleet's events, for definitions of fleets.
 use Rattle.std.specs.Prelude.{ℕ, ◌==◌, Bool, true}
 use Rattle.nvme_event.specs.declared.event.FleetEvent.{FleetEvent}
-use Rattle.nvme_event.specs.declared.event.FleetEvent.TheVariants.{BringUp, Place, Ring, Fetch, Execute, Poll, Reset, RawStore, RawWrite32, PowerCycle}
+use Rattle.nvme_event.specs.declared.event.FleetEvent.TheVariants.{
+  BringUp,
+  Place,
+  Ring,
+  Fetch,
+  Execute,
+  Poll,
+  Reset,
+  RawStore,
+  RawWrite32,
+  PowerCycle,
+}
 
--- the controller that an event names; a power cycle names none, and no controller has the identifier 0
+-- the controller of an event; a power cycle has none, and no controller has the identifier 0
 abbrev pub controller_of : FleetEvent → ℕ
 controller_of (BringUp cntlid) = cntlid
 controller_of (Place cntlid request) = cntlid
@@ -16,7 +27,7 @@ controller_of (RawStore cntlid address bytes) = cntlid
 controller_of (RawWrite32 cntlid offset value) = cntlid
 controller_of PowerCycle = 0
 
--- whether an event is one of the controller k: it names k, or is a power cycle, which is one of all
+-- whether an event is one of controller k: it names k, or is a power cycle
 abbrev pub concerns : FleetEvent → ℕ → Bool
 concerns (BringUp cntlid) k = cntlid == k
 concerns (Place cntlid request) k = cntlid == k
@@ -29,7 +40,7 @@ concerns (RawStore cntlid address bytes) k = cntlid == k
 concerns (RawWrite32 cntlid offset value) k = cntlid == k
 concerns PowerCycle k = true
 
--- what is said of the controller of an event; nothing is said of a power cycle, which is no host's doing
+-- a property of the controller of an event; it holds of a power cycle, which no host causes
 abbrev pub OfItsHost : (ℕ → Type 0) → FleetEvent → Type 0
 OfItsHost P (BringUp cntlid) = P cntlid
 OfItsHost P (Place cntlid request) = P cntlid

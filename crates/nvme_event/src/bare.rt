@@ -1,5 +1,4 @@
-//! What an event of a fleet gives to see, but for what an execution marks: that has room for sixteen hosts, and each
-//! move of it costs.
+//! The results of a fleet's events without the marks of an execution, whose list of sixteen hosts is costly to move.
 
 ghost use Rattle.std.specs.Prelude.{◌≡◌};
 ghost use Rattle.nvme_spec.specs.declared.outcome.Marks.{Marks};
@@ -11,30 +10,30 @@ use nvme_driver::{Answer, NotUp, PlaceRefusal, PollFault, Ticket, UpFault};
 use nvme_machine::{BareExecuted, Fetched};
 use nvme_spec::Marks;
 
-/// What an event gave, but for what an execution marks.
+/// The result of an event, without the marks of an execution.
 #[derive(Clone, Copy)]
 pub enum BareFleetSeen {
-    /// What came of bringing the controller up.
+    /// The result of bringing the controller up.
     Up(Result<(), UpFault>),
     /// The ticket of the request, or why it was not placed.
     Placed(Result<Ticket, PlaceRefusal>),
-    /// Whether the controller was told.
+    /// Whether the driver wrote the doorbells.
     Rung(Result<(), NotUp>),
-    /// What came of the fetch.
+    /// The result of the fetch.
     Fetched(Fetched),
-    /// What came of the execution.
+    /// The result of the execution.
     Executed(BareExecuted),
-    /// The answer that is handed up, if there is one.
+    /// The answer that is delivered, if there is one.
     Polled(Result<Option<Answer>, PollFault>),
     /// The controller is reset.
     Reset,
     /// The bytes are stored.
     Stored,
-    /// They do not all lie in the memory; nothing is stored.
+    /// Some of the bytes are outside the memory; nothing is stored.
     Outside,
     /// The register is written.
     Wrote,
-    /// Power was lost in the whole subsystem, and came back.
+    /// Power was lost in the whole subsystem, and has returned.
     Cycled,
     /// There is no such controller.
     NoController,
@@ -45,7 +44,7 @@ pub enum BareFleetSeen {
 }
 
 impl BareFleetSeen {
-    /// The same, with what is marked.
+    /// The result with these marks.
     #[inline(always)]
     pub fn with(self, marks: Marks) -> FleetSeen
         ensures { result ≡ seen_with marks self }
@@ -68,7 +67,7 @@ impl BareFleetSeen {
         }
     }
 
-    /// How many bytes come with it: those of a poll that hands data up.
+    /// The length of its data: those of a poll that delivers data.
     pub fn data_len(&self) -> usize
         ensures { (marks : Marks) → result ≡ data_len (seen_with marks self.now) }
     {

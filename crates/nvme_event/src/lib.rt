@@ -1,5 +1,5 @@
-//! What fleets, scripts and transcripts share, apart so that scripts are proved without fleets: what can happen to a
-//! fleet, what that gives to see, and the reply that an event gets.
+//! The events of a fleet, with their results and replies, which fleets, scripts and transcripts use. They are in a
+//! separate crate so that the proofs of scripts don't depend on fleets.
 #![tactic(auto)]
 
 mod bare;

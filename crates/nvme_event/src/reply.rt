@@ -1,10 +1,10 @@
-//! What an event of a fleet gives.
+//! The reply to an event of a fleet.
 
 use crate::seen::FleetSeen;
 use std::marker::Model;
 
-/// What an event gave to see, and the data of a poll that hands some up; else no bytes. Contracts see it as the record
-/// `Reply` of these.
+/// The result of an event, and the data that a poll delivers. Every other event has no data. Contracts see it as the
+/// record `Reply` of these.
 #[derive(Drop)]
 pub struct Reply {
     pub seen: FleetSeen,

@@ -1,4 +1,4 @@
-//! What an event of a fleet gives to see.
+//! The results of a fleet's events.
 
 ghost use Rattle.std.specs.Prelude.{◌≡◌};
 ghost use Rattle.nvme_event.specs.Replies.{data_len};
@@ -6,30 +6,30 @@ ghost use Rattle.nvme_event.specs.Replies.{data_len};
 use nvme_driver::{Answer, NotUp, PlaceRefusal, PollFault, Ticket, UpFault};
 use nvme_machine::{Executed, Fetched};
 
-/// What an event gave.
+/// The result of an event.
 #[derive(Drop)]
 pub enum FleetSeen {
-    /// What came of bringing the controller up.
+    /// The result of bringing the controller up.
     Up(Result<(), UpFault>),
     /// The ticket of the request, or why it was not placed.
     Placed(Result<Ticket, PlaceRefusal>),
-    /// Whether the controller was told.
+    /// Whether the driver wrote the doorbells.
     Rung(Result<(), NotUp>),
-    /// What came of the fetch.
+    /// The result of the fetch.
     Fetched(Fetched),
-    /// What came of the execution.
+    /// The result of the execution.
     Executed(Executed),
-    /// The answer that is handed up, if there is one.
+    /// The answer that is delivered, if there is one.
     Polled(Result<Option<Answer>, PollFault>),
     /// The controller is reset.
     Reset,
     /// The bytes are stored.
     Stored,
-    /// They do not all lie in the memory; nothing is stored.
+    /// Some of the bytes are outside the memory; nothing is stored.
     Outside,
     /// The register is written.
     Wrote,
-    /// Power was lost in the whole subsystem, and came back.
+    /// Power was lost in the whole subsystem, and has returned.
     Cycled,
     /// There is no such controller.
     NoController,
@@ -40,7 +40,7 @@ pub enum FleetSeen {
 }
 
 impl FleetSeen {
-    /// How many bytes come with it: those of a poll that hands data up.
+    /// The length of its data: those of a poll that delivers data.
     pub fn data_len(&self) -> usize
         ensures { result ≡ data_len self.now }
     {

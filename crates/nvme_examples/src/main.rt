@@ -1,5 +1,5 @@
-//! Runs each script that the file `examples` lists, in the folder that it is started in, and compares the transcript
-//! with the one that lies beside it.
+//! Runs each script that the file `examples` of the working directory lists, and compares its transcript with the
+//! expected one next to it.
 #![tactic(auto)]
 
 use nvme_script::run_program;
@@ -9,7 +9,8 @@ use std::process::ExitCode;
 use std::rt::Files;
 use std::{fs, io};
 
-/// The file with the names of the examples, one a line: the script is `NAME.nvme`, its transcript `NAME.out`.
+/// The file that lists the examples' names, one per line. The script is `NAME.nvme`, its expected transcript
+/// `NAME.out`.
 const LIST: &str = "examples";
 
 fn main(rt: HostRuntime) -> io::Result<ExitCode> {
@@ -27,7 +28,7 @@ fn main(rt: HostRuntime) -> io::Result<ExitCode> {
     })
 }
 
-/// How a transcript compares with the one that is kept.
+/// How a transcript compares with the expected one.
 #[derive(Clone, Copy, Debug, PartialEq, Eq)]
 enum Outcome {
     AsExpected,
@@ -59,8 +60,7 @@ fn compare<R: Files<File = File> + AllocGlobal>(rt: &R, name: &str) -> io::Resul
     }
 }
 
-/// What the program prints for an example, over a medium in memory: the transcript, and behind it what goes to standard
-/// error.
+/// What the program prints for an example, over a medium in memory: the transcript, then the lines of standard error.
 fn transcript_of<R: Files<File = File> + AllocGlobal>(
     rt: &R,
     name: &str,
@@ -79,7 +79,7 @@ fn transcript_of<R: Files<File = File> + AllocGlobal>(
     Ok(shown)
 }
 
-/// `nvmesim - NAME.nvme`
+/// The words `nvmesim - NAME.nvme`.
 fn words_of(alloc: Global, name: &str) -> Result<Vec<String>, AllocError> {
     let mut words = Vec::new(alloc);
     words.push(String::from_str(alloc, "nvmesim")?)?;

@@ -1,4 +1,4 @@
--- A command that the rules on access and on its data pointer have let pass.
+-- A command that the rules on access and on its data pointer have let pass, for the contract of `admit`.
 use Rattle.std.specs.Prelude.{◌≡◌, ◌+◌, ◌≤◌, ℕ, List, length, Some, IsSome}
 use Rattle.nvme_wire.specs.Submission.{opcode, nsid}
 use Rattle.nvme_spec.specs.Limits.{most_bytes}
@@ -10,7 +10,7 @@ use Rattle.nvme_spec.specs.DataRules.{data_addresses}
 use Rattle.nvme_spec.specs.Execution.{start_of}
 use Rattle.nvme_exec.specs.declared.admission.Admission.{Admission}
 
--- What is known of it: what it is to do, whose it is, where its blocks and where its data lie.
+-- What is known of it: its plan, its host, its blocks on the medium and its data in host memory.
 pub record IsAdmitted (w : World) (cntlid : ℕ) (window e : List ℕ) (a : Admission) : Type 0 where
   pub command : command_of (opcode e) ≡ Some a.plan.kind
   pub planned : a.plan ≡ plan_of a.plan.kind e

@@ -1,11 +1,11 @@
--- How far blocks have been read into host memory.
+-- Blocks that have been read into host memory, for the contracts of `transfer.rt`.
 use Rattle.std.specs.Prelude.{◌≡◌, ◌<◌, ◌≤◌, ℕ, ◌+◌, ◌*◌, Bool, List, length, take, slice_range, Result, Ok, Err}
 use Rattle.nvme_spec.specs.declared.medium.MediumFault.{MediumFault as Fault}
 use Rattle.nvme_spec.specs.Blocks.{Told, block_at, blocks_from}
 use Rattle.nvme_spec.specs.MediumCalls.{MediumAnswer, MediumCall, Calls, EndsAt, Reads, course, reads_from}
 use Rattle.nvme_spec.specs.Transfers.{with_scattered}
 
--- block i was read, whose bytes the call answered and now stand at these addresses, and nothing else has changed
+-- block i was read: the bytes that the call returned are now at these addresses, and nothing else has changed
 pub record HasReadBlock {M : Type 0} (step : M → MediumCall → M → Type 0) (tells : Bool) (i : ℕ)
     (content addresses : List ℕ) (old new : M) (before after : List ℕ) : Type 0 where
   pub block : List ℕ
@@ -14,8 +14,8 @@ pub record HasReadBlock {M : Type 0} (step : M → MediumCall → M → Type 0) 
   pub told : Told tells (block ≡ block_at content i)
   pub window : after ≡ with_scattered before addresses block
 
--- So many blocks of a transfer, from its block j on, are read from block i on, up to the first that can't be read. What
--- was read stands at their addresses, and nothing else has changed.
+-- Reads `count` blocks from block i of the medium into the transfer from its block j, up to the first read that fails.
+-- The blocks that were read are at their addresses, and nothing else has changed.
 pub record ReadsSome {M : Type 0} (step : M → MediumCall → M → Type 0) (tells : Bool) (i j count : ℕ)
     (content addresses : List ℕ) (old : M) (answer : MediumAnswer) (new : M) (before after : List ℕ) : Type 0 where
   pub passed : ℕ
@@ -26,7 +26,7 @@ pub record ReadsSome {M : Type 0} (step : M → MediumCall → M → Type 0) (te
   pub told : Told tells (read ≡ blocks_from content i (512 * passed))
   pub window : after ≡ with_scattered before (slice_range addresses (512 * j) (512 * j + 512 * passed)) read
 
--- the same of as many blocks as a call tells, one at least
+-- as `ReadsSome`, for the number of blocks that the call returns: at least one, at most `most`
 abbrev pub ReadsAsMany : {M : Type 0} → (M → MediumCall → M → Type 0) → Bool → ℕ → ℕ → ℕ → List ℕ → List ℕ
     → M → Result ℕ Fault → M → List ℕ → List ℕ → Type 0
 ReadsAsMany step tells i j most content addresses old (Ok count) new before after =
@@ -35,8 +35,7 @@ ReadsAsMany step tells i j most content addresses old (Ok count) new before afte
 ReadsAsMany step tells i j most content addresses old (Err fault) new before after =
     ReadsSome step tells i j most content addresses old (Err fault) new before after
 
--- so many blocks of the content, from block `first` on, stand at the first of the addresses, and nothing else has
--- changed
+-- blocks of the content, from block `first`, are at the first of the addresses, and nothing else has changed
 pub record HasReadBlocks (tells : Bool) (content : List ℕ) (first blocks : ℕ)
     (addresses old new : List ℕ) : Type 0 where
   pub read : List ℕ
@@ -44,7 +43,7 @@ pub record HasReadBlocks (tells : Bool) (content : List ℕ) (first blocks : ℕ
   pub told : Told tells (read ≡ blocks_from content first (512 * blocks))
   pub window : new ≡ with_scattered old (take (512 * blocks) addresses) read
 
--- a read that stopped at one of so many blocks: those before it have been read
+-- a read ended at a block that can't be read: those before it have been read
 pub record StoppedReading (tells : Bool) (content : List ℕ) (first blocks : ℕ)
     (addresses old new : List ℕ) : Type 0 where
   pub at : ℕ

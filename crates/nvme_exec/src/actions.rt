@@ -1,7 +1,11 @@
 //! The actions of the reservation commands on the reservation of one namespace.
 
 ghost use Rattle.std.specs.Prelude.{◌≡◌, ◌+◌, ◌≤◌, length};
-ghost use Rattle.nvme_spec.specs.declared.command.Command.TheVariants.{ReservationRegister, ReservationAcquire, ReservationRelease};
+ghost use Rattle.nvme_spec.specs.declared.command.Command.TheVariants.{
+  ReservationRegister,
+  ReservationAcquire,
+  ReservationRelease,
+};
 ghost use Rattle.nvme_spec.specs.Commands.{rtype};
 ghost use Rattle.nvme_spec.specs.IoData.{action_outcome, key_outcome, current_key, other_key};
 ghost use Rattle.nvme_resv.specs.Answers.{Follows, HasRoomFor};
@@ -13,7 +17,7 @@ use nvme_resv::{Change, Reservation};
 use nvme_spec::HostId;
 use nvme_wire::{Sqe, Status};
 
-/// The first key of a command's data: the current one (CRKEY).
+/// The Current Reservation Key (CRKEY), which is the first key in a command's data.
 #[tactic(auto, unfolding(nvme_spec::specs::Memory::qword))]
 fn current(keys: &[u8]) -> u64
     requires { 8 ≤ length keys.now }
@@ -22,7 +26,7 @@ fn current(keys: &[u8]) -> u64
     LittleEndian::read_u64(&keys[..8])
 }
 
-/// The second key: that which is to be registered (NRKEY) or preempted (PRKEY).
+/// The second key, to be registered (NRKEY) or preempted (PRKEY).
 #[tactic(auto, unfolding(nvme_spec::specs::Memory::qword))]
 fn other(keys: &[u8]) -> u64
     requires { 16 ≤ length keys.now }
@@ -36,7 +40,7 @@ fn other(keys: &[u8]) -> u64
 ///
 /// # Errors
 ///
-/// The status with which the reservation refuses the action. Nothing is changed then.
+/// The status of a reservation that refuses the action. Nothing is changed then.
 #[tactic(auto, unfolding(nvme_spec::specs::IoData::action_outcome))]
 pub fn register(
     reservation: &mut Reservation,
@@ -58,7 +62,7 @@ pub fn register(
     Ok(change)
 }
 
-/// What Reservation Register makes of the key of a host.
+/// The action of a Reservation Register on the key of a host.
 fn change_key(
     reservation: &mut Reservation,
     host: HostId,
@@ -81,7 +85,7 @@ fn change_key(
 ///
 /// # Errors
 ///
-/// The status with which the reservation refuses the action. Nothing is changed then.
+/// The status of a reservation that refuses the action. Nothing is changed then.
 #[tactic(auto, unfolding(nvme_spec::specs::IoData::action_outcome))]
 pub fn acquire(
     reservation: &mut Reservation,
@@ -100,11 +104,11 @@ pub fn acquire(
     }
 }
 
-/// Reservation Release: gives the reservation up, or clears it, by the key of the Reservation Release Data Structure.
+/// Reservation Release: releases or clears the reservation, by the key of the Reservation Release Data Structure.
 ///
 /// # Errors
 ///
-/// The status with which the reservation refuses the action. Nothing is changed then.
+/// The status of a reservation that refuses the action. Nothing is changed then.
 #[tactic(auto, unfolding(nvme_spec::specs::IoData::action_outcome))]
 pub fn release(
     reservation: &mut Reservation,

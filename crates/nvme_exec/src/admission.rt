@@ -1,4 +1,4 @@
-//! The rules that a command has to pass before it is carried out.
+//! The rules that a command has to pass before it is performed.
 
 ghost use Rattle.std.specs.Prelude.{◌≡◌, ◌+◌, ◌≤◌, length, None, Some, OnOk, IfOk, IfErr, IsSome};
 ghost use Rattle.nvme_spec.specs.declared.verdict.Verdict.TheVariants.{Allowed, Denied};
@@ -17,14 +17,14 @@ use nvme_prp::{Pieces, locate};
 use nvme_spec::{Denial, HostId, Plan};
 use nvme_wire::Sqe;
 
-/// Blocks of a medium, one after the other.
+/// Contiguous blocks of a medium.
 #[derive(Clone, Copy, Debug)]
 pub struct Extent {
     pub first: u64,
     pub blocks: u64,
 }
 
-/// An admitted command: what it is to do, whose it is, and where its blocks and its data lie.
+/// An admitted command: its plan, its host, its blocks on the medium and its data in host memory.
 #[derive(Drop)]
 pub struct Admission<'a> {
     pub plan: Plan,
@@ -32,12 +32,11 @@ pub struct Admission<'a> {
     pub host: HostId,
     /// Its blocks on the medium.
     pub extent: Extent,
-    /// Its data in host memory: no pieces where it has none.
+    /// Its data in host memory: no pieces if it has none.
     pub pieces: &'a Pieces,
 }
 
-/// Applies the rules on access, and then that on the data pointer, which is walked whole. The medium has so many
-/// blocks.
+/// Applies the rules on access, and then the one on the data pointer, whose list it walks completely.
 ///
 /// # Errors
 ///

@@ -1,4 +1,4 @@
-//! The data that a command brings in the memory of its host.
+//! The data of a command in the memory of its host, as a source of blocks.
 
 ghost use Rattle.nvme_spec.specs.Transfers.{addresses, gathered_bytes};
 

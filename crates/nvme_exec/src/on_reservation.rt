@@ -20,15 +20,15 @@ use nvme_resv::Change;
 use nvme_spec::{Command, Denial};
 use nvme_wire::{Sqe, Status};
 
-/// The most bytes of data that such a command has: two keys.
+/// The most bytes of data of such a command: two keys.
 const MAX_KEYS: usize = 16;
 
-/// Does to the reservation of its namespace what an admitted command of a controller is to do, and answers whom it
+/// Performs an admitted command of a controller on the reservation of its namespace, and returns the hosts that it
 /// removed.
 ///
 /// # Errors
 ///
-/// Rule 11, with the status with which the reservation refuses the action. Nothing is changed then.
+/// Rule 11, with the status of a reservation that refuses the action. Nothing is changed then.
 pub fn act_on_reservation(
     spaces: &mut Spaces,
     window: &Window,
@@ -56,7 +56,7 @@ pub fn act_on_reservation(
     }
 }
 
-/// Does the action of a command, by its keys.
+/// Performs the action of a command, with its keys.
 fn act(
     spaces: &mut Spaces,
     sqe: &Sqe,

@@ -10,10 +10,10 @@ use nvme_mem::Window;
 use nvme_ns::Spaces;
 use nvme_prp::{Pieces, scatter_padded};
 
-/// The bytes of a report of 16 controllers: all that a report has behind them are zeros.
+/// The length of a report of 16 controllers: after it, every report has only zeros.
 const FRONT: usize = 1088;
 
-/// Stores a report of so many bytes.
+/// Stores a report of `bytes` bytes.
 pub fn report(spaces: &Spaces, nsid: u32, window: &mut Window, pieces: &Pieces, bytes: u64)
     requires named { IsSome (namespace_of spaces.now nsid) }
     requires few { bytes ≤ most_bytes }

@@ -1,4 +1,4 @@
-//! Blocks of a transfer that lie side by side in the window.
+//! Blocks of a transfer that are contiguous in the window.
 
 ghost use Rattle.std.specs.Prelude.{◌+◌, ◌*◌, ◌≤◌, length, IfSome};
 ghost use Rattle.nvme_spec.specs.Transfers.{addresses};
@@ -10,8 +10,8 @@ use nvme_spec::Piece;
 /// The size of a memory page, in bytes.
 const PAGE: u64 = 4096;
 
-/// Where block `j` of a transfer lies, and behind it, up to the end of its page, those that follow: of so many blocks at
-/// most. `None` where block `j` lies in two pieces.
+/// The piece of block `j` of a transfer and of the blocks after it in the same page, at most `most`. `None` if block
+/// `j` is in two pieces.
 pub fn run_at(pieces: &Pieces, j: u64, most: u64) -> Option<Piece>
     requires some { 1 ≤ most }
     requires inside { 512 * (j + most) ≤ length (addresses pieces.now.parts.items) }

@@ -2,13 +2,13 @@ pub mod Words
 pub mod Seats
 pub mod FleetOpening
 pub mod FleetRuns
-pub mod LinkDeeds
+pub mod DriverSteps
 pub mod LinkCalls
 pub mod LayerCalls
-pub mod Happening
+pub mod EventEffects
 pub mod Storing
 pub mod Links
-pub mod Handing
+pub mod DeliveredData
 pub mod Bytes
 pub mod Secrecy
 pub mod Unique

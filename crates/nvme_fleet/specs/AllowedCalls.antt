@@ -1,6 +1,6 @@
--- What holds of the calls that the events of a fleet make of the medium, whatever the medium does and whether or not it
--- tells: each call is that of a command that all rules let pass, on blocks of its namespace; and fenced hosts write
--- none.
+-- Statements of laws on the calls that events of a fleet make of the medium, for any behaviour of the medium and
+-- whether or not it reveals its content: each call is made for a command that all rules let pass, on blocks of its
+-- namespace; and fenced hosts make no writing calls.
 use Rattle.std.specs.Prelude.{◌≡◌, ℕ, Bool, true, false, List, [], ◌∷◌, ◌++◌, Some, slice_get}
 use Rattle.std.specs.List.{AllByRecursion}
 use Rattle.nvme_spec.specs.Layout.{Extent, extent_of, may_read, may_write}
@@ -10,7 +10,18 @@ use Rattle.nvme_machine.specs.AllowedCalls.{IsCallOf, HaveTheirOwn, IsReading, K
 use Rattle.nvme_machine.specs.Controllers.{Controller, names}
 use Rattle.nvme_machine.specs.Subsystems.{controller_at}
 use Rattle.nvme_event.specs.declared.event.FleetEvent.{FleetEvent}
-use Rattle.nvme_event.specs.declared.event.FleetEvent.TheVariants.{BringUp, Place, Ring, Fetch, Execute, Poll, Reset, RawStore, RawWrite32, PowerCycle}
+use Rattle.nvme_event.specs.declared.event.FleetEvent.TheVariants.{
+  BringUp,
+  Place,
+  Ring,
+  Fetch,
+  Execute,
+  Poll,
+  Reset,
+  RawStore,
+  RawWrite32,
+  PowerCycle,
+}
 use Rattle.nvme_event.specs.Events.{OfItsHost}
 use Rattle.nvme_event.specs.Replies.{Reply}
 use Rattle.nvme_fleet.specs.Bytes.{LeavesReservation}
@@ -31,15 +42,15 @@ MayCall l (RawStore k address bytes) call = ⊥
 MayCall l (RawWrite32 k offset v) call = ⊥
 MayCall l PowerCycle call = ⊥
 
--- A block is written only by a Write or Write Zeroes that all rules let pass, on a namespace that the block belongs to
--- and that the reservation lets its host write, with that command's bytes; it is read only by such a Read or Compare,
+-- A block is written only by a Write or Write Zeroes that all rules let pass, on a namespace that has the block and
+-- that the reservation lets its host write, with that command's bytes. A block is read only by such a Read or Compare,
 -- and the medium is flushed only by such a Flush.
 abbrev pub CallsAreAllowed : Type 0
 CallsAreAllowed =
     (tells : Bool) → (old new : Layers) → (event : FleetEvent) → (reply : Reply) → (calls : List MediumCall)
     → AreCallsOfStep tells old event reply new calls → AllByRecursion (MayCall old event) calls
 
--- A call comes from one of the events, and is what it may call in the state that it finds.
+-- A call is made by one of the events, and is allowed in the state before that event.
 pub record ComesFrom (tells : Bool) (old : Layers) (events : List FleetEvent) (call : MediumCall) : Type 0 where
   pub front : List FleetEvent
   pub event : FleetEvent
@@ -50,14 +61,14 @@ pub record ComesFrom (tells : Bool) (old : Layers) (events : List FleetEvent) (c
   pub reached : Run tells old front given now
   pub may : MayCall now event call
 
--- So it is over every run.
+-- Each call in every run is allowed.
 abbrev pub CallsOfRunsAreAllowed : Type 0
 CallsOfRunsAreAllowed =
     (tells : Bool) → (old new : Layers) → (events : List FleetEvent) → (replies : List Reply)
     → (calls : List MediumCall) → AreCallsOfRun tells old events replies new calls
     → AllByRecursion (ComesFrom tells old events) calls
 
--- a run with its calls, in which each event is so in the state that it finds
+-- a run with its calls, in which each event has a property in the state before it
 abbrev pub CallsWhere : (Layers → FleetEvent → Type 0) → Bool → Layers → List FleetEvent → List Reply → Layers
     → List MediumCall → Type 0
 CallsWhere P tells old [] [] new calls = (new ≡ old) × (calls ≡ [])
@@ -68,9 +79,9 @@ CallsWhere P tells old (event ∷ events) (reply ∷ later) new calls =
 CallsWhere P tells old [] (reply ∷ later) new calls = ⊥
 CallsWhere P tells old (event ∷ events) [] new calls = ⊥
 
--- Fencing holds of the calls: while no reservation command on a namespace is executed but denied ones, and power is not
--- lost or the reservation persists, no call of hosts that may not write it writes any of its blocks, whatever they
--- place, ring, fetch, execute, poll, reset, bring up, store and write, in any order.
+-- Fencing holds for calls. Suppose that every reservation command on a namespace is denied, and power is not lost or
+-- the reservation persists. Then in any list of events of hosts that may not write the namespace, no call writes any of
+-- its blocks.
 abbrev pub FencedHostsWriteNoBlock : Type 0
 FencedHostsWriteNoBlock =
     (tells : Bool) → (old new : Layers) → (events : List FleetEvent) → (replies : List Reply)
@@ -79,8 +90,8 @@ FencedHostsWriteNoBlock =
     → AllByRecursion (OfItsHost (λ k. may_write old.subsystem.world k n ≡ false)) events
     → AllByRecursion (KeepsOff x) calls
 
--- A command on a namespace that its reservation does not let the host write makes no write call and no flush call; and
--- where it does not let it read either, no call.
+-- A command on a namespace that its host may not write makes no write or flush call. If the host may not read the
+-- namespace either, the command makes no call.
 abbrev pub FencedCommandsCallNothing : Type 0
 FencedCommandsCallNothing =
     (tells : Bool) → (old new : Layers) → (k i n : ℕ) → (c : Controller) → (t : FetchedCommand) → (reply : Reply)

@@ -1,5 +1,5 @@
--- What the hosts of a fleet do to the bytes of namespaces, and to each other's memory: over events, and over runs of
--- both layers.
+-- Statements of laws on the bytes of namespaces, and on hosts' memory: what hosts may change of both, over events and
+-- over runs of both layers.
 use Rattle.std.specs.Prelude.{◌≡◌, ◌≢◌, ℕ, Bool, true, false, List, [], ◌∷◌}
 use Rattle.std.specs.List.{AllByRecursion}
 use Rattle.nvme_spec.specs.Commands.{reserving}
@@ -7,15 +7,26 @@ use Rattle.nvme_spec.specs.Layout.{IsLaidOut, bytes_of, may_write, reservation_o
 use Rattle.nvme_machine.specs.declared.event.Event.TheVariants as event
 use Rattle.nvme_machine.specs.Fencing.{Allows, IsFleeting}
 use Rattle.nvme_event.specs.declared.event.FleetEvent.{FleetEvent}
-use Rattle.nvme_event.specs.declared.event.FleetEvent.TheVariants.{BringUp, Place, Ring, Fetch, Execute, Poll, Reset, RawStore, RawWrite32, PowerCycle}
+use Rattle.nvme_event.specs.declared.event.FleetEvent.TheVariants.{
+  BringUp,
+  Place,
+  Ring,
+  Fetch,
+  Execute,
+  Poll,
+  Reset,
+  RawStore,
+  RawWrite32,
+  PowerCycle,
+}
 use Rattle.nvme_event.specs.Events.{controller_of, OfItsHost}
 use Rattle.nvme_event.specs.Replies.{Reply}
-use Rattle.nvme_fleet.specs.Deeds.{window_at}
+use Rattle.nvme_fleet.specs.DriverEvents.{window_at}
 use Rattle.nvme_fleet.specs.FleetStates.{Layers, fleet_in}
 use Rattle.nvme_mailbox.specs.Fleets as mailboxes
 use Rattle.nvme_fleet.specs.Layers.{Step, Run}
 
--- A run of both layers is one of the mailboxes, so that all that is said of their runs is said of it.
+-- A run of both layers is one of the mailboxes, so that all laws of their runs hold of it.
 abbrev pub RunsOfMailboxes : Type 0
 RunsOfMailboxes =
     (tells : Bool) → (old new : Layers) → (events : List FleetEvent) → (replies : List Reply)
@@ -41,8 +52,8 @@ LayoutStays =
     (old new : Layers) → (event : FleetEvent) → (reply : Reply) → is_laid_out old → Step true old event reply new
     → is_laid_out new
 
--- the event executes no reservation command on the namespace that all rules let pass, and is no power cycle that the
--- reservation does not outlast
+-- the event executes no reservation command on the namespace that all rules let pass, and is not a power cycle that
+-- ends the reservation
 abbrev pub LeavesReservation : ℕ → Layers → FleetEvent → Type 0
 LeavesReservation n l (Execute k i) = Allows reserving l.subsystem (event.Execute k i) n → ⊥
 LeavesReservation n l (BringUp k) = Unit {0}
@@ -55,14 +66,14 @@ LeavesReservation n l (RawStore k address bytes) = Unit {0}
 LeavesReservation n l (RawWrite32 k offset v) = Unit {0}
 LeavesReservation n l PowerCycle = IsFleeting (reservation_of l.subsystem.world n) → ⊥
 
--- There every host may write and not write as before.
+-- Then every host's permission to write is unchanged.
 abbrev pub PermissionsStay : Type 0
 PermissionsStay =
     (tells : Bool) → (old new : Layers) → (event : FleetEvent) → (reply : Reply) → (n : ℕ)
     → Step tells old event reply new → LeavesReservation n old event
     → (k : ℕ) → may_write new.subsystem.world k n ≡ may_write old.subsystem.world k n
 
--- a run in which each event is so in the state that it finds
+-- a run in which each event has a property in the state before it
 abbrev pub RunWhere : (Layers → FleetEvent → Type 0) → Layers → List FleetEvent → List Reply → Layers → Type 0
 RunWhere P old [] [] new = new ≡ old
 RunWhere P old (event ∷ events) (reply ∷ later) new =
@@ -70,9 +81,9 @@ RunWhere P old (event ∷ events) (reply ∷ later) new =
 RunWhere P old [] (reply ∷ later) new = ⊥
 RunWhere P old (event ∷ events) [] new = ⊥
 
--- Fencing holds: while no reservation command on a namespace is executed but denied ones, and power is not lost or the
--- reservation persists, hosts that may not write it change none of its bytes, whatever they place, ring, fetch,
--- execute, poll, reset, bring up, store and write, in any order; and they still may not write it.
+-- Fencing holds. Suppose that every reservation command on a namespace is denied, and power is not lost or the
+-- reservation persists. Then no list of events of hosts that may not write the namespace changes any of its bytes, and
+-- these hosts still may not write it.
 abbrev pub FencingHolds : Type 0
 FencingHolds =
     (old new : Layers) → (events : List FleetEvent) → (replies : List Reply) → (n : ℕ) → is_laid_out old

@@ -1,6 +1,6 @@
--- What holds of the calls that the events of a fleet make of the medium: each step and each run of both layers has
--- calls; over a medium that tells its content and none of whose calls fails they are one list; and a Flush that is
--- answered Successful Completion was one flush.
+-- Statements of laws on the calls of the medium that the events of a fleet make: each step and each run of both layers
+-- has calls; over a medium that reveals its content, without faults, they are one list; and a Flush that is answered
+-- Successful Completion was one flush.
 use Rattle.std.specs.Prelude.{◌≡◌, ◌<◌, ◌-◌, ◌^◌, ℕ, Bool, true, List, [], ◌∷◌, Ok}
 use Rattle.nvme_spec.specs.declared.outcome.Outcome.{Outcome}
 use Rattle.nvme_spec.specs.FaultFreeCalls.{content_step}
@@ -17,7 +17,7 @@ use Rattle.nvme_fleet.specs.LayerCalls.{AreCallsOfStep, AreCallsOfRun}
 use Rattle.nvme_fleet.specs.Layers.{Step, Run}
 use Rattle.nvme_fleet.specs.Unique.{HaveTicketsOnce}
 
--- Whatever the medium does, and whether or not it tells: each step has calls, and so has each run.
+-- For any behaviour of the medium, and whether or not it reveals its content, each step and each run has calls.
 abbrev pub StepsHaveCalls : Type 0
 StepsHaveCalls =
     (tells : Bool) → (old new : Layers) → (event : FleetEvent) → (reply : Reply) → Step tells old event reply new
@@ -28,8 +28,7 @@ RunsHaveCalls =
     (tells : Bool) → (old new : Layers) → (events : List FleetEvent) → (replies : List Reply)
     → Run tells old events replies new → (calls : List MediumCall) × AreCallsOfRun tells old events replies new calls
 
--- Over a medium that tells its content and none of whose calls fails, whatever its content is, there is one list of
--- calls of a step alone.
+-- Over a medium that reveals its content and has no faults, a step has only one list of calls, for any content.
 abbrev pub StepCallsAreUnique : Type 0
 StepCallsAreUnique =
     (tells : Bool) → (old new other : Layers) → (event : FleetEvent) → (reply another : Reply)
@@ -37,7 +36,7 @@ StepCallsAreUnique =
     → AreCallsOfStep tells old event reply new calls → AreCallsOfStep tells old event another other these
     → Calls content_step content calls left → Calls content_step content these right → these ≡ calls
 
--- So there is of a run without a fault.
+-- So has a run without a fault.
 abbrev pub RunCallsAreUnique : Type 0
 RunCallsAreUnique =
     (old new other : Layers) → (events : List FleetEvent) → (replies others : List Reply)
@@ -48,7 +47,7 @@ RunCallsAreUnique =
     → other.subsystem.device.failures ≡ old.subsystem.device.failures
     → old.subsystem.device.failures < 2 ^ 64 - 1 → these ≡ calls
 
--- A Flush that is answered Successful Completion has made one flush of the medium, which passed, and no other call.
+-- A Flush that is answered Successful Completion has made one flush of the medium, which succeeded, and no other call.
 abbrev pub FlushedIsOneFlush : Type 0
 FlushedIsOneFlush =
     (tells : Bool) → (old new : Layers) → (k i : ℕ) → (reply : Reply) → (outcome : Outcome)

@@ -1,6 +1,21 @@
--- What contracts see of a fleet: its subsystem, the driver of each controller's host, and the room for the data of the
--- last event. The k-th driver is that of controller k; a raw host has none.
-use Rattle.std.specs.Prelude.{◌≡◌, ◌≤◌, ℕ, List, [], ◌∷◌, length, map, take, Option, None, Some, slice_get, if◌then◌else◌}
+-- How contracts see a fleet: its subsystem, the driver of each controller's host, and a buffer for the data of the last
+-- event. The k-th driver is that of controller k; a raw host has none.
+use Rattle.std.specs.Prelude.{
+  ◌≡◌,
+  ◌≤◌,
+  ℕ,
+  List,
+  [],
+  ◌∷◌,
+  length,
+  map,
+  take,
+  Option,
+  None,
+  Some,
+  slice_get,
+  if◌then◌else◌,
+}
 use Rattle.nvme_spec.specs.declared.config.ControllerConfig.{ControllerConfig}
 use Rattle.nvme_spec.specs.Limits.{most_bytes}
 use Rattle.nvme_driver.specs.Drivers.{Driver, new_driver}
@@ -12,8 +27,8 @@ use Rattle.nvme_machine.specs.Subsystems.{Subsystem}
 use Rattle.nvme_event.specs.declared.seen.FleetSeen.{FleetSeen}
 use Rattle.nvme_event.specs.declared.seen.FleetSeen.TheVariants.{NoDriver}
 use Rattle.nvme_event.specs.Replies.{Reply, data_len}
-use Rattle.nvme_fleet.specs.declared.delivery.DriverCall.{DriverCall}
-use Rattle.nvme_fleet.specs.declared.delivery.DriverCall.TheVariants.{BringUp, Place, Ring, Poll, Reset}
+use Rattle.nvme_fleet.specs.declared.driver_call.DriverCall.{DriverCall}
+use Rattle.nvme_fleet.specs.declared.driver_call.DriverCall.TheVariants.{BringUp, Place, Ring, Poll, Reset}
 use Rattle.nvme_mailbox.specs.Mailboxes.{Mailbox}
 use Rattle.nvme_mailbox.specs.Deliveries as mail
 use Rattle.nvme_mailbox.specs.Deliveries.{MailboxReaction, plain}
@@ -21,14 +36,14 @@ use Rattle.nvme_mailbox.specs.Fleets.{Host, WithDriver, Raw, Fleet}
 use Rattle.nvme_refinement.specs.Sound.{Sound, mailbox}
 use Rattle.nvme_refinement.specs.Steps.{IsStep}
 
--- The data lie at the front of the buffer.
+-- The data are at the front of the buffer.
 pub record FleetState : Type 0 where
   pub subsystem : Subsystem
   pub drivers : List (Option Driver)
   pub buffer : List ℕ
   pub filled : ℕ
 
--- what a host is known by: the mailbox that its driver and its controller are, or its controller
+-- the host of a controller: the mailbox of its driver and its controller, or its controller
 abbrev pub host_by : Option Driver → Controller → Host
 host_by None c = Raw c
 host_by (Some d) c = WithDriver (mailbox d c)
@@ -38,11 +53,11 @@ hosts_of [] cs = []
 hosts_of (d ∷ ds) [] = []
 hosts_of (d ∷ ds) (c ∷ cs) = host_by d c ∷ hosts_of ds cs
 
--- the driver of a controller's host as a configuration opens
+-- the driver of a controller's host at the opening of a configuration
 abbrev pub opening_driver : ControllerConfig → Option Driver
 opening_driver k = if k.raw then None else Some (new_driver 1)
 
--- its two layers: the subsystem, and the drivers over it
+-- its two layers: the subsystem, and the drivers
 pub record Layers : Type 0 where
   pub subsystem : Subsystem
   pub drivers : List (Option Driver)
@@ -50,7 +65,7 @@ pub record Layers : Type 0 where
 abbrev pub layers_of : FleetState → Layers
 layers_of s = record { subsystem = s.subsystem; drivers = s.drivers }
 
--- the fleet of mailboxes that they are
+-- the fleet of their mailboxes
 unfoldable pub fleet_in : Layers → Fleet
 fleet_in l = record {
   site = record { world = l.subsystem.world; device = l.subsystem.device };
@@ -60,18 +75,18 @@ fleet_in l = record {
 abbrev pub fleet_of : FleetState → Fleet
 fleet_of s = fleet_in (layers_of s)
 
--- as a configuration opens over a medium: the subsystem opened, every driver down
+-- the opening of a configuration over a medium: the subsystem opened, every driver down
 abbrev pub opening_layers : Configuration → Device → Layers
 opening_layers c d = record { subsystem = machine.opening c d; drivers = map opening_driver c.controllers }
 
 abbrev pub data_in : FleetState → List ℕ
 data_in s = take s.filled s.buffer
 
--- the reply: the bytes lie at the front of the buffer
+-- the reply: its bytes are at the front of the buffer
 abbrev pub reply_in : FleetSeen → List ℕ → Reply
 reply_in what buffer = record { seen = what; bytes = take (data_len what) buffer }
 
--- what a call of a driver makes of its mailbox
+-- the effect of a call of a driver on its mailbox
 abbrev pub reaction_to : DriverCall → Mailbox → MailboxReaction
 reaction_to BringUp m = mail.brought_up m
 reaction_to (Place request) m = mail.placed m request
@@ -79,7 +94,7 @@ reaction_to Ring m = mail.rung m
 reaction_to Poll m = mail.polled m
 reaction_to Reset m = mail.reset m
 
--- a driver and its controller are sound
+-- a host's driver, if it has one, is sound with its controller
 abbrev pub SoundBy : Option Driver → Controller → Type 0
 SoundBy None c = Unit {0}
 SoundBy (Some d) c = Sound d c
@@ -89,8 +104,8 @@ abbrev pub IsCalled : Option Driver → Controller → DriverCall → Option Dri
 IsCalled None c call e d reply = (e ≡ None) × (d ≡ c) × (reply ≡ plain NoDriver)
 IsCalled (Some f) c call e d reply = (g : Driver) × (e ≡ Some g) × IsStep (reaction_to call (mailbox f c)) g d reply
 
--- What a fleet keeps: there is a place for a driver at each controller, and each driver that there is, is sound with
--- its controller; there is room for the data of any request, and the data lie in it.
+-- The invariant of a fleet: there is a place for a driver at each controller, and each driver is sound with its
+-- controller; the buffer is long enough for the data of any request.
 pub record IsSoundFleet (s : FleetState) : Type 0 where
   pub pairs : length s.drivers ≡ length s.subsystem.controllers
   pub sound : (i : ℕ) (d : Option Driver) (c : Controller) → slice_get s.drivers i ≡ Some d

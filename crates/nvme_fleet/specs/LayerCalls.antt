@@ -1,5 +1,5 @@
--- Which calls the events of a fleet make of the medium: an execution makes those of its command, and no other event
--- makes any; bringing up makes none either, since all that it has executed are admin commands.
+-- The calls of the medium that the events of a fleet make: an execution makes those of its command, and no other event
+-- makes any; bringing up makes none either, since it executes only admin commands.
 use Rattle.std.specs.Prelude.{◌≡◌, Bool, List, [], ◌∷◌, ◌++◌}
 use Rattle.nvme_spec.specs.MediumCalls.{MediumCall}
 use Rattle.nvme_machine.specs.declared.event.Event.{Event}
@@ -7,7 +7,18 @@ use Rattle.nvme_machine.specs.declared.event.Event.TheVariants as event
 use Rattle.nvme_machine.specs.declared.seen.Seen.{Seen}
 use Rattle.nvme_machine.specs.EventCalls as machine
 use Rattle.nvme_event.specs.declared.event.FleetEvent.{FleetEvent}
-use Rattle.nvme_event.specs.declared.event.FleetEvent.TheVariants.{BringUp, Place, Ring, Fetch, Execute, Poll, Reset, RawStore, RawWrite32, PowerCycle}
+use Rattle.nvme_event.specs.declared.event.FleetEvent.TheVariants.{
+  BringUp,
+  Place,
+  Ring,
+  Fetch,
+  Execute,
+  Poll,
+  Reset,
+  RawStore,
+  RawWrite32,
+  PowerCycle,
+}
 use Rattle.nvme_event.specs.declared.seen.FleetSeen.{FleetSeen}
 use Rattle.nvme_event.specs.Replies.{Reply}
 use Rattle.nvme_fleet.specs.FleetStates.{Layers, fleet_in}
@@ -22,7 +33,7 @@ pub record AppliesCalling (tells : Bool) (old : Layers) (event : Event) (what : 
   pub gives : what ≡ told given
   pub drivers : new.drivers ≡ old.drivers
 
--- what an event of a fleet is at the subsystem, and the calls that it makes
+-- the events of the subsystem for an event of a fleet, and the calls that it makes
 abbrev pub HappensCalling : Bool → Layers → FleetEvent → FleetSeen → Layers → List MediumCall → Type 0
 HappensCalling tells old (BringUp k) what new calls = Happens tells old (BringUp k) what new × (calls ≡ [])
 HappensCalling tells old (Place k request) what new calls = Happens tells old (Place k request) what new × (calls ≡ [])
@@ -37,14 +48,14 @@ HappensCalling tells old (RawWrite32 k offset v) what new calls =
     Happens tells old (RawWrite32 k offset v) what new × (calls ≡ [])
 HappensCalling tells old PowerCycle what new calls = Happens tells old PowerCycle what new × (calls ≡ [])
 
--- One event, seen from both layers at once, and the calls that it makes.
+-- One event, for both layers at once, and the calls that it makes.
 pub record AreCallsOfStep (tells : Bool) (old : Layers) (event : FleetEvent) (reply : Reply) (new : Layers)
     (calls : List MediumCall) : Type 0 where
   pub mailboxes : mailboxes.Step tells (fleet_in old) event reply (fleet_in new)
   pub below : HappensCalling tells old event reply.seen new calls
 
--- Events, one after the other, and the calls that they make, one after the other. Between two events there is one
--- state, and the calls of the first come before those of the second.
+-- Events in order, with their calls. There is one state between two events, and the calls of the first come
+-- before those of the second.
 abbrev pub AreCallsOfRun : Bool → Layers → List FleetEvent → List Reply → Layers → List MediumCall → Type 0
 AreCallsOfRun tells old [] [] new calls = (new ≡ old) × (calls ≡ [])
 AreCallsOfRun tells old (event ∷ events) (reply ∷ later) new calls =
@@ -54,7 +65,7 @@ AreCallsOfRun tells old (event ∷ events) (reply ∷ later) new calls =
 AreCallsOfRun tells old [] (reply ∷ later) new calls = ⊥
 AreCallsOfRun tells old (event ∷ events) [] new calls = ⊥
 
--- What makes these calls is a step, and a run, of both layers.
+-- A step with calls is a step of both layers, and a run with calls is a run of both.
 abbrev pub LayerCallsAreOfAStep : Type 0
 LayerCallsAreOfAStep =
     (tells : Bool) → (old new : Layers) → (event : FleetEvent) → (reply : Reply) → (calls : List MediumCall)

@@ -1,7 +1,7 @@
 pub use Rattle.nvme_driver.specs.Requests
 pub mod Linked
 pub mod FleetStates
-pub mod Deeds
+pub mod DriverEvents
 pub mod Layers
 pub mod LayerCalls
 pub mod LinkCalls

@@ -1,5 +1,5 @@
--- What a call over a link makes of the medium: one that grants no turn makes no call of it, and a turn makes those of
--- its two events.
+-- The calls of the medium of a call over a link: one that gives the device no turn makes none, and a turn makes those
+-- of its two events.
 use Rattle.std.specs.Prelude.{◌≡◌, ◌+◌, ℕ, Bool, List}
 use Rattle.nvme_spec.specs.MediumCalls.{MediumCall, MakesCalls}
 use Rattle.nvme_driver.specs.Calls.{Call, Stores, Writes, Reads, Turns}
@@ -7,7 +7,7 @@ use Rattle.nvme_machine.specs.declared.seen.Seen.{Seen}
 use Rattle.nvme_machine.specs.Subsystems.{Subsystem}
 use Rattle.nvme_machine.specs.EventCalls.{AreCallsOfRun}
 use Rattle.nvme_subsys.specs.OverMedium.{OverMedium}
-use Rattle.nvme_fleet.specs.Deeds.{CallOver, events_of}
+use Rattle.nvme_fleet.specs.DriverEvents.{CallOver, events_of}
 use Rattle.nvme_fleet.specs.Linked.{Linked}
 
 -- the calls of the medium that a turn of controller k makes

@@ -1,5 +1,5 @@
--- What contracts see of a host's way to its controller: the subsystem, the place of the controller that is reached, and
--- the reference through which it is.
+-- How contracts see a host's access to its controller: the subsystem, the place of the controller, and the reference to
+-- it.
 use Rattle.std.specs.Prelude.{◌≡◌, ◌<◌, ◌≤◌, ℕ, ◌+◌, get_or, length, slice_set}
 use Rattle.std.specs.Borrow.{GName}
 use Rattle.nvme_machine.specs.Controllers.{Controller, new_controller}
@@ -13,11 +13,11 @@ controller_in s i = get_or s.controllers i (new_controller 0)
 abbrev pub setting_in : Subsystem → ℕ → Setting
 setting_in s i = setting (controller_in s i) s.world s.device
 
--- a subsystem where these have become so
+-- a subsystem after these change
 abbrev pub with_setting : Subsystem → ℕ → Setting → Subsystem
 with_setting s i x = record { world = x.world; device = x.device; controllers = slice_set s.controllers i x.controller }
 
--- all other controllers are as they were
+-- all other controllers are unchanged
 abbrev pub KeepsOthers : ℕ → Subsystem → Subsystem → Type 0
 KeepsOthers i old new = new ≡ with_setting old i (setting_in new i)
 
@@ -29,7 +29,7 @@ pub record Linked : Type 0 where
   pub place : ℕ
   pub name : GName
 
--- there is a controller of this identifier
+-- there is a controller with this identifier
 abbrev pub IsThere : Subsystem → ℕ → Type 0
 IsThere s k = (1 ≤ k) × (k ≤ length s.controllers)
 
@@ -39,7 +39,7 @@ linked_setting p = setting_in p.subsystem p.place
 abbrev pub linked_controller : Linked → Controller
 linked_controller p = controller_in p.subsystem p.place
 
--- access state, medium and all other controllers are as they were, and the same controller is reached in the same way
+-- access state, medium and all other controllers are unchanged, and the same controller is reached in the same way
 pub record KeepsSite (old new : Linked) : Type 0 where
   pub cntlid : (linked_controller new).cntlid ≡ (linked_controller old).cntlid
   pub world : new.subsystem.world ≡ old.subsystem.world
@@ -48,6 +48,6 @@ pub record KeepsSite (old new : Linked) : Type 0 where
   pub place : new.place ≡ old.place
   pub name : new.name ≡ old.name
 
--- a link reaches a controller of its subsystem, which bears the number of its place
+-- a link reaches a controller of its subsystem, which has the number of its place
 abbrev pub Reaches : Linked → Type 0
 Reaches p = (p.place < length p.subsystem.controllers) × ((linked_controller p).cntlid ≡ p.place + 1)

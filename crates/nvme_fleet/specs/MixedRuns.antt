@@ -1,5 +1,6 @@
--- Fencing of each single event of a fleet, whoever does what before and behind it: of the events of a run nothing is
--- asked but that the host of this one may not write, or not read, the namespace in the state that it finds.
+-- Statements of the law `fencing_holds_of_each_event`: fencing at each single event of a fleet, with any events of any
+-- hosts before and after it. The only premise is that the host of this event may not write, or not read, the namespace
+-- in the state before it.
 use Rattle.std.specs.Prelude.{◌≡◌, ◌<◌, ◌-◌, ◌^◌, ℕ, Bool, IsTrue, true, false, List, [], ◌∷◌, ◌++◌, Some, slice_get}
 use Rattle.std.specs.List.{AllByRecursion}
 use Rattle.nvme_spec.specs.Blocks.{Device}
@@ -24,8 +25,8 @@ use Rattle.nvme_fleet.specs.Secrecy.{layers_over}
 use Rattle.nvme_mailbox.specs.Secrecy.{over}
 use Rattle.nvme_fleet.specs.Unique.{HaveTicketsOnce}
 
--- A run at one of its events: the state that it finds and the one that it leaves, and what comes before and behind it.
--- The calls of the events before come before its own, and those of the events behind it behind them.
+-- A run at one of its events: the states before and after it, and the events before and after it. The calls of the
+-- earlier events come before its own, and those of the later events after them.
 pub record IsCutAt (tells : Bool) (old : Layers) (front : List FleetEvent) (event : FleetEvent)
     (later : List FleetEvent) (replies : List Reply) (new : Layers) (calls : List MediumCall) : Type 0 where
   pub given : List Reply
@@ -42,7 +43,7 @@ pub record IsCutAt (tells : Bool) (old : Layers) (front : List FleetEvent) (even
   pub then_those : AreCallsOfRun tells next later rest new behind
   pub joined : calls ≡ before ++ (own ++ behind)
 
--- Each event of each run is reached so.
+-- This applies to each event of each run.
 abbrev pub EachEventIsReached : Type 0
 EachEventIsReached =
     (tells : Bool) → (old new : Layers) → (front later : List FleetEvent) → (event : FleetEvent)
@@ -61,8 +62,8 @@ pub record ExecutesOn (n : ℕ) (now : Layers) (event : FleetEvent) : Type 0 whe
   pub found : slice_get controller.fetched index ≡ Some command
   pub named : names n command ≡ true
 
--- An event leaves every byte of a namespace, and none of its calls writes a block of it. Where it executes a command on
--- the namespace, its calls only read; and where the host may not read either, there are none.
+-- An event leaves every byte of a namespace, and none of its calls writes a block of it. If it executes a command on
+-- the namespace, its calls only read; if the host may not read either, there are none.
 pub record WritesNothing (tells : Bool) (n : ℕ) (old now : Layers) (event : FleetEvent) (next : Layers)
     (own : List MediumCall) : Type 0 where
   pub bytes : IsTrue tells → is_laid_out old → namespace_bytes next n ≡ namespace_bytes now n
@@ -71,8 +72,8 @@ pub record WritesNothing (tells : Bool) (n : ℕ) (old now : Layers) (event : Fl
   pub reads : ExecutesOn n now event → AllByRecursion IsReading own
   pub silent : (run : ExecutesOn n now event) → may_read now.subsystem.world run.cntlid n ≡ false → own ≡ []
 
--- Whatever the events before and behind it are, and whoever does them: an event of a host that may not write a namespace
--- when it happens writes nothing there. So it is of a power cycle.
+-- With any events of any hosts before and after it, an event of a host that may not write a namespace at that moment
+-- writes nothing there. The same holds for a power cycle.
 abbrev pub FencingHoldsOfEachEvent : Type 0
 FencingHoldsOfEachEvent =
     (tells : Bool) → (old new : Layers) → (front later : List FleetEvent) → (event : FleetEvent)
@@ -81,15 +82,15 @@ FencingHoldsOfEachEvent =
     → OfItsHost (λ k. may_write cut.now.subsystem.world k n ≡ false) event
     → WritesNothing tells n old cut.now event cut.next cut.own
 
--- Over another medium, whose blocks differ in this namespace alone, an event of the mailboxes can be answered as it is,
--- and leaves the same but the medium.
+-- Over another medium, whose blocks differ only in this namespace, an event of the mailboxes can have the same reply,
+-- and leave the same state except for the medium.
 abbrev pub CanBeSame : ℕ → Layers → FleetEvent → Reply → Layers → Device → Type 0
 CanBeSame n now event gives next medium =
     (left : Device) × mailboxes.Step true (over medium (fleet_in now)) event gives (over left (fleet_in next))
     × DifferIn n next.subsystem.world next.subsystem.device left
 
--- And without a fault of the medium it is answered so, and leaves the same of both layers but the medium: every driver,
--- every controller with the memory that it shares with its host, its lists and its marks, and the access state.
+-- And without a fault of the medium it has that reply, and leaves the same of both layers except the medium: every
+-- driver, every controller with the memory that it shares with its host, its lists and its marks, and the access state.
 abbrev pub IsSame : ℕ → Layers → FleetEvent → Reply → Layers → Device → Type 0
 IsSame n now event gives next medium =
     (other : Layers) → (another : Reply) → Step true (layers_over medium now) event another other
@@ -99,8 +100,8 @@ IsSame n now event gives next medium =
     → (another ≡ gives) × (other ≡ layers_over other.subsystem.device next)
     × DifferIn n next.subsystem.world next.subsystem.device other.subsystem.device
 
--- Whatever the events before and behind it are, and whoever does them: an event of a host that may not read a namespace
--- when it happens is the same whatever the bytes of the namespace are then.
+-- With any events of any hosts before and after it, an event of a host that may not read a namespace at that moment is
+-- the same for any bytes of the namespace.
 abbrev pub SecrecyHoldsOfEachEvent : Type 0
 SecrecyHoldsOfEachEvent =
     (old new : Layers) → (front later : List FleetEvent) → (event : FleetEvent) → (replies : List Reply)

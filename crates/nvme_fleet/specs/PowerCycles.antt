@@ -1,5 +1,5 @@
--- What a power cycle takes of a fleet and leaves below, and what outlasts it there (Base Specification: Persist Through
--- Power Loss of Reservations; Namespace Write Protection).
+-- Statements of laws about power cycles: what one removes of a fleet and leaves in the subsystem, and what persists
+-- there (Base Specification: Persist Through Power Loss of Reservations; Namespace Write Protection).
 use Rattle.std.specs.Prelude.{◌≡◌, ◌≢◌, ℕ, ◌-◌, ◌^◌, ◌<◌, Bool, true, false, List, Some}
 use Rattle.std.specs.List.{AllByRecursion}
 use Rattle.nvme_spec.specs.declared.access.Protection.TheVariants.{UntilCycle}
@@ -25,7 +25,7 @@ use Rattle.nvme_fleet.specs.Secrecy.{layers_over}
 use Rattle.nvme_mailbox.specs.Secrecy.{MayNotRead}
 use Rattle.nvme_fleet.specs.Unique.{HaveTicketsOnce}
 
--- Of the subsystem there stays what outlasts a power cycle, and no controller has a queue or a fetched command.
+-- What persists of the subsystem stays, and no controller has a queue or a fetched command.
 abbrev pub PowerTakes : Type 0
 PowerTakes =
     (tells : Bool) → (old new : Layers) → (reply : Reply) → layers.Step tells old PowerCycle reply new
@@ -36,7 +36,7 @@ abbrev pub ReservesNothingBelow : ℕ → Layers → FleetEvent → Type 0
 ReservesNothingBelow n l (Execute k i) = machine.Allows reserving l.subsystem (event.Execute k i) n → ⊥
 ReservesNothingBelow n l other = Unit {0}
 
--- The same of the bytes: hosts that may not write the namespace change none of them, and still may not write it.
+-- The same for the bytes: hosts that may not write the namespace change none of them, and still may not write it.
 abbrev pub BytesOutlastPower : Type 0
 BytesOutlastPower =
     (old new : Layers) → (events : List FleetEvent) → (replies : List Reply) → (n : ℕ) → is_laid_out old
@@ -63,7 +63,7 @@ LayersOutlastPower =
 -- Write protection.
 
 -- Protected until power: while power is not lost, no event changes a byte of a namespace that is write protected until
--- then, and none takes the protection off.
+-- then, and none removes the protection.
 abbrev pub ProtectedUntilPower : Type 0
 ProtectedUntilPower =
     (old new : Layers) → (events : List FleetEvent) → (replies : List Reply) → (n : ℕ) → is_laid_out old

@@ -1,4 +1,4 @@
--- What the events of a raw host are at the fleet of mailboxes.
+-- The events of a raw host for the fleet of mailboxes.
 use Rattle.nvme_machine.specs.declared.event.Event.{Event}
 use Rattle.nvme_machine.specs.declared.event.Event.TheVariants.{Store, Write32, Read32, Fetch, Execute, PowerCycle}
 use Rattle.nvme_event.specs.declared.seen.FleetSeen.TheVariants.{NoController}

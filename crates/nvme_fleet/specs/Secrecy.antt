@@ -1,4 +1,4 @@
--- The same of both layers: what hosts that may not read a namespace learn of its bytes.
+-- Statements of a law for both layers: what hosts that may not read a namespace learn of its bytes.
 use Rattle.std.specs.Prelude.{◌≡◌, ◌<◌, ◌-◌, ◌^◌, ℕ, true, List}
 use Rattle.nvme_spec.specs.Blocks.{Device}
 use Rattle.nvme_machine.specs.Secrecy.{DifferIn}
@@ -12,12 +12,12 @@ use Rattle.nvme_mailbox.specs.Regular.{IsRegular}
 use Rattle.nvme_fleet.specs.Unique.{HaveTicketsOnce}
 use Rattle.nvme_mailbox.specs.Secrecy.{MayNotRead}
 
--- a fleet as both of its layers, over another medium
+-- both layers of a fleet, over another medium
 abbrev pub layers_over : Device → Layers → Layers
 layers_over d l = record l { subsystem = record l.subsystem { device = d } }
 
--- The same of both layers, which a program runs: over either medium the same events are answered the same, and leave
--- the same but for the medium, each driver and each controller with the memory that it shares with its host.
+-- The same for both layers, which a program runs: over either medium the same events have the same replies, and leave
+-- the same except for the medium, each driver and each controller with the memory that it shares with its host.
 abbrev pub LayersReadTheSame : Type 0
 LayersReadTheSame =
     (old new other : Layers) → (medium : Device) → (events : List FleetEvent) → (replies others : List Reply) → (n : ℕ)

@@ -1,13 +1,29 @@
 //! The fleet, and one event of it.
 
-ghost use Rattle.std.specs.Prelude.{◌≡◌, ◌≤◌, ◌-◌, ◌/◌, ◌%◌, length, IfOk, IfErr, IfSome, IfNone, None, Some, [], unwrap_or, option_copied};
+ghost use Rattle.std.specs.Prelude.{
+  ◌≡◌,
+  ◌≤◌,
+  ◌-◌,
+  ◌/◌,
+  ◌%◌,
+  length,
+  IfOk,
+  IfErr,
+  IfSome,
+  IfNone,
+  None,
+  Some,
+  [],
+  unwrap_or,
+  option_copied,
+};
 ghost use Rattle.std.specs.Option.{option_flatten};
-ghost use Rattle.nvme_spec.specs.Configuration.{first_config_fault};
+ghost use Rattle.nvme_spec.specs.Configuration.{capacity, config_fault, first_config_fault};
 ghost use Rattle.nvme_spec.specs.Limits.{most_bytes};
 ghost use Rattle.nvme_spec.specs.MediumCalls.{MakesCalls};
 ghost use Rattle.nvme_spec.specs.declared.config.ConfigFault.TheVariants.{NoMemory as WantOfMemory};
 ghost use Rattle.nvme_spec.specs.World.{namespace_of};
-ghost use Rattle.nvme_subsys.specs.Looking.{Looks, LooksBy, place_in};
+ghost use Rattle.nvme_subsys.specs.Looking.{Looks, LooksBy, block_in};
 ghost use Rattle.nvme_ns.specs.Configured.{configuration};
 ghost use Rattle.nvme_machine.specs.Subsystems.{controller_at, controller_of};
 ghost use Rattle.nvme_spec.specs.Execution.{no_marks};
@@ -20,10 +36,20 @@ ghost use Rattle.nvme_fleet.specs.FleetStates.{fleet_of, layers_of, opening_laye
 ghost use Rattle.nvme_fleet.specs.Layers.{Applies, AppliesRaw, CallsAt, Cycles, Happens, driver_at, told as told_of};
 ghost use Rattle.nvme_fleet.specs.LayerCalls.{AppliesCalling, HappensCalling};
 ghost use Rattle.nvme_fleet.specs.Linked.{IsThere, controller_in};
-ghost use Rattle.nvme_mailbox.specs.Fleets.{Is, Step, ExecutesAt, called, fetched_at, host_at, moment, opening, power_cycled};
+ghost use Rattle.nvme_mailbox.specs.Fleets.{
+  Is,
+  Step,
+  ExecutesAt,
+  called,
+  fetched_at,
+  host_at,
+  moment,
+  opening,
+  power_cycled,
+};
 ghost use Rattle.nvme_fleet.specs.RawEvents.{IsOfHost, raw_moment};
 
-use crate::delivery::{DriverCall, deliver};
+use crate::driver_call::{DriverCall, call_driver};
 use crate::opening::{fault_of, rooms_of};
 use crate::power::reset_all;
 use nvme_ctrl::Controller;
@@ -31,7 +57,7 @@ use nvme_driver::Driver;
 use nvme_event::{BareFleetSeen, FleetEvent, FleetSeen};
 use nvme_machine::{BareSeen, Event};
 use nvme_medium::Medium;
-use nvme_ns::Spaces;
+use nvme_ns::{MAX_BLOCKS, Spaces};
 use nvme_spec::{Config, Marks, MediumFault};
 use nvme_subsys::{NewFault, Subsystem};
 use nvme_wire::NoMemory;
@@ -39,8 +65,8 @@ use std::alloc::Global;
 use std::marker::Model;
 
 /// Hosts over one subsystem: controller k is that of the k-th host, which has a driver, or is raw and has none.
-/// Contracts see it as the record `FleetState`, as its two layers, which are the subsystem and the drivers, and as the
-/// fleet of mailboxes that these are; and beside it the medium itself, whose steps say which calls are made of it.
+/// Contracts see the record `FleetState`; its two layers, the subsystem and the drivers; the fleet of their mailboxes;
+/// and the medium itself, whose steps say which calls are made.
 #[derive(Drop)]
 pub struct Fleet<M: Medium> {
     subsystem: Subsystem<M>,
@@ -74,7 +100,7 @@ impl<M: Medium> Model for Fleet<M> {
         }) };
 }
 
-/// What an event of the subsystem gives to see at a fleet, where no event reads a register.
+/// The result of a subsystem's event as that of a fleet's, which has no reads of registers.
 #[inline(always)]
 fn told(seen: BareSeen) -> BareFleetSeen
     ensures seen { (marks : Marks) → seen_with marks result ≡ told_of (machine.seen_with marks seen) }
@@ -91,7 +117,7 @@ fn told(seen: BareSeen) -> BareFleetSeen
     }
 }
 
-/// The driver of a controller's host, among those of all hosts in their order.
+/// The driver of a controller's host, among those of all hosts in order.
 fn driver_in(drivers: &[Option<Driver>], cntlid: u16) -> Option<&Driver>
     ensures { option_copied result ≡ option_flatten (driver_at drivers.now cntlid) }
 {
@@ -106,11 +132,12 @@ fn driver_in(drivers: &[Option<Driver>], cntlid: u16) -> Option<&Driver>
 
 impl<M: Medium> Fleet<M> {
     /// Opens a configuration over a medium: nobody has registered, nothing is reserved or write protected, no
-    /// controller was ever enabled, every window is of zeros, and every driver is down.
+    /// controller was ever enabled, every window has zeros, and every driver is down. A namespace has at most 65,536
+    /// blocks.
     ///
     /// # Errors
     ///
-    /// The first fault of the configuration, or, where it has none, `NoMemory`; with the medium as it was.
+    /// The first fault of the configuration, else `NoMemory`; with the unchanged medium.
     pub fn new(alloc: Global, config: &Config, medium: M) -> Result<Fleet<M>, NewFault<M>>
         ensures opened { IfOk result
             (λ fleet. layers_of fleet.state ≡ opening_layers (configuration config.now) (M.device medium)) }
@@ -124,26 +151,52 @@ impl<M: Medium> Fleet<M> {
             WantOfMemory) }
         ensures kept { IfErr result (λ refused. refused.medium ≡ medium) }
     {
+        Fleet::within(alloc, config, MAX_BLOCKS, medium)
+    }
+
+    /// Opens a configuration as `new` does, except that a namespace may have up to `max_blocks` blocks.
+    ///
+    /// # Errors
+    ///
+    /// Those of `new`.
+    pub fn within(
+        alloc: Global,
+        config: &Config,
+        max_blocks: u64,
+        medium: M,
+    ) -> Result<Fleet<M>, NewFault<M>>
+        ensures opened { IfOk result
+            (λ fleet. layers_of fleet.state ≡ opening_layers (configuration config.now) (M.device medium)) }
+        ensures mailboxes { IfOk result
+            (λ fleet. fleet_of fleet.state ≡ opening (configuration config.now) (M.device medium)) }
+        ensures medium { IfOk result (λ fleet. fleet.medium ≡ medium) }
+        ensures quiet { IfOk result (λ fleet. data_in fleet.state ≡ []) }
+        ensures accepted { IfOk result
+            (λ _. config_fault (configuration config.now) (capacity max_blocks (M.size medium)) ≡ None) }
+        ensures fault { IfErr result (λ refused. refused.fault
+            ≡ unwrap_or (config_fault (configuration config.now) (capacity max_blocks (M.size medium))) WantOfMemory) }
+        ensures kept { IfErr result (λ refused. refused.medium ≡ medium) }
+    {
         match rooms_of(alloc, &config.controllers) {
             Ok(rooms) => Ok(Fleet {
-                subsystem: Subsystem::new(alloc, config, medium)?,
+                subsystem: Subsystem::within(alloc, config, max_blocks, medium)?,
                 drivers: rooms.drivers,
                 buffer: rooms.buffer,
                 filled: 0,
             }),
             Err(NoMemory) => Err(NewFault {
-                fault: fault_of(config, medium.blocks()),
+                fault: fault_of(config, max_blocks, medium.blocks()),
                 medium,
             }),
         }
     }
 
-    /// The place of a controller.
+    /// The index of a controller.
     #[inline(always)]
-    fn place_of(&self, cntlid: u16) -> Option<usize>
+    fn index_of(&self, cntlid: u16) -> Option<usize>
         ensures none { IfNone result (host_at (fleet_of self.now.state) cntlid ≡ None) }
         ensures absent { IfNone result (controller_at self.now.state.subsystem cntlid ≡ None) }
-        ensures some { IfSome result (λ place. (place ≡ cntlid - 1) × IsThere self.now.state.subsystem cntlid) }
+        ensures some { IfSome result (λ index. (index ≡ cntlid - 1) × IsThere self.now.state.subsystem cntlid) }
         ensures named { IfSome result (λ _. (controller_in self.now.state.subsystem (cntlid - 1)).cntlid ≡ cntlid) }
     {
         let Some(_controller) = self.subsystem.controller(cntlid) else {
@@ -152,9 +205,9 @@ impl<M: Medium> Fleet<M> {
         Some(usize::from(cntlid - 1))
     }
 
-    /// A call of a host's driver.
+    /// Makes a call of a host's driver.
     #[inline(always)]
-    fn deliver(&mut self, cntlid: u16, call: DriverCall<'_>) -> BareFleetSeen
+    fn call_driver(&mut self, cntlid: u16, call: DriverCall<'_>) -> BareFleetSeen
         ensures step { Is (called (fleet_of self.old.state) cntlid (reaction_to call.entry))
             (reply_in (seen_of result) self.new.state.buffer) (fleet_of self.new.state) }
         ensures below { CallsAt (driver_at self.old.state.drivers cntlid) M.tells (layers_of self.old.state) cntlid
@@ -162,11 +215,11 @@ impl<M: Medium> Fleet<M> {
         ensures medium { self.new.medium ≡ self.old.medium }
         ensures fits { data_len (seen_of result) ≤ length self.new.state.buffer }
     {
-        let Some(place) = self.place_of(cntlid) else {
+        let Some(index) = self.index_of(cntlid) else {
             return BareFleetSeen::NoController;
         };
-        deliver(
-            &mut self.drivers[place],
+        call_driver(
+            &mut self.drivers[index],
             &mut self.subsystem,
             cntlid,
             &mut self.buffer,
@@ -175,8 +228,8 @@ impl<M: Medium> Fleet<M> {
     }
 
     /// A fetch of a controller.
-    // Not inlined, nor are raw events: the compiler drops the hint from a function that would grow very large, and
-    // `happen`, which calls them, would.
+    // Not inlined, nor are raw events: the compiler drops the hint from a function that would become very large, such
+    // as `apply_bare`, which calls them.
     #[inline(never)]
     fn fetch(&mut self, cntlid: u16, qid: u16) -> BareFleetSeen
         ensures step { Is (fetched_at (host_at (fleet_of self.old.state) cntlid) (fleet_of self.old.state) cntlid qid)
@@ -186,14 +239,14 @@ impl<M: Medium> Fleet<M> {
         ensures medium { self.new.medium ≡ self.old.medium }
         ensures fits { data_len (seen_of result) ≤ length self.new.state.buffer }
     {
-        // Asked first, as a step of the mailboxes does.
-        let Some(_place) = self.place_of(cntlid) else {
+        // Tested first, as in a step of the mailboxes.
+        let Some(_index) = self.index_of(cntlid) else {
             return BareFleetSeen::NoController;
         };
         told(self.subsystem.react(Event::Fetch(cntlid, qid)))
     }
 
-    /// An execution of a controller, and what it marks.
+    /// An execution of a controller, and its marks.
     #[inline(always)]
     fn execute(&mut self, cntlid: u16, i: usize, marks: &mut Marks) -> BareFleetSeen
         requires unmarked { marks.old ≡ no_marks }
@@ -206,10 +259,10 @@ impl<M: Medium> Fleet<M> {
         ensures marks { marks.new ≡ marks_by result marks.new }
         ensures fits { data_len (seen_with marks.new result) ≤ length self.new.state.buffer }
     {
-        let Some(_place) = self.place_of(cntlid) else {
+        let Some(_index) = self.index_of(cntlid) else {
             return BareFleetSeen::NoController;
         };
-        told(self.subsystem.execute_marking(cntlid, i, marks))
+        told(self.subsystem.execute_into(cntlid, i, marks))
     }
 
     /// A store or a register write of a raw host.
@@ -224,17 +277,17 @@ impl<M: Medium> Fleet<M> {
         ensures medium { self.new.medium ≡ self.old.medium }
         ensures fits { data_len (seen_of result) ≤ length self.new.state.buffer }
     {
-        let Some(place) = self.place_of(cntlid) else {
+        let Some(index) = self.index_of(cntlid) else {
             return BareFleetSeen::NoController;
         };
-        if self.drivers[place].is_some() {
+        if self.drivers[index].is_some() {
             return BareFleetSeen::NotRaw;
         }
         told(self.subsystem.react(event))
     }
 
     /// A store of a raw host.
-    // It and the next stand apart from one another, so that the compiler knows of each what the subsystem may give.
+    // This function and the next are separate, so that the compiler knows the possible results of each.
     #[inline(never)]
     fn store_raw(&mut self, cntlid: u16, address: u64, bytes: &[u8]) -> BareFleetSeen
         ensures step { Is (raw_moment (fleet_of self.old.state) (Event.Store cntlid address bytes.entry))
@@ -260,7 +313,7 @@ impl<M: Medium> Fleet<M> {
         self.apply_raw(cntlid, Event::Write32(cntlid, offset, value))
     }
 
-    /// Power is lost in the subsystem, and comes back; then each driver resets its controller.
+    /// Power is lost in the subsystem, and returns; then each driver resets its controller.
     #[inline(never)]
     fn power_cycle(&mut self) -> BareFleetSeen
         ensures step { Is (moment (power_cycled (fleet_of self.old.state)) Cycled)
@@ -274,11 +327,11 @@ impl<M: Medium> Fleet<M> {
         BareFleetSeen::Cycled
     }
 
-    /// One event of the host that it names, or of all; where there is no such controller, or its host is of the other
-    /// kind, nothing happens.
+    /// Applies one event of its host, or of all; if there is no such controller, or its host is of the other kind,
+    /// nothing happens.
     #[tactic(auto, using(nvme_event::proofs::Unmarked::nothing_marked))]
     #[inline(always)]
-    fn happen(&mut self, event: FleetEvent<'_>, marks: &mut Marks) -> BareFleetSeen
+    fn apply_bare(&mut self, event: FleetEvent<'_>, marks: &mut Marks) -> BareFleetSeen
         requires unmarked { marks.old ≡ no_marks }
         ensures step { Step M.tells (fleet_of self.old.state) event.entry
             (reply_in (seen_with marks.new result) self.new.state.buffer) (fleet_of self.new.state) }
@@ -290,13 +343,16 @@ impl<M: Medium> Fleet<M> {
         ensures fits { data_len (seen_with marks.new result) ≤ length self.new.state.buffer }
     {
         match event {
-            FleetEvent::BringUp(cntlid) => self.deliver(cntlid, DriverCall::BringUp),
-            FleetEvent::Place(cntlid, request) => self.deliver(cntlid, DriverCall::Place(request)),
-            FleetEvent::Ring(cntlid) => self.deliver(cntlid, DriverCall::Ring),
+            FleetEvent::BringUp(cntlid) => self.call_driver(cntlid, DriverCall::BringUp),
+            FleetEvent::Place(cntlid, request) => self.call_driver(
+                cntlid,
+                DriverCall::Place(request),
+            ),
+            FleetEvent::Ring(cntlid) => self.call_driver(cntlid, DriverCall::Ring),
             FleetEvent::Fetch(cntlid, qid) => self.fetch(cntlid, qid),
             FleetEvent::Execute(cntlid, i) => self.execute(cntlid, i, marks),
-            FleetEvent::Poll(cntlid) => self.deliver(cntlid, DriverCall::Poll),
-            FleetEvent::Reset(cntlid) => self.deliver(cntlid, DriverCall::Reset),
+            FleetEvent::Poll(cntlid) => self.call_driver(cntlid, DriverCall::Poll),
+            FleetEvent::Reset(cntlid) => self.call_driver(cntlid, DriverCall::Reset),
             FleetEvent::RawStore(cntlid, address, bytes) => {
                 self.store_raw(cntlid, address, bytes)
             }
@@ -307,9 +363,9 @@ impl<M: Medium> Fleet<M> {
         }
     }
 
-    /// One event: the step of the fleet of mailboxes, and exactly these events of the subsystem. One that is refused,
-    /// or finds nothing to do, leaves both layers as they were. An execution makes the calls of the medium that its
-    /// command makes, and no other event makes any.
+    /// Applies one event: the step of the fleet of mailboxes, and exactly these events of the subsystem. One that is
+    /// refused, or has nothing to do, leaves both layers unchanged. An execution makes the calls of its command on the
+    /// medium; other events make no calls.
     #[inline(always)]
     pub fn apply(&mut self, event: FleetEvent<'_>) -> FleetSeen
         ensures step { Step M.tells (fleet_of self.old.state) event.entry
@@ -319,14 +375,14 @@ impl<M: Medium> Fleet<M> {
             (layers_of self.new.state)) self.old.medium self.new.medium }
     {
         let mut marks = Marks::none();
-        let seen = self.apply_marking(event, &mut marks);
+        let seen = self.apply_into(event, &mut marks);
         seen.with(marks)
     }
 
-    /// One event as `apply` has it. What an execution marks comes to stand in `marks`, which is empty before: it has
-    /// room for sixteen hosts, and each move of it costs.
+    /// Applies one event as `apply` does, and writes the marks of an execution to `marks`, which must be empty: a list
+    /// of sixteen hosts is costly to move.
     #[inline(always)]
-    pub fn apply_marking(&mut self, event: FleetEvent<'_>, marks: &mut Marks) -> BareFleetSeen
+    pub fn apply_into(&mut self, event: FleetEvent<'_>, marks: &mut Marks) -> BareFleetSeen
         requires unmarked { marks.old ≡ no_marks }
         ensures step { Step M.tells (fleet_of self.old.state) event.entry
             (record { seen = seen_with marks.new result; bytes = data_in self.new.state }) (fleet_of self.new.state) }
@@ -336,12 +392,12 @@ impl<M: Medium> Fleet<M> {
             (seen_with marks.new result) (layers_of self.new.state)) self.old.medium self.new.medium }
         ensures marks { marks.new ≡ marks_by result marks.new }
     {
-        let seen = self.happen(event, marks);
+        let seen = self.apply_bare(event, marks);
         self.filled = seen.data_len();
         seen
     }
 
-    /// The data of the last event, where that was a poll with data; else nothing.
+    /// The data of the last event, if that was a poll with data; else nothing.
     pub fn data(&self) -> &[u8]
         ensures value { result.now ≡ data_in self.now.state }
         ensures few { length result.now ≤ most_bytes }
@@ -349,7 +405,7 @@ impl<M: Medium> Fleet<M> {
         &self.buffer[..self.filled]
     }
 
-    /// The controller of an identifier, if there is one.
+    /// The controller with an identifier, if there is one.
     pub fn controller(&self, cntlid: u16) -> Option<&Controller>
         ensures none { IfNone result (controller_at self.now.state.subsystem cntlid ≡ None) }
         ensures some { IfSome result
@@ -365,17 +421,16 @@ impl<M: Medium> Fleet<M> {
         self.subsystem.spaces()
     }
 
-    /// The driver of a controller's host. There is none where there is no such controller, or its host is raw.
+    /// The driver of a controller's host; none if there is no such controller, or its host is raw.
     pub fn driver(&self, cntlid: u16) -> Option<&Driver>
         ensures { option_copied result ≡ option_flatten (driver_at self.now.state.drivers cntlid) }
     {
         driver_in(&self.drivers, cntlid)
     }
 
-    /// Reads blocks of a namespace as the medium has them, in rising order, onto the buffer, and stops at the first
-    /// fault: the buffer then has the blocks before it, and is as it was behind them. `None` where there is no such
-    /// namespace, or the blocks do not all lie in it; the medium is then not called, and the buffer stays. The data of
-    /// the last event stay as well.
+    /// Reads blocks of a namespace from the medium onto the buffer, in rising order, up to the first fault; the rest of
+    /// the buffer is unchanged. Returns `None` if there is no such namespace, or it does not have all of these blocks;
+    /// then the medium is not called, and the buffer is unchanged. The data of the last event are unchanged as well.
     pub fn read_blocks(
         &mut self,
         nsid: u32,
@@ -383,10 +438,10 @@ impl<M: Medium> Fleet<M> {
         buffer: &mut [u8],
     ) -> Option<Result<(), MediumFault>>
         requires whole { length buffer.old % 512 ≡ 0 }
-        ensures look { Looks M.tells (place_in (namespace_of self.old.state.subsystem.world nsid) slba
+        ensures look { Looks M.tells (block_in (namespace_of self.old.state.subsystem.world nsid) slba
             (length buffer.old / 512)) self.old.state.subsystem buffer.new result self.new.state.subsystem }
         ensures calls { LooksBy M.step M.tells self.old.state.subsystem.device.content
-            (place_in (namespace_of self.old.state.subsystem.world nsid) slba (length buffer.old / 512))
+            (block_in (namespace_of self.old.state.subsystem.world nsid) slba (length buffer.old / 512))
             (length buffer.old / 512) buffer.old buffer.new self.old.medium result self.new.medium }
         ensures drivers { self.new.state.drivers ≡ self.old.state.drivers }
         ensures data { data_in self.new.state ≡ data_in self.old.state }

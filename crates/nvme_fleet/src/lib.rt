@@ -1,9 +1,9 @@
-//! The fleet: hosts over one subsystem. Most have a driver, which its controller and the memory between them stand
-//! beside; a raw host has none, and its controller is used by single stores and register writes. What a host may rely
-//! on is said by `nvme_mailbox`, in terms of a mailbox for each driver; `specs` says that driver and controller are one.
+//! The fleet: hosts over one subsystem. Most have a driver, which reaches its controller through the memory that they
+//! share; a raw host has none, and its controller gets single stores and register writes. `nvme_mailbox` defines what a
+//! host may rely on, by a mailbox for each driver; `specs` relates driver and controller to it.
 #![tactic(auto)]
 
-mod delivery;
+mod driver_call;
 mod fleet;
 pub mod laws;
 mod link;

@@ -1,4 +1,4 @@
-//! A host's way to its controller.
+//! A host's access to its controller.
 
 ghost use Rattle.std.specs.Prelude.{◌≡◌, length};
 ghost use Rattle.nvme_spec.specs.Memory.{window_size};
@@ -13,7 +13,7 @@ use nvme_subsys::Subsystem;
 use std::marker::Model;
 
 /// A controller of a subsystem, as its host's driver reaches it: each call is events of that controller. A turn is a
-/// fetch from the admin queue, and an execution of the first command that was fetched.
+/// fetch from the admin queue, and an execution of the first fetched command.
 #[derive(Drop)]
 pub(crate) struct Link<'a, M: Medium> {
     pub(crate) subsystem: &'a mut Subsystem<M>,
@@ -36,7 +36,7 @@ impl<'a, M: Medium> Model for Link<'a, M> {
 }
 
 impl<M: Medium> Link<'_, M> {
-    /// Its window is whole, as every window is.
+    /// Its window has its whole length, like every window.
     #[inline(always)]
     fn is_whole(&self)
         ensures { length (linked_controller self.now.state).window ≡ window_size }

@@ -2,7 +2,7 @@
 
 ghost use Rattle.std.specs.Prelude.{◌≡◌, ◌+◌};
 ghost use Rattle.nvme_event.specs.declared.seen.FleetSeen.TheVariants.{Up, Rung, Reset};
-ghost use Rattle.nvme_fleet.specs.Deeds.{ComesUp, Rings, Resets};
+ghost use Rattle.nvme_fleet.specs.DriverEvents.{ComesUp, Rings, Resets};
 ghost use Rattle.nvme_mailbox.specs.Deliveries.{brought_up, rung, reset as reset_mailbox, plain};
 ghost use Rattle.nvme_fleet.specs.Linked.{KeepsSite, Reaches, linked_controller};
 ghost use Rattle.nvme_refinement.specs.Sound.{Sound, mailbox};
@@ -17,8 +17,9 @@ use nvme_medium::Medium;
 /// Brings the controller up. A driver that is down always comes up.
 ///
 /// # Errors
-/// `AlreadyUp` where the driver is up; nothing changes then.
-// Not inlined, so that the other calls do not pay for the room of its locals.
+///
+/// `AlreadyUp` if the driver is up; nothing changes then.
+// Not inlined, so that the other calls do not pay for its locals.
 #[inline(never)]
 pub fn bring_up<M: Medium>(driver: &mut Driver, link: &mut Link<'_, M>) -> Result<(), UpFault>
     requires there { Reaches link.old.state }
@@ -33,10 +34,11 @@ pub fn bring_up<M: Medium>(driver: &mut Driver, link: &mut Link<'_, M>) -> Resul
     driver.bring_up(link)
 }
 
-/// Tells the controller of the requests that were placed.
+/// Writes the doorbells for the placed requests.
 ///
 /// # Errors
-/// `NotUp` where the driver is not up; nothing changes then.
+///
+/// `NotUp` if the driver is not up; nothing changes then.
 #[inline(never)]
 pub fn ring<M: Medium>(driver: &mut Driver, link: &mut Link<'_, M>) -> Result<(), NotUp>
     requires there { Reaches link.old.state }
@@ -51,7 +53,7 @@ pub fn ring<M: Medium>(driver: &mut Driver, link: &mut Link<'_, M>) -> Result<()
     driver.ring(link)
 }
 
-/// Resets the controller. All requests that were not handed up are aborted.
+/// Resets the controller. All requests that were not delivered are aborted.
 #[inline(never)]
 pub fn reset<M: Medium>(driver: &mut Driver, link: &mut Link<'_, M>)
     requires there { Reaches link.old.state }

@@ -1,7 +1,7 @@
-//! Opening a fleet.
+//! Opens a fleet.
 
 ghost use Rattle.std.specs.Prelude.{◌≡◌, map, replicate, IfOk, unwrap_or};
-ghost use Rattle.nvme_spec.specs.Configuration.{first_config_fault};
+ghost use Rattle.nvme_spec.specs.Configuration.{capacity, config_fault};
 ghost use Rattle.nvme_spec.specs.Limits.{most_bytes};
 ghost use Rattle.nvme_spec.specs.declared.config.ConfigFault.TheVariants.{NoMemory as WantOfMemory};
 ghost use Rattle.nvme_ns.specs.Configured.{configuration};
@@ -13,7 +13,7 @@ use nvme_spec::{Config, ConfigFault, ControllerConfig, MOST_BYTES};
 use nvme_wire::NoMemory;
 use std::alloc::Global;
 
-/// What a fleet asks memory for beside its subsystem: the driver of each controller's host, and room for the data of an
+/// The memory of a fleet besides its subsystem's: the driver of each controller's host, and a buffer for the data of an
 /// event.
 #[derive(Drop)]
 pub(crate) struct Rooms {
@@ -36,7 +36,7 @@ fn driver_of(config: &ControllerConfig) -> Option<Driver>
 ///
 /// # Errors
 ///
-/// `NoMemory` where the allocator has no room for them.
+/// `NoMemory` if memory for them is refused.
 fn drivers_of(alloc: Global, configs: &[ControllerConfig]) -> Result<Vec<Option<Driver>>, NoMemory>
     ensures { IfOk result (λ drivers. drivers.items ≡ map opening_driver configs.now) }
 {
@@ -47,11 +47,11 @@ fn drivers_of(alloc: Global, configs: &[ControllerConfig]) -> Result<Vec<Option<
     Ok(drivers)
 }
 
-/// All that a fleet of these controllers asks memory for beside its subsystem.
+/// The memory of a fleet of these controllers besides its subsystem's.
 ///
 /// # Errors
 ///
-/// `NoMemory` where the allocator has no room for it.
+/// `NoMemory` if it is refused.
 pub(crate) fn rooms_of(alloc: Global, configs: &[ControllerConfig]) -> Result<Rooms, NoMemory>
     ensures drivers { IfOk result (λ rooms. rooms.drivers.items ≡ map opening_driver configs.now) }
     ensures buffer { IfOk result (λ rooms. rooms.buffer.items ≡ replicate most_bytes 0) }
@@ -62,11 +62,12 @@ pub(crate) fn rooms_of(alloc: Global, configs: &[ControllerConfig]) -> Result<Ro
     })
 }
 
-/// Why a configuration can't be opened where there is no memory for it: its first fault, or that.
-pub(crate) fn fault_of(config: &Config, blocks: u64) -> ConfigFault
-    ensures { result ≡ unwrap_or (first_config_fault (configuration config.now) blocks) WantOfMemory }
+/// Why a configuration can't be opened after memory was refused: its first fault, otherwise `NoMemory`.
+pub(crate) fn fault_of(config: &Config, max_blocks: u64, medium_blocks: u64) -> ConfigFault
+    ensures { result
+        ≡ unwrap_or (config_fault (configuration config.now) (capacity max_blocks medium_blocks)) WantOfMemory }
 {
-    match Spaces::new(config, blocks) {
+    match Spaces::within(config, max_blocks, medium_blocks) {
         Ok(_) => ConfigFault::NoMemory,
         Err(fault) => fault,
     }

@@ -1,8 +1,8 @@
-//! A placing by a fleet's driver.
+//! A fleet's driver places a request.
 
 ghost use Rattle.std.specs.Prelude.{◌≡◌, ◌+◌};
 ghost use Rattle.nvme_event.specs.declared.seen.FleetSeen.TheVariants.{Placed};
-ghost use Rattle.nvme_fleet.specs.Deeds.{Places};
+ghost use Rattle.nvme_fleet.specs.DriverEvents.{Places};
 ghost use Rattle.nvme_mailbox.specs.Deliveries.{placed, plain};
 ghost use Rattle.nvme_fleet.specs.Linked.{KeepsSite, Reaches, linked_controller};
 ghost use Rattle.nvme_refinement.specs.Sound.{Sound, mailbox};
@@ -12,13 +12,14 @@ use crate::link::Link;
 use nvme_driver::{Driver, PlaceRefusal, Request, Ticket};
 use nvme_medium::Medium;
 
-/// Places a request, as the driver's mailbox does, and answers its ticket. The access state and the medium stay as
-/// they are, and the controller is not told before the next ring.
+/// Places a request, as the driver's mailbox does, and returns its ticket. The access state and the medium stay, and
+/// the controller sees the request after the next ring.
 ///
 /// # Errors
-/// The first of `NotReady`, `BadRequest`, `NoSlot`, `RingFull` and `TicketsExhausted` that holds. The mailbox then
-/// stays as it is.
-// Not inlined, so that the other calls do not pay for the room of its locals.
+///
+/// The first of `NotReady`, `BadRequest`, `NoSlot`, `RingFull` and `TicketsExhausted` that holds. The mailbox is
+/// unchanged then.
+// Not inlined, so that the other calls do not pay for its locals.
 #[inline(never)]
 pub fn place<M: Medium>(
     driver: &mut Driver,

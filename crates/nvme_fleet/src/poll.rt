@@ -1,9 +1,9 @@
-//! A poll of a fleet's driver.
+//! A fleet's driver polls.
 
 ghost use Rattle.std.specs.Prelude.{◌≡◌, ◌≤◌, ◌+◌, length, take};
 ghost use Rattle.nvme_spec.specs.Limits.{most_bytes};
 ghost use Rattle.nvme_event.specs.declared.seen.FleetSeen.TheVariants.{Polled};
-ghost use Rattle.nvme_fleet.specs.Deeds.{Polls};
+ghost use Rattle.nvme_fleet.specs.DriverEvents.{Polls};
 ghost use Rattle.nvme_mailbox.specs.Deliveries.{polled};
 ghost use Rattle.nvme_fleet.specs.Linked.{KeepsSite, Reaches, linked_controller};
 ghost use Rattle.nvme_refinement.specs.Sound.{Sound, mailbox};
@@ -13,13 +13,13 @@ use crate::link::Link;
 use nvme_driver::{Answer, Driver, PollFault};
 use nvme_medium::Medium;
 
-/// Hands up the next answer, as the driver's mailbox does, with its data at the front of the buffer, or `None` where
-/// there is no new one. That the buffer has at least 131,072 bytes is the caller's condition. The access state and
-/// the medium stay as they are.
+/// Delivers the next answer, as the driver's mailbox does, with its data at the front of the buffer, or returns `None`
+/// if there is no new one. The buffer must have at least 131,072 bytes. The access state and the medium stay.
 ///
 /// # Errors
-/// `NotUp` where no aborted request is left to hand up and the driver is not up. No other fault comes: each
-/// completion of its controller answers a request.
+///
+/// `NotUp` if the driver is not up and no aborted request is left to deliver. No other fault occurs: each completion of
+/// its controller answers a request.
 #[inline(never)]
 pub fn poll<M: Medium>(
     driver: &mut Driver,

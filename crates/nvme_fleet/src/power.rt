@@ -1,4 +1,4 @@
-//! A power cycle of a fleet: behind that of its subsystem each driver resets its controller.
+//! The part of a power cycle after that of the subsystem: each driver resets its controller.
 
 ghost use Rattle.std.specs.Prelude.{◌≡◌, ◌<◌, ◌≤◌, length, map, option_map};
 ghost use Rattle.nvme_driver.specs.Drivers.{after_reset};
@@ -10,7 +10,7 @@ use nvme_driver::Driver;
 use nvme_medium::Medium;
 use nvme_subsys::Subsystem;
 
-/// A driver resets its controller over the link, which power has reset already, so that nothing changes there.
+/// A driver resets its controller over the link, which changes nothing there after a power cycle.
 fn reset_over<M: Medium>(driver: &mut Driver, link: &mut Link<'_, M>)
     requires there { link.old.state.place < length link.old.state.subsystem.controllers }
     requires cycled { AreCycled link.old.state.subsystem }
@@ -22,7 +22,7 @@ fn reset_over<M: Medium>(driver: &mut Driver, link: &mut Link<'_, M>)
     driver.reset(link);
 }
 
-/// The same at its controller.
+/// A driver resets its controller, which is controller `cntlid` of a subsystem.
 fn reset_one<M: Medium>(driver: &mut Driver, subsystem: &mut Subsystem<M>, cntlid: u16)
     requires there { IsThere subsystem.old.state cntlid }
     requires cycled { AreCycled subsystem.old.state }
@@ -32,14 +32,14 @@ fn reset_one<M: Medium>(driver: &mut Driver, subsystem: &mut Subsystem<M>, cntli
 {
     let mut link = Link { subsystem, cntlid };
     reset_over(driver, &mut link);
-    // Taken apart, so that what it leaves behind its reference is known.
+    // Destructured, so that the state after its borrow is known.
     let Link {
         subsystem: _subsystem,
         ..
     } = link;
 }
 
-/// The same of a host's driver, if it has one.
+/// A host's driver resets its controller, if the host has one.
 fn reset_if_any<M: Medium>(driver: &mut Option<Driver>, subsystem: &mut Subsystem<M>, cntlid: u16)
     requires there { IsThere subsystem.old.state cntlid }
     requires cycled { AreCycled subsystem.old.state }
@@ -53,7 +53,7 @@ fn reset_if_any<M: Medium>(driver: &mut Option<Driver>, subsystem: &mut Subsyste
     }
 }
 
-/// The same of all hosts. The driver of controller k stands at place k - 1.
+/// The drivers of all hosts reset their controllers. The driver of controller k is at place k - 1.
 pub(crate) fn reset_all<M: Medium>(drivers: &mut [Option<Driver>], subsystem: &mut Subsystem<M>)
     requires pairs { length drivers.old ≡ length subsystem.old.state.controllers }
     requires cycled { AreCycled subsystem.old.state }

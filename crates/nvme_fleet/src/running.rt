@@ -14,7 +14,7 @@ use nvme_spec::MOST_BYTES;
 use nvme_wire::NoMemory;
 use std::alloc::Global;
 
-/// How many bytes an event gives at most: only a poll gives any.
+/// The most bytes of an event's data: only a poll has any.
 fn room_of(event: FleetEvent<'_>) -> usize
     ensures { result ≡ room_for event.entry }
 {
@@ -25,14 +25,14 @@ fn room_of(event: FleetEvent<'_>) -> usize
 }
 
 impl<M: Medium> Fleet<M> {
-    /// Events, one after the other, each a step of both layers at once; what each gave is added behind the replies. The
-    /// memory that a reply takes is asked for before its event. The data are then those of the last event that
-    /// happened. The calls of the medium are those of the events that happened, in their order, and no other.
+    /// Applies events in order, each a step of both layers at once, and appends their replies. Takes the
+    /// memory for a reply before its event. The data are then those of the last event that happened. The calls of the
+    /// medium are those of the events that happened, in order, and no others.
     ///
     /// # Errors
     ///
-    /// `NoMemory` where the allocator has no room for the next reply: the events before it have happened, and their
-    /// replies are added; that event and those behind it have not.
+    /// `NoMemory` if memory for the next reply is refused: the events before it have happened, and their replies are
+    /// appended; that event and those after it have not.
     pub fn run(
         &mut self,
         alloc: Global,
@@ -52,7 +52,8 @@ impl<M: Medium> Fleet<M> {
         Ok(())
     }
 
-    /// An event and its reply, whose bytes come to stand in a vector that is empty and has room for them.
+    /// Applies an event and returns its reply, with its data in `bytes`, which must be empty and have capacity for
+    /// them.
     fn reply_to(&mut self, event: FleetEvent<'_>, mut bytes: Vec<u8>) -> Reply
         requires empty { bytes.items ≡ [] }
         requires room { room_for event ≤ vec_capacity bytes }
@@ -62,7 +63,7 @@ impl<M: Medium> Fleet<M> {
         ensures bytes { result.bytes ≡ data_in self.new.state }
     {
         let seen = self.apply(event);
-        // There is room for them, so that no memory is asked for.
+        // They fit, so no memory is taken.
         let _fits = bytes.extend_from_slice(self.data());
         Reply { seen, bytes }
     }

@@ -1,4 +1,4 @@
--- Words of another number say nothing.
+-- For `configuration.rt`: a wrong number of words has no meaning.
 use Rattle.std.proofs.Common.{◌≡◌, ◌≢◌, List, [], ◌∷◌, length, map, Option, None, refl}
 use Rattle.nvme_grammar.specs.Arity.{four}
 

@@ -1,4 +1,4 @@
--- What an answer unfolds to compute what the lines of a literal text say.
+-- For examples: the definitions that compute the lines of a literal text.
 use Rattle.std.specs.Prelude.{⊤}
 use Rattle.script_text.proofs.OnLiterals.{words_on_literals}
 use Rattle.nvme_grammar.specs.Line.{line_at, sentence}

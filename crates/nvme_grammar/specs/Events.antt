@@ -1,7 +1,18 @@
--- What a line behind `start` says: one event of a fleet.
+-- The event of a line after `start`.
 use Rattle.std.specs.Prelude.{ℕ, List, ◌∷◌, Option, Some, None, option_map}
 use Rattle.nvme_event.specs.declared.event.FleetEvent.{FleetEvent}
-use Rattle.nvme_event.specs.declared.event.FleetEvent.TheVariants.{BringUp, Place, Ring, Fetch, Execute, Poll, Reset, RawStore, RawWrite32, PowerCycle}
+use Rattle.nvme_event.specs.declared.event.FleetEvent.TheVariants.{
+  BringUp,
+  Place,
+  Ring,
+  Fetch,
+  Execute,
+  Poll,
+  Reset,
+  RawStore,
+  RawWrite32,
+  PowerCycle,
+}
 use Rattle.nvme_driver.specs.declared.request.Request.TheVariants.{Identify}
 use Rattle.script_text.specs.Numbers.{number_at}
 use Rattle.script_text.specs.Data.{bytes_at}
@@ -46,7 +57,7 @@ write32 = three (λ c o v. do
   value ← number_at 32 v
   Some (RawWrite32 cntlid offset value))
 
--- `C N`, and what the request of this keyword needs
+-- `C N`, and the words for the request of this keyword
 abbrev pub place : Keyword → List (List ℕ) → Option FleetEvent
 place k (c ∷ n ∷ words) = do
   cntlid ← number_at 16 c
@@ -55,7 +66,7 @@ place k (c ∷ n ∷ words) = do
   Some (Place cntlid request)
 place k words = None
 
--- what words say, behind a keyword
+-- the event of the words after a keyword
 abbrev pub event_by : Keyword → List (List ℕ) → Option FleetEvent
 event_by keyword.Up words = option_map BringUp (alone words)
 event_by keyword.Ring words = option_map Ring (alone words)

@@ -13,6 +13,6 @@ example_setup = codes "controller 1 host 0xa1" ∷ codes "namespace 1 blocks 64 
 abbrev pub example_events : List (List ℕ)
 example_events = codes "up 1" ∷ codes "read 1 1 0 1" ∷ []
 
--- what they ask for
+-- their events
 abbrev pub example_asked : List FleetEvent
 example_asked = BringUp 1 ∷ Place 1 (Read 1 0 1) ∷ []

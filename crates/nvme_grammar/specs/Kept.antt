@@ -1,4 +1,4 @@
--- Events of a text, from when it is judged until they happen.
+-- The events of a text as they are stored, from its check until they happen.
 use Rattle.std.specs.Prelude.{ℕ, ◌^◌, nat_lt, List, [], ◌∷◌, drop, Option, Some, None, if◌then◌else◌}
 use Rattle.std.specs.List.{filter_map}
 use Rattle.nvme_event.specs.declared.event.FleetEvent.{FleetEvent}
@@ -10,7 +10,7 @@ use Rattle.nvme_grammar.specs.Script.{event_in}
 use Rattle.nvme_grammar.specs.declared.kept.KeptEvent.{KeptEvent}
 use Rattle.nvme_grammar.specs.declared.kept.KeptEvent.TheVariants.{BringUp, Ring, Fetch, Execute, Poll, Reset, Line}
 
--- the event that a line says, if it says one
+-- the event of a line, if it has one
 abbrev pub line_event : List ℕ → Option FleetEvent
 line_event raw = line_at raw >>= event_in
 
@@ -19,7 +19,7 @@ abbrev pub first_event : List (List ℕ) → Option FleetEvent
 first_event [] = None
 first_event (raw ∷ behind) = line_event raw
 
--- the event that is kept so, of this text
+-- the event of this text that is stored in this form
 abbrev pub kept_event : List ℕ → KeptEvent → Option FleetEvent
 kept_event text (BringUp cntlid) = Some (event.BringUp cntlid)
 kept_event text (Ring cntlid) = Some (event.Ring cntlid)
@@ -29,11 +29,11 @@ kept_event text (Poll cntlid) = Some (event.Poll cntlid)
 kept_event text (Reset cntlid) = Some (event.Reset cntlid)
 kept_event text (Line before) = first_event (text_lines (drop before text))
 
--- the events that are kept so, in their order
+-- the events that are stored in this form, in order
 abbrev pub kept_events : List ℕ → List KeptEvent → List FleetEvent
 kept_events text kept = filter_map (kept_event text) kept
 
--- how an event is kept whose line begins behind so many bytes
+-- how an event is stored whose line begins after this many bytes
 abbrev pub kept_as : ℕ → FleetEvent → KeptEvent
 kept_as before (event.BringUp cntlid) = BringUp cntlid
 kept_as before (event.Ring cntlid) = Ring cntlid

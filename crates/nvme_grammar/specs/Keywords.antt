@@ -1,11 +1,57 @@
--- The words that lines begin with, and what stands behind each of them: the forms of all lines of a script.
-use Rattle.std.specs.Prelude.{ℕ, ◌-◌, nat_le, ◌&&◌, Bool, true, false, List, [], ◌∷◌, ◌++◌, codes, length, slice_get, Option, Some, None}
+-- The words that lines begin with, and the places after each of them: the forms of all lines of a script.
+use Rattle.std.specs.Prelude.{
+  ℕ,
+  ◌-◌,
+  nat_le,
+  ◌&&◌,
+  Bool,
+  true,
+  false,
+  List,
+  [],
+  ◌∷◌,
+  ◌++◌,
+  codes,
+  length,
+  slice_get,
+  Option,
+  Some,
+  None,
+}
 use Rattle.std.specs.List.{find, flat_map}
 use Rattle.std.specs.Str.{bytes_eq}
 use Rattle.nvme_grammar.specs.Near.{is_meant}
 use Rattle.nvme_grammar.specs.Places.{place_behind, takes_behind, place_name, behind_name}
 use Rattle.nvme_grammar.specs.declared.keyword.Keyword.{Keyword}
-use Rattle.nvme_grammar.specs.declared.keyword.Keyword.TheVariants.{Controller, Namespace, Attached, Start, Up, Read, Write, Compare, Zeroes, Flush, Register, Acquire, Release, Report, Identify, Protect, Protection, Attach, Detach, Ring, Fetch, Execute, Poll, Reset, Store, Write32, PowerCycle}
+use Rattle.nvme_grammar.specs.declared.keyword.Keyword.TheVariants.{
+  Controller,
+  Namespace,
+  Attached,
+  Start,
+  Up,
+  Read,
+  Write,
+  Compare,
+  Zeroes,
+  Flush,
+  Register,
+  Acquire,
+  Release,
+  Report,
+  Identify,
+  Protect,
+  Protection,
+  Attach,
+  Detach,
+  Ring,
+  Fetch,
+  Execute,
+  Poll,
+  Reset,
+  Store,
+  Write32,
+  PowerCycle,
+}
 use Rattle.nvme_grammar.specs.declared.place.Operand.TheVariants as operand
 use Rattle.nvme_grammar.specs.declared.place.Place.{Place}
 use Rattle.nvme_grammar.specs.declared.place.Place.TheVariants.{Number, Iekey, Host, Blocks, Sharing, Data, Bytes}
@@ -48,26 +94,26 @@ keywords = Controller ∷ Namespace ∷ Attached ∷ Start ∷ Up ∷ Read ∷ W
     ∷ Acquire ∷ Release ∷ Report ∷ Identify ∷ Protect ∷ Protection ∷ Attach ∷ Detach ∷ Ring ∷ Fetch ∷ Execute ∷ Poll
     ∷ Reset ∷ Store ∷ Write32 ∷ PowerCycle ∷ []
 
--- their texts, each behind a space
+-- their texts, each after a space
 abbrev pub keyword_texts : List ℕ
 keyword_texts = flat_map (λ k. codes " " ++ keyword_text k) keywords
 
--- the keyword that a word is
+-- the keyword of a word
 unfoldable pub keyword_of : List ℕ → Option Keyword
 keyword_of word = find (λ k. bytes_eq word (keyword_text k)) keywords
 
--- the first that a word is near to, or is in other letters
+-- the first keyword that a word resembles, or equals in other letters
 unfoldable pub nearest_to : List ℕ → Option Keyword
 nearest_to word = find (λ k. is_meant word (keyword_text k)) keywords
 
--- the controller and the namespace that a line names
+-- the places of a controller and a namespace
 abbrev c : Place
 c = Number operand.Cntlid
 
 abbrev n : Place
 n = Number operand.Nsid
 
--- what stands behind the keyword in each of its lines, word by word
+-- the places after the keyword in each of its lines, word by word
 abbrev pub places_of : Keyword → List Place
 places_of Controller = c ∷ Host ∷ Number operand.Host ∷ []
 places_of Namespace = n ∷ Blocks ∷ Number operand.Size ∷ Sharing ∷ []
@@ -106,7 +152,7 @@ behind_of Attach = behind.Controllers
 behind_of Detach = behind.Controllers
 behind_of _ = behind.Nothing
 
--- the lines that stand before `start`, and `start`; all others stand behind it
+-- the lines before `start`, and `start`; all others follow it
 abbrev pub sets_up : Keyword → Bool
 sets_up Controller = true
 sets_up Namespace = true
@@ -114,7 +160,7 @@ sets_up Attached = true
 sets_up Start = true
 sets_up _ = false
 
--- the place of a word, by its index behind the keyword
+-- the place of a word, by its index after the keyword
 abbrev pub either_place : Option Place → Option Place → Option Place
 either_place (Some place) other = Some place
 either_place None other = other
@@ -123,7 +169,7 @@ abbrev pub place_at : Keyword → ℕ → Option Place
 place_at k index =
     either_place (slice_get (places_of k) index) (place_behind (behind_of k) (index - length (places_of k)))
 
--- whether so many words may stand behind the keyword
+-- whether this many words may follow the keyword
 abbrev pub takes_words : Keyword → ℕ → Bool
 takes_words k words =
     nat_le (length (places_of k)) words && takes_behind (behind_of k) (words - length (places_of k))

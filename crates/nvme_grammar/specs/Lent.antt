@@ -1,4 +1,4 @@
--- Bytes that are lent. A script says what bytes are, not where they lie: its events are by value.
+-- Events by value, without the address of their bytes, which a script does not determine.
 use Rattle.std.specs.Borrow.{Bor}
 use Rattle.nvme_driver.specs.declared.request.Request.{Request}
 use Rattle.nvme_driver.specs.declared.request.Request.TheVariants.{Write, Compare, Attach, Detach}
@@ -7,11 +7,11 @@ use Rattle.nvme_event.specs.declared.event.FleetEvent.TheVariants.{Place, RawSto
 use Rattle.nvme_grammar.specs.declared.line.Line.{Line}
 use Rattle.nvme_grammar.specs.declared.line.Line.TheVariants.{Event}
 
--- what is lent from no place in particular
+-- a borrowed value at no address in particular
 abbrev pub lent : {A : Type 0} → A → Bor A
 lent x = record { ref_ptr = (0, 0); now = x }
 
--- the same request, event or line, whose bytes lie at no place in particular
+-- the same request, event or line, with its bytes at no address in particular
 abbrev pub request_by_value : Request → Request
 request_by_value (Write nsid slba bytes) = Write nsid slba (lent bytes.now)
 request_by_value (Compare nsid slba bytes) = Compare nsid slba (lent bytes.now)

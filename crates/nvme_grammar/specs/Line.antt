@@ -1,5 +1,20 @@
--- What one line of a script says.
-use Rattle.std.specs.Prelude.{ℕ, Bool, true, false, ◌==◌, List, [], ◌∷◌, codes, Option, Some, None, option_map, if◌then◌else◌}
+-- The meaning of one line of a script.
+use Rattle.std.specs.Prelude.{
+  ℕ,
+  Bool,
+  true,
+  false,
+  ◌==◌,
+  List,
+  [],
+  ◌∷◌,
+  codes,
+  Option,
+  Some,
+  None,
+  option_map,
+  if◌then◌else◌,
+}
 use Rattle.std.specs.Str.{bytes_eq}
 use Rattle.nvme_event.specs.declared.event.FleetEvent.{FleetEvent}
 use Rattle.script_text.specs.Numbers.{number_at}
@@ -12,7 +27,7 @@ use Rattle.nvme_grammar.specs.declared.keyword.Keyword.TheVariants as keyword
 use Rattle.nvme_grammar.specs.declared.line.Line.{Line}
 use Rattle.nvme_grammar.specs.declared.line.Line.TheVariants.{Blank, Controller, Namespace, Attached, Start, Event}
 
--- what follows `controller C host H`: nothing, or `raw`
+-- the words after `controller C host H`: none, or `raw`
 abbrev pub rawness : List (List ℕ) → Option Bool
 rawness [] = Some false
 rawness (word ∷ []) = if bytes_eq word (codes "raw") then Some true else None
@@ -47,16 +62,16 @@ attached = two (λ c n. do
   nsid ← number_at 32 n
   Some (Attached cntlid nsid))
 
--- `start`, alone on its line
+-- `start`, the only word of its line
 abbrev pub start : List (List ℕ) → Option Line
 start [] = Some Start
 start (word ∷ words) = None
 
--- a line behind `start`
+-- a line after `start`
 abbrev pub event_line : Option FleetEvent → Option Line
 event_line event = option_map Event event
 
--- what words say, behind a keyword
+-- the meaning of the words after a keyword
 abbrev pub sentence_by : Keyword → List (List ℕ) → Option Line
 sentence_by keyword.Controller words = controller words
 sentence_by keyword.Namespace words = namespace words
@@ -64,7 +79,7 @@ sentence_by keyword.Attached words = attached words
 sentence_by keyword.Start words = start words
 sentence_by k words = event_line (event_by k words)
 
--- what words say, by the keyword that the first of them is
+-- the meaning of words, by the keyword at their front
 unfoldable pub sentence : List (List ℕ) → Option Line
 sentence [] = Some Blank
 sentence (word ∷ words) = do
@@ -76,7 +91,7 @@ abbrev pub is_comment : List ℕ → Bool
 is_comment [] = false
 is_comment (b ∷ bs) = b == 35
 
--- what a line says, without the line feed that ends it, or nothing where it is outside the grammar
+-- the meaning of a line, without its line feed, or nothing if it is outside the grammar
 unfoldable pub line_at : List ℕ → Option Line
 line_at bytes =
     if is_comment bytes then Some Blank

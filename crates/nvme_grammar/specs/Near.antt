@@ -1,4 +1,5 @@
--- Words that differ a little: one letter is wrong, missing or too many, or two that stand side by side are exchanged.
+-- Words that differ a little, for suggestions: one letter is wrong, missing or too many, or two adjacent ones are
+-- exchanged.
 use Rattle.std.specs.Prelude.{ℕ, Bool, false, ◌==◌, ◌&&◌, ◌||◌, List, ◌∷◌, drop, if◌then◌else◌}
 use Rattle.std.specs.Str.{bytes_eq, str_eq_ignore_ascii_case}
 
@@ -13,11 +14,11 @@ differ_little word other =
     bytes_eq (drop 1 word) (drop 1 other) || (bytes_eq (drop 1 word) other
     || (bytes_eq word (drop 1 other) || are_exchanged word other))
 
--- so, behind what both begin with
+-- this holds after a common beginning
 abbrev pub is_near : List ℕ → List ℕ → Bool
 is_near (a ∷ word) (b ∷ other) = if a == b then is_near word other else differ_little (a ∷ word) (b ∷ other)
 is_near word other = differ_little word other
 
--- so, or the same word but for the case of its letters
+-- this holds, or the words differ only in the case of letters
 unfoldable pub is_meant : List ℕ → List ℕ → Bool
 is_meant word other = is_near word other || str_eq_ignore_ascii_case word other

@@ -1,4 +1,4 @@
--- What stands in the places of a line: how each is named, and which numbers a place of one takes.
+-- The places of a line: their names, and the numbers that each takes.
 use Rattle.std.specs.Prelude.{ℕ, zero, suc, ◌==◌, nat_le, Bool, true, List, ◌++◌, codes, Option, Some, None, is_some}
 use Rattle.std.specs.Fmt.{decimal}
 use Rattle.script_text.specs.Numbers.{number_at}
@@ -32,7 +32,7 @@ operand_name operand.Address = codes "ADDR"
 operand_name operand.Offset = codes "OFF"
 operand_name operand.Value = codes "V"
 
--- a number of so many bits
+-- the width of an operand in bits
 abbrev pub operand_bits : Operand → ℕ
 operand_bits operand.Cntlid = 16
 operand_bits operand.Queue = 16
@@ -56,7 +56,7 @@ operand_bits operand.Address = 64
 operand_bits operand.Offset = 64
 operand_bits operand.Value = 32
 
--- whether a word spells such a number
+-- whether a word is such a number
 abbrev pub spells : Operand → List ℕ → Bool
 spells operand word = is_some (number_at (operand_bits operand) word)
 
@@ -67,7 +67,7 @@ place_behind behind.Raw zero = Some Raw
 place_behind behind.Raw (suc index) = None
 place_behind behind.Controllers index = Some (Number operand.Cntlid)
 
--- how many words may follow
+-- whether this many words may follow
 abbrev pub takes_behind : Behind → ℕ → Bool
 takes_behind behind.Nothing words = words == 0
 takes_behind behind.Raw words = nat_le words 1
@@ -89,7 +89,7 @@ behind_name behind.Nothing = codes ""
 behind_name behind.Raw = codes " [raw]"
 behind_name behind.Controllers = codes " C1 C2 .."
 
--- what a place wants, in words
+-- the kind of word for a place
 abbrev pub wanted_text : Place → List ℕ
 wanted_text (Number operand) = operand_name operand ++ codes ", a number below 2^" ++ decimal (operand_bits operand)
 wanted_text Iekey = codes "IEKEY, 0 or 1"

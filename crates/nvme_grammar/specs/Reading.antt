@@ -1,9 +1,17 @@
--- A script while it is read, as this crate's own functions see it.
+-- A script while it is read, for the contracts of `script.rt` and `read_lines`.
 use Rattle.std.specs.Prelude.{◌≡◌, ℕ, List, [], ◌∷◌}
 use Rattle.std.specs.List.{filter_map}
 use Rattle.nvme_grammar.specs.Script.{controller_in, namespace_in, attachment_in, start_in}
 use Rattle.nvme_event.specs.declared.event.FleetEvent.{FleetEvent}
-use Rattle.nvme_event.specs.declared.event.FleetEvent.TheVariants.{BringUp, Ring, Fetch, Execute, Poll, Reset, PowerCycle}
+use Rattle.nvme_event.specs.declared.event.FleetEvent.TheVariants.{
+  BringUp,
+  Ring,
+  Fetch,
+  Execute,
+  Poll,
+  Reset,
+  PowerCycle,
+}
 use Rattle.nvme_grammar.specs.Kept.{kept_as}
 use Rattle.nvme_grammar.specs.declared.kept.KeptEvent.{KeptEvent}
 use Rattle.nvme_grammar.specs.declared.line.Line.{Line}
@@ -17,7 +25,7 @@ pub record Reads (script : Script) (lines : List Line) : Type 0 where
   pub attached : script.config.attached.items ≡ filter_map attachment_in lines
   pub start : script.start ≡ start_in lines
 
--- an event, but for which it is of those whose lines are parsed again
+-- an event, or a placeholder if its line is parsed again later
 abbrev pub event_aside : FleetEvent → FleetEvent
 event_aside (BringUp cntlid) = BringUp cntlid
 event_aside (Ring cntlid) = Ring cntlid
@@ -27,12 +35,12 @@ event_aside (Poll cntlid) = Poll cntlid
 event_aside (Reset cntlid) = Reset cntlid
 event_aside event = PowerCycle
 
--- a line, but for that of its event
+-- a line, with a placeholder if its event is parsed again later
 abbrev pub line_aside : Line → Line
 line_aside (Event event) = Event (event_aside event)
 line_aside line = line
 
--- how the event of a line is kept that begins behind so many bytes, if it is one
+-- how the event of a line is stored that begins after this many bytes, if it is one
 abbrev pub kept_of_line : ℕ → Line → List KeptEvent
 kept_of_line before (Event event) = kept_as before event ∷ []
 kept_of_line before line = []

@@ -1,10 +1,24 @@
--- What a line that places a request says behind its controller and its namespace.
+-- The request of a line, from the words after its controller and its namespace.
 use Rattle.std.specs.Prelude.{ℕ, Bool, true, false, ◌==◌, List, [], ◌∷◌, Option, Some, None, if◌then◌else◌}
 use Rattle.std.specs.Borrow.{Bor}
 use Rattle.script_text.specs.Numbers.{number_at}
 use Rattle.script_text.specs.Data.{data_at}
 use Rattle.nvme_driver.specs.declared.request.Request.{Request}
-use Rattle.nvme_driver.specs.declared.request.Request.TheVariants.{Read, Write, Compare, WriteZeroes, Flush, Register, Acquire, Release, Report, Protect, Protection, Attach, Detach}
+use Rattle.nvme_driver.specs.declared.request.Request.TheVariants.{
+  Read,
+  Write,
+  Compare,
+  WriteZeroes,
+  Flush,
+  Register,
+  Acquire,
+  Release,
+  Report,
+  Protect,
+  Protection,
+  Attach,
+  Detach,
+}
 use Rattle.nvme_grammar.specs.Arity.{◌>>=◌, zero_words, one, two, three, four, five}
 use Rattle.nvme_grammar.specs.Lent.{lent}
 use Rattle.nvme_grammar.specs.declared.keyword.Keyword.{Keyword}
@@ -86,7 +100,7 @@ numbers_at bits (word ∷ words) = do
   rest ← numbers_at bits words
   Some (first ∷ rest)
 
--- the request with a list that a keyword asks for
+-- the request of a keyword with a list
 abbrev pub list_request : Keyword → ℕ → List ℕ → Option Request
 list_request keyword.Attach nsid list = Some (Attach nsid (lent list))
 list_request keyword.Detach nsid list = Some (Detach nsid (lent list))
@@ -98,7 +112,7 @@ with_list ask words = do
   list ← numbers_at 16 words
   ask list
 
--- what the words behind `KEYWORD C N` ask for; other keywords ask for no request there
+-- the request of the words after `KEYWORD C N`; other keywords have none
 abbrev pub request_by : Keyword → ℕ → List (List ℕ) → Option Request
 request_by keyword.Read nsid words = on_blocks (Read nsid) words
 request_by keyword.Write nsid words = with_data (Write nsid) words

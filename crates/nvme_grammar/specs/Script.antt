@@ -1,5 +1,27 @@
--- A script: lines of the grammar, each where it may stand.
-use Rattle.std.specs.Prelude.{◌≡◌, ℕ, ◌+◌, ◌<◌, ◌≤◌, Bool, true, false, not, List, [], ◌∷◌, ◌++◌, length, take, Option, Some, None, is_some, option_map, if◌then◌else◌}
+-- A script: lines of the grammar, each at a place where it is allowed.
+use Rattle.std.specs.Prelude.{
+  ◌≡◌,
+  ℕ,
+  ◌+◌,
+  ◌<◌,
+  ◌≤◌,
+  Bool,
+  true,
+  false,
+  not,
+  List,
+  [],
+  ◌∷◌,
+  ◌++◌,
+  length,
+  take,
+  Option,
+  Some,
+  None,
+  is_some,
+  option_map,
+  if◌then◌else◌,
+}
 use Rattle.std.specs.List.{filter_map, list_any, list_all}
 use Rattle.nvme_spec.specs.Configuration.{Configuration, empty_configuration}
 use Rattle.nvme_spec.specs.declared.config.ControllerConfig.{ControllerConfig}
@@ -30,22 +52,22 @@ abbrev pub event_in : Line → Option FleetEvent
 event_in (Event event) = Some event
 event_in _ = None
 
--- whether a line may stand where a `start` was said, or none was
+-- whether a line is allowed after `start`, or before it
 abbrev pub fits : Bool → Line → Bool
 fits started Blank = true
 fits started (Event event) = started
 fits started line = not started
 
--- whether a line may stand behind these
+-- whether a line is allowed after these
 abbrev pub fits_behind : List Line → Line → Bool
 fits_behind before line = fits (list_any is_start before) line
 
--- each of the lines may stand behind those before it
+-- each of the lines is allowed after those before it
 abbrev pub ArePlaced : List Line → List Line → Type 0
 ArePlaced before [] = Unit {0}
 ArePlaced before (line ∷ lines) = (fits_behind before line ≡ true) × ArePlaced (before ++ line ∷ []) lines
 
--- what the lines of a text say
+-- the meanings of the lines of a text
 abbrev pub said : List (List ℕ) → List Line
 said raw = filter_map line_at raw
 
@@ -65,7 +87,7 @@ abbrev pub start_in : List Line → Option ℕ
 start_in [] = None
 start_in (line ∷ lines) = if is_start line then Some 1 else option_map (λ n. n + 1) (start_in lines)
 
--- what configuration lines set up, where `start` is among them; else nothing
+-- the configuration of lines, if `start` is among them; else the empty one
 abbrev pub configuration_in : List Line → Configuration
 configuration_in lines = if list_any is_start lines then record {
   controllers = filter_map controller_in lines;
@@ -73,14 +95,14 @@ configuration_in lines = if list_any is_start lines then record {
   attached = filter_map attachment_in lines;
 } else empty_configuration
 
--- what the lines of a script say
+-- the parts of a script from its lines
 pub record Says (lines : List Line) (script : Script) : Type 0 where
   pub controllers : script.config.controllers.items ≡ (configuration_in lines).controllers
   pub namespaces : script.config.namespaces.items ≡ (configuration_in lines).namespaces
   pub attached : script.config.attached.items ≡ (configuration_in lines).attached
   pub start : script.start ≡ start_in lines
 
--- what the lines of a text set up
+-- the configuration of a text
 abbrev pub configuration_of : List (List ℕ) → Configuration
 configuration_of raw = configuration_in (said raw)
 

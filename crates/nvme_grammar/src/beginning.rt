@@ -1,4 +1,4 @@
-//! Whether a text begins as a script does.
+//! Whether a file begins like a script.
 
 ghost use Rattle.std.specs.Prelude.{◌≡◌, ◌≤◌, ◌++◌, ◌∷◌, [], true, false, length, take, codes};
 ghost use Rattle.std.specs.List.{prefix_len};
@@ -17,7 +17,7 @@ fn is_visible_byte(byte: u8) -> bool
     33 <= byte && byte <= 126
 }
 
-/// How many visible characters stand at the front of some bytes.
+/// The number of visible characters at the front of some bytes.
 fn front_len(bytes: &[u8]) -> usize
     ensures exact { result ≡ prefix_len is_visible bytes.now }
     ensures within { result ≤ length bytes.now }
@@ -36,7 +36,7 @@ fn front_word(bytes: &[u8]) -> &[u8]
     word
 }
 
-/// Whether a line begins with a keyword. `None` where it is a comment, or has only separators.
+/// Whether a line begins with a keyword. `None` if it is a comment, or has only separators.
 fn line_begins(line: &[u8]) -> Option<bool>
     ensures { result ≡ line_begins line.now }
 {
@@ -72,8 +72,8 @@ fn lacks_zeros(text: &[u8]) -> bool
     text.iter().all(|byte| *byte != 0)
 }
 
-/// Whether a text begins as a script does: it has no byte 00h, and its first line that is neither empty nor a comment
-/// begins with a word that lines of a script begin with. It may be no script for all that.
+/// Whether a file begins like a script: it has no byte 00h, and its first line that is neither empty nor a comment
+/// begins with a keyword. It need not be a script.
 #[tactic(auto, unfolding(crate::specs::Beginnings::begins_script))]
 pub fn begins_script(text: &[u8]) -> bool
     ensures { result ≡ begins_script text.now }

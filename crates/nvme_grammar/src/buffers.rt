@@ -1,4 +1,4 @@
-//! Where the bytes and the identifiers of a script's events lie.
+//! Buffers for the bytes and the identifiers of a script's events.
 
 ghost use Rattle.std.specs.Prelude.{◌+◌, ◌/◌, ◌≤◌, max, length, IfOk};
 ghost use Rattle.nvme_spec.specs.Limits.{most_bytes};
@@ -9,18 +9,18 @@ use nvme_spec::MOST_BYTES;
 use script_text::line_bound;
 use std::alloc::{AllocError, Global};
 
-/// Memory for what one event of a script holds. The same is used for each line, one after the other.
+/// The buffers for one event of a script, reused for each line.
 #[derive(Drop)]
 pub struct Buffers {
-    /// Room for the data of a request, or the bytes of a store.
+    /// A buffer for the data of a request, or the bytes of a store.
     pub bytes: Vec<u8>,
-    /// Room for a list of controller identifiers.
+    /// A buffer for a list of controller identifiers.
     pub identifiers: Vec<u16>,
 }
 
 impl Buffers {
-    /// Room for each line of a text: 131,072 bytes, or one byte for each two bytes of its longest line where that is
-    /// more, and one identifier for each two bytes of that line; 2,049 more of either, at most. `AllocError` where memory
+    /// Buffers for each line of a text: 131,072 bytes, or one byte for each two bytes of its longest line if that is
+    /// more, and one identifier for each two bytes of that line; at most 2,049 more of either. `AllocError` if memory
     /// is refused.
     pub fn for_text(alloc: Global, text: &[u8]) -> Result<Buffers, AllocError>
         ensures bytes { IfOk result (λ buffers. HasTextRoom text.now buffers.bytes.items) }

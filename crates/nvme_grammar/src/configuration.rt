@@ -1,4 +1,4 @@
-//! The lines before `start`, and `start`: how a subsystem is set up.
+//! Parses the lines before `start`, and `start`: the configuration of a subsystem.
 
 ghost use Rattle.std.specs.Prelude.{◌≡◌, map, option_map, true};
 ghost use Rattle.nvme_grammar.specs.Reader.{sentence_behind, sets_up_by_words};
@@ -14,7 +14,7 @@ use arrayvec::ArrayVec;
 use nvme_spec::{ControllerConfig, NsConfig};
 use script_text::{number_u16, number_u32, number_u64, number_u128, words_of};
 
-/// Whether a controller's host is raw: what follows `controller C host H`, nothing or `raw`, says it.
+/// Whether a controller's host is raw, by the words after `controller C host H`: none, or `raw`.
 fn is_raw(words: &[&[u8]]) -> Option<bool>
     ensures { result ≡ rawness (map (λ word. word.now) words.now) }
 {
@@ -89,7 +89,7 @@ pub fn attached_in(line: &[u8]) -> Option<Line<'static>>
     }
 }
 
-/// `start`, which no word follows.
+/// `start`, without its first word: no word follows.
 fn start_of(words: &[&[u8]]) -> Option<Line<'static>>
     ensures { option_map line_by_value result ≡ start (map (λ word. word.now) words.now) }
 {
@@ -100,7 +100,7 @@ fn start_of(words: &[&[u8]]) -> Option<Line<'static>>
     }
 }
 
-/// What a line says behind one of the other keywords of lines before `start`, or behind `start`.
+/// Parses a line after one of the other keywords of lines before `start`, or after `start`.
 pub fn setup_of(keyword: Keyword, line: &[u8]) -> Option<Line<'static>>
     requires { sets_up_by_words keyword ≡ true }
     ensures { option_map line_by_value result ≡ sentence_behind keyword line.now }

@@ -1,14 +1,47 @@
-//! Worked examples of the definitions: the contract of each function here is computed by the check.
+//! Worked examples of the definitions. Each is the contract of an empty function, proved by computing.
 
 ghost use Rattle.std.specs.Prelude.{◌≡◌, ◌++◌, ◌∷◌, [], ℕ, List, true, false, Some, None, codes, replicate, take};
-ghost use Rattle.nvme_event.specs.declared.event.FleetEvent.TheVariants.{BringUp, Place, Ring, Fetch, Execute, Poll, Reset, RawStore, RawWrite32, PowerCycle};
+ghost use Rattle.nvme_event.specs.declared.event.FleetEvent.TheVariants.{
+  BringUp,
+  Place,
+  Ring,
+  Fetch,
+  Execute,
+  Poll,
+  Reset,
+  RawStore,
+  RawWrite32,
+  PowerCycle,
+};
 ghost use Rattle.script_text.specs.Lines.{text_lines};
 ghost use Rattle.nvme_grammar.specs.Line.{line_at};
 ghost use Rattle.nvme_grammar.specs.Lent.{lent};
 ghost use Rattle.nvme_grammar.specs.Script.{Begins, IsFirstOutside, events_of, configuration_of, start_of};
 ghost use Rattle.nvme_grammar.specs.Example.{example_setup, example_events, example_asked};
-ghost use Rattle.nvme_grammar.specs.declared.line.Line.TheVariants.{Blank, Controller, Namespace, Attached, Start, Event};
-ghost use Rattle.nvme_driver.specs.declared.request.Request.TheVariants.{Read, Write, Compare, WriteZeroes, Flush, Register, Acquire, Release, Report, Identify, Protect, Protection, Attach, Detach};
+ghost use Rattle.nvme_grammar.specs.declared.line.Line.TheVariants.{
+  Blank,
+  Controller,
+  Namespace,
+  Attached,
+  Start,
+  Event,
+};
+ghost use Rattle.nvme_driver.specs.declared.request.Request.TheVariants.{
+  Read,
+  Write,
+  Compare,
+  WriteZeroes,
+  Flush,
+  Register,
+  Acquire,
+  Release,
+  Report,
+  Identify,
+  Protect,
+  Protection,
+  Attach,
+  Detach,
+};
 ghost use Rattle.nvme_spec.specs.Configuration.{empty_configuration};
 
 #[tactic(auto, unfolding(crate::proofs::OnLiterals::lines_on_literals))]

@@ -1,39 +1,62 @@
-//! Why a line is refused, and where in it.
+//! Why a line is refused, and the place in it.
 
-ghost use Rattle.std.specs.Prelude.{◌≡◌, ◌↔◌, ◌<◌, ◌≤◌, ◌-◌, true, false, length, option_map, None, Some, IfSome, IsNone};
+ghost use Rattle.std.specs.Prelude.{
+  ◌≡◌,
+  ◌↔◌,
+  ◌<◌,
+  ◌≤◌,
+  ◌-◌,
+  true,
+  false,
+  length,
+  option_map,
+  None,
+  Some,
+  IfSome,
+  IsNone,
+};
 ghost use Rattle.script_text.specs.Words.{line_words, is_line_text, starts_apart, from_word, most_words};
 ghost use Rattle.nvme_grammar.specs.Line.{line_at};
 ghost use Rattle.nvme_grammar.specs.Room.{HasBytesRoom};
-ghost use Rattle.nvme_grammar.specs.LineFaults.{IsAllowed, fault_of, fault_by_value, foreign_fault, misfit, misplaced, keyword_fault, word_number};
+ghost use Rattle.nvme_grammar.specs.LineFaults.{
+  IsAllowed,
+  fault_of,
+  fault_by_value,
+  foreign_fault,
+  misfit,
+  misplaced,
+  keyword_fault,
+  word_number,
+};
 
 use super::keyword::Keyword;
 use super::line::is_comment_line;
 use super::place::Place;
 use script_text::{FirstWord, behind_separators, first_word, text_len};
 
-/// Why a line is refused, and where. Its text is the column, the word where it is one in particular, and the reason.
+/// Why a line is refused, and the place. Its text is the column, the word if it is a single one, and the reason.
 #[derive(Clone, Copy)]
 pub struct LineFault<'a> {
-    /// Where it stands in the line, in bytes from 1: the byte or the word that is at fault, or the first word where it is
-    /// the line as a whole.
+    /// The column in bytes, from 1: of the byte or the word at fault, or of the first word if it is the line as a
+    /// whole.
     pub column: usize,
-    /// What is at fault.
+    /// The fault.
     pub why: Why<'a>,
 }
 
-/// Why a line is refused. Its text says so in a sentence.
+/// Why a line is refused. Its text is a sentence.
 #[derive(Clone, Copy)]
 pub enum Why<'a> {
-    /// This byte neither stands between words nor may stand in one.
+    /// This byte is neither a separator nor visible.
     Byte(u8),
-    /// No line begins with this word; the keyword that it is near to, if there is one.
+    /// No line begins with this word; the keyword that it resembles, if there is one.
     Unknown {
         word: &'a [u8],
         nearest: Option<Keyword>,
     },
-    /// The line has not as many words as its keyword takes.
+    /// The line does not have as many words as its keyword takes.
     Count(Keyword),
-    /// The word with this number, from 1, is not what its place wants.
+    /// The word with this number, from 1, does not fit its place.
     Misfit {
         number: usize,
         wanted: Place,
@@ -41,12 +64,12 @@ pub enum Why<'a> {
     },
     /// An event before `start`.
     TooEarly(Keyword),
-    /// A line that sets up, or a second `start`, behind `start`.
+    /// A setup line, or a second `start`, after `start`.
     TooLate(Keyword),
 }
 
 impl Why<'_> {
-    /// The number of the word that is at fault, from 1; 1 too where it is a byte, or the line as a whole.
+    /// The number of the word at fault, from 1; also 1 if it is a byte, or the line as a whole.
     pub fn word(&self) -> usize
         ensures { result ≡ word_number self.now }
     {
@@ -61,7 +84,7 @@ impl Why<'_> {
     }
 }
 
-/// The first byte of a line that neither stands between words nor may stand in one, if there is one.
+/// The first byte of a line that is neither a separator nor visible, if there is one.
 pub fn foreign_byte(line: &[u8]) -> Option<LineFault<'_>>
     ensures none { IsNone result → is_line_text line.now ≡ true }
     ensures some { IfSome result
@@ -77,7 +100,7 @@ pub fn foreign_byte(line: &[u8]) -> Option<LineFault<'_>>
     })
 }
 
-/// How many words a line has that begins with none of the separators.
+/// The number of words of a line that does not begin with a separator.
 fn word_count(line: &[u8]) -> usize
     requires text { is_line_text line.now ≡ true }
     requires apart { starts_apart line.now ≡ true }
@@ -95,7 +118,7 @@ fn word_count(line: &[u8]) -> usize
     count
 }
 
-/// The first word behind the keyword that is not what its place wants.
+/// The first word after the keyword that does not fit its place.
 fn misfit_of<'a>(
     keyword: Keyword,
     line: &'a [u8],
@@ -133,7 +156,7 @@ fn misfit_of<'a>(
     None
 }
 
-/// Why a line that would do elsewhere may not stand where it does.
+/// Why a line that is allowed elsewhere is not allowed at its place.
 fn misplaced_at<'a>(keyword: Keyword, column: usize, started: bool) -> Option<LineFault<'a>>
     ensures { option_map fault_by_value result ≡ misplaced started keyword column }
 {
@@ -208,10 +231,10 @@ fn fault_of<'a>(line: &'a [u8], started: bool, bytes: &mut [u8]) -> Option<LineF
     keyword_fault_of(keyword, line, first, started, bytes)
 }
 
-/// Why a line is refused, if it is: by a byte that may not stand in it, by its words from the left, or, where it would do
-/// elsewhere, by where it stands: behind `start`, or before it. The buffer is overwritten.
+/// Why a line is refused, if it is: a byte that it may not have, its words from the left, or, if it is allowed
+/// elsewhere, its place before or after `start`. The buffer is overwritten.
 ///
-/// There is a fault exactly where `parse_line` answers `None`, or the line may not stand where it does.
+/// There is a fault exactly if `parse_line` returns `None`, or the line is not allowed at its place.
 pub fn line_fault<'a>(line: &'a [u8], started: bool, bytes: &mut [u8]) -> Option<LineFault<'a>>
     requires bytes_room { HasBytesRoom line.now bytes.old }
     ensures fault { option_map fault_by_value result ≡ fault_of started line.now }

@@ -1,4 +1,4 @@
-//! Worked examples of the faults of lines: the contract of each function here is computed by the check.
+//! Worked examples of the faults of lines. Each is the contract of an empty function, proved by computing.
 
 ghost use Rattle.std.specs.Prelude.{◌≡◌, ◌++◌, ◌∷◌, [], List, ℕ, Bool, true, false, Some, None, codes};
 ghost use Rattle.nvme_grammar.specs.Lent.{lent};
@@ -8,7 +8,15 @@ ghost use Rattle.nvme_grammar.specs.Keywords.{nearest_to};
 ghost use Rattle.nvme_grammar.specs.declared.fault.Why.TheVariants.{Byte, Unknown, Count, Misfit, TooEarly, TooLate};
 ghost use Rattle.nvme_grammar.specs.declared.place.Operand.TheVariants.{Cntlid, Nsid, Queue, Host as HostId};
 ghost use Rattle.nvme_grammar.specs.declared.place.Place.TheVariants.{Number, Host, Raw};
-ghost use Rattle.nvme_grammar.specs.declared.keyword.Keyword.TheVariants.{Write, Attach, Attached, Up, Read, Start, PowerCycle};
+ghost use Rattle.nvme_grammar.specs.declared.keyword.Keyword.TheVariants.{
+  Write,
+  Attach,
+  Attached,
+  Up,
+  Read,
+  Start,
+  PowerCycle,
+};
 
 #[tactic(auto, unfolding(crate::proofs::OnLiterals::faults_on_literals))]
 pub fn misfits()
@@ -60,18 +68,18 @@ pub fn near_words()
     ensures part { nearest_to (codes "power") ≡ None }
 {}
 
-/// The texts of what lines may be refused for.
+/// The texts of the reasons for which lines are refused.
 #[tactic(auto, unfolding(crate::specs::FaultTexts::prefix_text))]
 pub fn texts()
     ensures count { why_text (Count PowerCycle) ≡ codes "powercycle takes 1 word: powercycle" }
     ensures early { why_text (TooEarly PowerCycle)
-        ≡ codes "powercycle needs a 'start' before it, and there is none" }
+        ≡ codes "powercycle needs a 'start' before it" }
     ensures attach { why_text (TooEarly Attach)
-        ≡ codes "attach needs a 'start' before it, and there is none; did you mean 'attached'?" }
+        ≡ codes "attach needs a 'start' before it; did you mean 'attached'?" }
     ensures host { prefix_text (Number HostId) (codes "a1") ≡ codes "; did you mean '0xa1'?" }
     ensures no_digit { prefix_text (Number HostId) (codes "g1") ≡ [] }
     ensures too_wide { prefix_text (Number Cntlid) (codes "65536") ≡ [] }
-    ensures no_number { why_text (Misfit 3 Host (lent (codes "ab"))) ≡ codes "the word 'host', and not 'ab'" }
+    ensures no_number { why_text (Misfit 3 Host (lent (codes "ab"))) ≡ codes "the word 'host', not 'ab'" }
     ensures near { why_text (Unknown (lent (codes "powercycel")) (Some PowerCycle))
         ≡ codes "there is no line 'powercycel'; did you mean 'powercycle'?" }
 {}

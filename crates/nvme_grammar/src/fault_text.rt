@@ -18,10 +18,10 @@ use script_text::{
 };
 use std::fmt;
 
-/// How many bytes of a word are shown.
+/// The most bytes of a word that are shown.
 const MOST_SHOWN: usize = 32;
 
-/// How many bytes the text of a fault has at most, and some more.
+/// The most bytes of a fault's text, and some more.
 const ROOM: usize = 512;
 
 impl fmt::Display for LineFault<'_> {
@@ -47,7 +47,7 @@ impl Spell for LineFault<'_> {
     }
 }
 
-/// Puts which word is at fault, where it is one in particular.
+/// Puts which word is at fault, if it is a single one.
 fn put_number_of_word<P: Page>(page: &mut P, why: Why<'_>) -> Result<(), NoRoom>
     ensures { Adds P.room result (P.written page.old) (spec.word_text why.entry) (P.written page.new) }
 {
@@ -76,7 +76,7 @@ impl Spell for Why<'_> {
     }
 }
 
-/// Puts that a byte may not stand in a line.
+/// Puts that a line may not have a byte.
 fn put_foreign<P: Page>(page: &mut P, byte: u8) -> Result<(), NoRoom>
     ensures { Adds P.room result (P.written page.old) (spec.why_text (line_why.Byte byte)) (P.written page.new) }
 {
@@ -84,7 +84,7 @@ fn put_foreign<P: Page>(page: &mut P, byte: u8) -> Result<(), NoRoom>
     put_byte_between(page, "the byte \\x", byte, behind)
 }
 
-/// Puts that no line begins with a word, and which keyword is meant, as a question.
+/// Puts that no line begins with a word, and the keyword that was probably intended, as a question.
 fn put_unknown<P: Page>(page: &mut P, word: &[u8], nearest: Option<Keyword>) -> Result<(), NoRoom>
     ensures { Adds P.room result (P.written page.old) (spec.unknown_text word.now nearest) (P.written page.new) }
 {
@@ -92,7 +92,7 @@ fn put_unknown<P: Page>(page: &mut P, word: &[u8], nearest: Option<Keyword>) -> 
     put_nearest(page, nearest)
 }
 
-/// Puts how many words the lines of a keyword have, and how such a line is written.
+/// Puts the number of words of a keyword's lines, and the form of such a line.
 fn put_count<P: Page>(page: &mut P, keyword: Keyword) -> Result<(), NoRoom>
     ensures { Adds P.room result (P.written page.old) (spec.why_text (line_why.Count keyword)) (P.written page.new) }
 {
@@ -103,7 +103,7 @@ fn put_count<P: Page>(page: &mut P, keyword: Keyword) -> Result<(), NoRoom>
     page.put_str(keyword.form())
 }
 
-/// Puts how many words a line has, its keyword among them.
+/// Puts the number of words of a line, with its keyword.
 fn put_words<P: Page>(page: &mut P, words: u64, behind: Behind) -> Result<(), NoRoom>
     ensures { Adds P.room result (P.written page.old) (spec.count_text words behind) (P.written page.new) }
 {
@@ -118,39 +118,35 @@ fn put_words<P: Page>(page: &mut P, words: u64, behind: Behind) -> Result<(), No
     })
 }
 
-/// Puts that a word is not what its place wants.
+/// Puts that a word does not fit its place.
 fn put_misfit<P: Page>(page: &mut P, wanted: Place, word: &[u8]) -> Result<(), NoRoom>
     ensures { Adds P.room result (P.written page.old) (spec.misfit_text wanted word.now) (P.written page.new) }
 {
     wanted.spell(page)?;
-    put_word_between(page, ", and not '", word, "'")?;
+    put_word_between(page, ", not '", word, "'")?;
     put_prefix(page, wanted, word)
 }
 
-/// Puts that an event stands before `start`, and which line there is meant, as a question.
+/// Puts that an event precedes `start`, and the line that was probably intended, as a question.
 fn put_too_early<P: Page>(page: &mut P, keyword: Keyword) -> Result<(), NoRoom>
     ensures { Adds P.room result (P.written page.old) (spec.why_text (line_why.TooEarly keyword)) (P.written page.new) }
 {
-    let behind = " needs a 'start' before it, and there is none";
+    let behind = " needs a 'start' before it";
     put_both(page, keyword.text(), behind)?;
     put_nearest(page, meant_early(keyword))
 }
 
-/// Puts that a line stands behind `start`.
+/// Puts that a line follows `start`.
 fn put_too_late<P: Page>(page: &mut P, keyword: Keyword) -> Result<(), NoRoom>
     ensures { Adds P.room result (P.written page.old) (spec.too_late_text keyword) (P.written page.new) }
 {
     match keyword {
-        Keyword::Start => page.put_str("start stands in a script once"),
-        _ => put_both(
-            page,
-            keyword.text(),
-            " stands before 'start', which was said already",
-        ),
+        Keyword::Start => page.put_str("a script has only one start"),
+        _ => put_both(page, keyword.text(), " must come before 'start'"),
     }
 }
 
-/// Puts the keyword that is meant, as a question.
+/// Puts the keyword that was probably intended, as a question.
 fn put_nearest<P: Page>(page: &mut P, nearest: Option<Keyword>) -> Result<(), NoRoom>
     ensures { Adds P.room result (P.written page.old) (spec.nearest_text nearest) (P.written page.new) }
 {
@@ -160,7 +156,7 @@ fn put_nearest<P: Page>(page: &mut P, nearest: Option<Keyword>) -> Result<(), No
     put_three(page, "; did you mean '", keyword.text(), "'?")
 }
 
-/// The line before `start` that is meant by an event there.
+/// The line before `start` that was probably intended by an event there.
 fn meant_early(keyword: Keyword) -> Option<Keyword>
     ensures { result ≡ meant_early keyword }
 {
@@ -170,21 +166,21 @@ fn meant_early(keyword: Keyword) -> Option<Keyword>
     }
 }
 
-/// Whether a word has hexadecimal digits alone.
+/// Whether a word has only hexadecimal digits.
 fn are_digits(word: &[u8]) -> bool
     ensures { result ≡ list_all is_ascii_hexdigit word.now }
 {
     word.iter().all(|byte| byte.is_ascii_hexdigit())
 }
 
-/// Whether a word is hexadecimal digits that lack their `0x`, and would fit with it.
+/// Whether a word has hexadecimal digits without `0x`, and would fit with it.
 fn lacks_prefix(operand: Operand, word: &[u8]) -> bool
     ensures { result ≡ spec.lacks_prefix operand word.now }
 {
     word.len() <= operand.digits() && are_digits(word)
 }
 
-/// Puts the number that is meant by a word that lacks its `0x`, as a question.
+/// Puts the number that was probably intended by a word without `0x`, as a question.
 #[tactic(auto, unfolding(crate::specs::FaultTexts::prefix_text))]
 fn put_prefix<P: Page>(page: &mut P, place: Place, word: &[u8]) -> Result<(), NoRoom>
     ensures { Adds P.room result (P.written page.old) (spec.prefix_text place word.now) (P.written page.new) }
@@ -197,7 +193,7 @@ fn put_prefix<P: Page>(page: &mut P, place: Place, word: &[u8]) -> Result<(), No
     }
 }
 
-/// Puts a word, as reasons show it, between two texts.
+/// Puts a word between two texts, in the form for reasons.
 pub fn put_word_between<P: Page>(
     page: &mut P,
     front: &str,
@@ -243,8 +239,8 @@ fn front_of(word: &[u8]) -> &[u8]
     &word[..MOST_SHOWN]
 }
 
-/// A word as reasons show it: its first 32 bytes, each escaped where it is no visible character, and two dots where there
-/// are more.
+/// A word in the form for reasons: its first 32 bytes, each escaped unless it is a visible character, and two dots if
+/// there are more.
 #[derive(Clone, Copy)]
 pub struct ShownWord<'a>(pub &'a [u8]);
 

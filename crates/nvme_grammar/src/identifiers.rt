@@ -15,8 +15,8 @@ use nvme_driver::Request;
 use nvme_event::FleetEvent;
 use script_text::{first_word, number_u16};
 
-/// Puts the identifiers that the words of a line spell at the front of a buffer, and tells how many they are. `None`
-/// where a word spells none, or the line is no text.
+/// Puts the identifiers in the words of a line at the front of a buffer, and returns their number. `None` if a word is
+/// not an identifier, or the line is not text.
 fn identifiers_behind(line: &[u8], buffer: &mut [u16]) -> Option<usize>
     requires apart { starts_apart line.now ≡ true }
     requires room { most_words line.now ≤ length buffer.old }
@@ -34,7 +34,7 @@ fn identifiers_behind(line: &[u8], buffer: &mut [u16]) -> Option<usize>
     Some(count)
 }
 
-/// The request with a list that a keyword asks for.
+/// The request of a keyword with a list.
 fn list_request_of<'a>(keyword: Keyword, nsid: u32, list: &'a [u16]) -> Option<Request<'a>>
     ensures { option_map request_by_value result ≡ list_request keyword nsid list.now }
 {

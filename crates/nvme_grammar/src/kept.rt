@@ -1,4 +1,4 @@
-//! Events of a script, from when it is judged until they happen.
+//! The events of a script as they are stored, from its check until they happen.
 
 ghost use Rattle.std.specs.Prelude.{◌≡◌, ◌≤◌, length, option_map};
 ghost use Rattle.script_text.specs.Words.{most_words};
@@ -10,8 +10,8 @@ use super::line::{Line, parse_line};
 use nvme_event::FleetEvent;
 use script_text::front_line;
 
-/// An event of a text, in eight bytes: itself where it is a keyword and one number or two, as most are; else where its
-/// line begins, which is parsed again.
+/// An event of a text, in eight bytes: itself if it is a keyword and one number or two, as most are; otherwise the
+/// position of its line, which is parsed again.
 #[derive(Clone, Copy)]
 pub enum KeptEvent {
     BringUp(u16),
@@ -20,12 +20,12 @@ pub enum KeptEvent {
     Execute(u16, u16),
     Poll(u16),
     Reset(u16),
-    /// The event of the line that begins behind so many bytes of the text.
+    /// The event of the line at this byte of the text.
     Line(u32),
 }
 
 impl KeptEvent {
-    /// An event as it is kept, whose line begins behind so many bytes.
+    /// An event as it is stored, whose line begins after `before` bytes.
     #[inline(always)]
     pub fn of(event: &FleetEvent, before: u32) -> KeptEvent
         ensures { result ≡ kept_as before event.now }
@@ -44,8 +44,8 @@ impl KeptEvent {
         }
     }
 
-    /// The event that is kept so, of this text. The bytes and the identifiers of one whose line is parsed again are put
-    /// into these buffers, which it borrows. `None` where that line says no event.
+    /// The event of this text that is stored in this form. The bytes and the identifiers of one whose line is parsed
+    /// again are put into these buffers, which it borrows. `None` if that line is not an event.
     #[inline]
     pub fn event<'a>(
         self,
@@ -74,7 +74,7 @@ impl KeptEvent {
     }
 }
 
-/// The event that a line says, if it says one.
+/// The event of a line, if it has one.
 fn event_of_line<'a>(
     line: &[u8],
     bytes: &'a mut [u8],

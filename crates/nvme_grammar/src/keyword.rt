@@ -1,7 +1,18 @@
-//! The words that lines begin with, and what stands behind each of them.
+//! The words that lines begin with, and the places after each of them.
 
 ghost use Rattle.std.specs.Prelude.{◌≡◌, IfSome};
-ghost use Rattle.nvme_grammar.specs.Keywords.{keyword_text, keyword_texts, keyword_of, places_of, behind_of, place_at, takes_words, sets_up, form_text, nearest_to};
+ghost use Rattle.nvme_grammar.specs.Keywords.{
+  keyword_text,
+  keyword_texts,
+  keyword_of,
+  places_of,
+  behind_of,
+  place_at,
+  takes_words,
+  sets_up,
+  form_text,
+  nearest_to,
+};
 ghost use Rattle.nvme_grammar.specs.Near.{is_meant};
 
 use super::near::is_meant;
@@ -70,7 +81,7 @@ const KEYWORDS: [Keyword; 27] = [
     Keyword::PowerCycle,
 ];
 
-/// Their texts in this order, each behind a space.
+/// Their texts in this order, each after a space.
 const KEYWORD_TEXTS: &str =
     " controller namespace attached start up read write compare zeroes flush register acquire release report \
 identify protect protection attach detach ring fetch execute poll reset store write32 powercycle";
@@ -82,7 +93,7 @@ const CNTLID: Place = Place::Number(Operand::Cntlid);
 const NSID: Place = Place::Number(Operand::Nsid);
 
 impl Keyword {
-    /// All keywords, each behind a space: those of the lines before `start` first.
+    /// All keywords, each after a space: those of the lines before `start` first.
     pub fn all_texts() -> &'static str
         ensures { result.now ≡ keyword_texts }
     {
@@ -124,7 +135,8 @@ impl Keyword {
         }
     }
 
-    /// A line of this keyword, with the names of its places: what is in brackets may be left out, and `..` goes on.
+    /// A line of this keyword, with the names of its places: a part in brackets may be left out, and `..` means any
+    /// number of words.
     pub fn form(self) -> &'static str
         ensures { result.now ≡ form_text self }
     {
@@ -159,7 +171,7 @@ impl Keyword {
         }
     }
 
-    /// What stands behind the keyword, word by word.
+    /// The places after the keyword, word by word.
     pub(crate) fn places(self) -> &'static [Place]
         ensures { result.now ≡ places_of self }
     {
@@ -241,7 +253,7 @@ impl Keyword {
         }
     }
 
-    /// Whether its lines stand before `start`, or are `start`; all others stand behind it.
+    /// Whether its lines precede `start`, or are `start`; all others follow it.
     pub(crate) fn sets_up(self) -> bool
         ensures { result ≡ sets_up self }
     {
@@ -251,7 +263,7 @@ impl Keyword {
         }
     }
 
-    /// The place of the word with this index behind the keyword, from 0, if a line goes so far.
+    /// The place of the word with this index after the keyword, from 0, if a line is that long.
     pub(crate) fn place(self, index: usize) -> Option<Place>
         ensures { result ≡ place_at self index }
     {
@@ -262,7 +274,7 @@ impl Keyword {
         }
     }
 
-    /// Whether so many words may follow the keyword.
+    /// Whether `words` words may follow the keyword.
     pub(crate) fn takes(self, words: usize) -> bool
         ensures { result ≡ takes_words self words }
     {
@@ -270,7 +282,7 @@ impl Keyword {
         places <= words && self.behind().takes(words - places)
     }
 
-    /// The keyword that a word is. `None` where it is none of those that stand behind `start` most.
+    /// The keyword of a word. `None` if it is not one of the most frequent keywords after `start`.
     #[inline(always)]
     pub(crate) fn frequent_of(word: &[u8]) -> Option<Keyword>
         ensures { IfSome result (λ keyword. word.now ≡ keyword_text keyword) }
@@ -300,7 +312,7 @@ impl Keyword {
         }
     }
 
-    /// The keyword that a word is, if it is one.
+    /// The keyword of a word, if it is one.
     #[inline(never)]
     #[tactic(auto, unfolding(crate::specs::Keywords::keyword_of))]
     pub fn of(word: &[u8]) -> Option<Keyword>
@@ -316,7 +328,7 @@ impl Keyword {
         None
     }
 
-    /// The keyword that a word is, if it is one: those that stand behind `start` most are looked for first.
+    /// The keyword of a word, if it is one: the most frequent keywords after `start` are tried first.
     #[inline(always)]
     pub(crate) fn first_of(word: &[u8]) -> Option<Keyword>
         ensures { result ≡ keyword_of word.now }
@@ -327,8 +339,8 @@ impl Keyword {
         }
     }
 
-    /// The first keyword that a word is near to: one letter is wrong, missing or too many, two are exchanged, or some are
-    /// capitals.
+    /// The first keyword that a word resembles: one letter is wrong, missing or too many, two are exchanged, or some
+    /// are capitals.
     #[tactic(auto, unfolding(crate::specs::Keywords::nearest_to))]
     pub(crate) fn nearest(word: &[u8]) -> Option<Keyword>
         ensures { result ≡ nearest_to word.now }

@@ -1,5 +1,5 @@
-//! The grammar of scripts: from the bytes of a text to a checked script, and from the bytes of a line to the event of a
-//! fleet that it asks for.
+//! The grammar of scripts: parses the bytes of a text to a checked script, and the bytes of a line to the event of a
+//! fleet.
 #![tactic(auto)]
 
 mod beginning;

@@ -1,4 +1,4 @@
-//! What one line of a script says.
+//! The meaning of one line of a script.
 
 ghost use Rattle.std.specs.Prelude.{◌≡◌, ◌≤◌, length, option_map};
 ghost use Rattle.script_text.specs.Words.{most_words};
@@ -7,15 +7,15 @@ ghost use Rattle.nvme_grammar.specs.Line.{is_comment, line_at};
 ghost use Rattle.nvme_grammar.specs.Reading.{line_aside};
 ghost use Rattle.nvme_grammar.specs.Room.{HasBytesRoom};
 
-use super::reader::{judged_by, keyword_in, line_by};
+use super::reader::{checked_by, keyword_in, line_by};
 use nvme_event::FleetEvent;
 use nvme_spec::{ControllerConfig, NsConfig};
 use script_text::behind_separators;
 
-/// What one line of a script says.
+/// The meaning of one line of a script.
 #[derive(Clone, Copy)]
 pub enum Line<'a> {
-    /// A comment, or a line without words: it says nothing.
+    /// A comment, or a line without words: it has no effect.
     Blank,
     /// `controller C host H`, or `controller C host H raw`
     Controller(ControllerConfig),
@@ -25,7 +25,7 @@ pub enum Line<'a> {
     Attached { cntlid: u16, nsid: u32 },
     /// `start`
     Start,
-    /// A line behind `start`.
+    /// A line after `start`.
     Event(FleetEvent<'a>),
 }
 
@@ -36,8 +36,8 @@ pub fn is_comment_line(line: &[u8]) -> bool
     line.first() == Some(&b'#')
 }
 
-/// What a line says, without the line feed that ends it: `None` where it is outside the grammar. The bytes and the
-/// identifiers of an event are put into these buffers, and the line's answer borrows them.
+/// Parses a line, without the line feed that ends it: `None` if it is outside the grammar. The bytes and the
+/// identifiers of an event are put into these buffers, and the line that is returned borrows them.
 #[tactic(auto, unfolding(crate::specs::Line::line_at))]
 pub fn parse_line<'a>(
     line: &[u8],
@@ -62,10 +62,10 @@ pub fn parse_line<'a>(
     line_by(keyword, behind, bytes, identifiers)
 }
 
-/// What a line says, as `parse_line` does, but for its event where it is parsed again before it happens: any such event
-/// stands for that. A script is judged by it, so that data are not put together.
+/// Parses a line as `parse_line` does, except that an event whose line is parsed again before it happens is replaced by
+/// a placeholder. The check of a script uses this, so that data are not decoded.
 #[tactic(auto, unfolding(crate::specs::Line::line_at))]
-pub fn judged_line<'a>(
+pub fn checked_line<'a>(
     line: &[u8],
     bytes: &'a mut [u8],
     identifiers: &'a mut [u16],
@@ -85,5 +85,5 @@ pub fn judged_line<'a>(
         return Some(Line::Blank);
     }
     let (keyword, behind) = keyword_in(start)?;
-    judged_by(keyword, behind, bytes, identifiers)
+    checked_by(keyword, behind, bytes, identifiers)
 }

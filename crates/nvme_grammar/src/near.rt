@@ -1,4 +1,4 @@
-//! Words that differ a little.
+//! Words that differ a little, for suggestions.
 
 ghost use Rattle.std.specs.Prelude.{◌≡◌, drop};
 ghost use Rattle.nvme_grammar.specs.Near.{are_exchanged, differ_little, is_near as near, is_meant};
@@ -36,7 +36,7 @@ fn differ_little(word: &[u8], other: &[u8]) -> bool
         || are_exchanged(word, other)
 }
 
-/// Whether a word is another, but for one byte that is wrong, missing or too many, or two that are exchanged.
+/// Whether a word is another one with one byte wrong, missing or too many, or two exchanged.
 fn is_near(word: &[u8], other: &[u8]) -> bool
     ensures { result ≡ near word.now other.now }
 {
@@ -55,7 +55,7 @@ fn is_near(word: &[u8], other: &[u8]) -> bool
     differ_little(left, right)
 }
 
-/// Whether a word is near to another, or the same but for the case of its letters.
+/// Whether a word resembles another one, or differs only in the case of its letters.
 #[tactic(auto, unfolding(crate::specs::Near::is_meant))]
 pub fn is_meant(word: &[u8], other: &[u8]) -> bool
     ensures { result ≡ is_meant word.now other.now }

@@ -1,9 +1,35 @@
-//! Numbers behind a keyword, and the events that they say.
+//! Numbers after a keyword, and the events of them.
 
-ghost use Rattle.std.specs.Prelude.{◌≡◌, ◌<◌, ◌≤◌, ◌^◌, ◌&&◌, ◌∷◌, [], List, ℕ, true, false, drop, length, IfSome, IsNone, Some};
+ghost use Rattle.std.specs.Prelude.{
+  ◌≡◌,
+  ◌<◌,
+  ◌≤◌,
+  ◌^◌,
+  ◌&&◌,
+  ◌∷◌,
+  [],
+  List,
+  ℕ,
+  true,
+  false,
+  drop,
+  length,
+  IfSome,
+  IsNone,
+  Some,
+};
 ghost use Rattle.script_text.specs.Front.{begins_number};
 ghost use Rattle.script_text.specs.Words.{is_line_text, line_words, starts_apart};
-ghost use Rattle.nvme_grammar.specs.Reader.{Numbers, SaysEvent, have_bits, bits_of, is_numeric, asks, has_operands, reserves};
+ghost use Rattle.nvme_grammar.specs.Reader.{
+  Numbers,
+  SaysEvent,
+  have_bits,
+  bits_of,
+  is_numeric,
+  asks,
+  has_operands,
+  reserves,
+};
 ghost use Rattle.nvme_grammar.specs.Lent.{request_by_value};
 ghost use Rattle.nvme_grammar.specs.Requests.{request_by};
 
@@ -14,10 +40,10 @@ use nvme_driver::Request;
 use nvme_event::FleetEvent;
 use script_text::front_number;
 
-/// The most numbers that stand behind a keyword, but for those of a list.
+/// The most numbers after a keyword, without those of a list.
 pub const MOST_NUMBERS: usize = 7;
 
-/// Puts the numbers at the front of a line into a table, so many at most, and gives the line behind them.
+/// Puts the numbers at the front of a line into a table, at most `most`, and returns the line after them.
 #[inline(always)]
 pub fn numbers_in<'a>(
     line: &'a [u8],
@@ -199,7 +225,7 @@ fn release_in(operands: &[u64]) -> Option<(u8, u8, u64)>
     Some((action, rtype, *crkey))
 }
 
-/// What the numbers behind `KEYWORD C N` ask for, of a keyword of reservations.
+/// The request of the numbers after `KEYWORD C N`, for a keyword of reservations.
 #[inline(always)]
 fn reservation_in<'a>(keyword: Keyword, nsid: u32, operands: &[u64]) -> Option<Request<'a>>
     ensures some { IfSome result (λ request. (words : List (List ℕ)) → Numbers operands.now words []
@@ -242,7 +268,7 @@ fn reservation_in<'a>(keyword: Keyword, nsid: u32, operands: &[u64]) -> Option<R
     }
 }
 
-/// What the numbers behind `KEYWORD C N` ask for, where there are such.
+/// The request of the numbers after `KEYWORD C N`, if the keyword takes any.
 #[inline(always)]
 fn operands_in<'a>(keyword: Keyword, nsid: u32, operands: &[u64]) -> Option<Request<'a>>
     ensures some { IfSome result (λ request. (words : List (List ℕ)) → Numbers operands.now words []
@@ -262,7 +288,7 @@ fn operands_in<'a>(keyword: Keyword, nsid: u32, operands: &[u64]) -> Option<Requ
     }
 }
 
-/// `C N`, and the numbers behind them.
+/// `C N`, and the numbers after them.
 #[inline(always)]
 fn front_in(numbers: &[u64]) -> Option<(u16, u32, &[u64])>
     ensures some { IfSome result (λ front. (numbers.now ≡ front.0 ∷ front.1 ∷ front.2.now)
@@ -277,7 +303,7 @@ fn front_in(numbers: &[u64]) -> Option<(u16, u32, &[u64])>
     Some((cntlid, nsid, operands))
 }
 
-/// `C N`, and what the request of this keyword needs.
+/// `C N`, and the numbers for the request of this keyword.
 #[inline(always)]
 fn asked_in<'a>(keyword: Keyword, numbers: &[u64]) -> Option<FleetEvent<'a>>
     ensures some { IfSome result (SaysEvent keyword numbers.now) }
@@ -288,7 +314,7 @@ fn asked_in<'a>(keyword: Keyword, numbers: &[u64]) -> Option<FleetEvent<'a>>
     Some(FleetEvent::Place(cntlid, request))
 }
 
-/// The request that a keyword and the numbers behind it place.
+/// Places the request of a keyword and the numbers after it.
 #[inline(always)]
 fn place_in<'a>(keyword: Keyword, numbers: &[u64]) -> Option<FleetEvent<'a>>
     ensures some { IfSome result (SaysEvent keyword numbers.now) }
@@ -315,8 +341,8 @@ fn place_in<'a>(keyword: Keyword, numbers: &[u64]) -> Option<FleetEvent<'a>>
     }
 }
 
-/// The event that a keyword and the numbers behind it say. `None` where they say none: there are other numbers than its
-/// places want, or the keyword wants something else.
+/// The event of a keyword and the numbers after it. `None` if there is none: the numbers do not fit the keyword's
+/// places, or it takes other words.
 #[inline(always)]
 pub fn event_in<'a>(keyword: Keyword, numbers: &[u64]) -> Option<FleetEvent<'a>>
     ensures some { IfSome result (SaysEvent keyword numbers.now) }

@@ -1,10 +1,17 @@
-//! What stands in the places of a line.
+//! The places of a line.
 
 ghost use Rattle.std.specs.Prelude.{◌≡◌, ◌*◌, ◌/◌, ◌≤◌, length};
 ghost use Rattle.nvme_spec.specs.Limits.{most_bytes};
 ghost use Rattle.nvme_grammar.specs.LineFaults.{suits};
 ghost use Rattle.nvme_grammar.specs.Requests.{bit_at, bit_of};
-ghost use Rattle.nvme_grammar.specs.Places.{operand_name, operand_bits, spells, place_behind, takes_behind, wanted_text};
+ghost use Rattle.nvme_grammar.specs.Places.{
+  operand_name,
+  operand_bits,
+  spells,
+  place_behind,
+  takes_behind,
+  wanted_text,
+};
 
 use super::configuration::is_shared;
 use script_text::{
@@ -30,7 +37,7 @@ fn bit_in(word: &[u8]) -> Option<bool>
     bit_of(u64::from(number_u8(word)?))
 }
 
-/// A number of a line, by what it is of.
+/// The kind of a number in a line.
 #[derive(Clone, Copy, Debug, PartialEq, Eq)]
 pub enum Operand {
     /// C, a controller
@@ -41,7 +48,7 @@ pub enum Operand {
     Index,
     /// N, a namespace
     Nsid,
-    /// NSID, what a command names as a namespace
+    /// NSID, any number as the namespace of a command
     AnyNsid,
     /// H, a host
     Host,
@@ -96,7 +103,7 @@ impl Operand {
         }
     }
 
-    /// How many bits it has: 8, 16, 32, 64 or 128.
+    /// Its width in bits: 8, 16, 32, 64 or 128.
     pub(crate) fn bits(self) -> u32
         ensures { result ≡ operand_bits self }
     {
@@ -111,14 +118,14 @@ impl Operand {
         }
     }
 
-    /// How many hexadecimal digits that are at most.
+    /// The most hexadecimal digits of such a number.
     pub(crate) fn digits(self) -> usize
         ensures { result ≡ operand_bits self / 4 }
     {
         self.bits() as usize / 4
     }
 
-    /// Whether a word spells such a number.
+    /// Whether a word is such a number.
     fn is_spelled(self, word: &[u8]) -> bool
         ensures { result ≡ spells self word.now }
     {
@@ -132,7 +139,7 @@ impl Operand {
     }
 }
 
-/// What stands in one place of a line.
+/// A place of a line: the kind of word that it takes.
 #[derive(Clone, Copy, Debug, PartialEq, Eq)]
 pub enum Place {
     Number(Operand),
@@ -146,14 +153,14 @@ pub enum Place {
     Sharing,
     /// The word `raw`
     Raw,
-    /// DATA, for as many blocks as the word before it says
+    /// DATA, for the number of blocks in the word before it
     Data,
     /// `hex:DIGITS`
     Bytes,
 }
 
 impl Place {
-    /// Whether a word is what the place wants; before it stands another.
+    /// Whether a word fits the place; `before` is the word before it.
     pub(crate) fn suits(self, before: &[u8], word: &[u8], bytes: &mut [u8]) -> bool
         requires data_room { most_bytes ≤ length bytes.old }
         requires digits_room { length word.now ≤ 2 * length bytes.old }
@@ -179,7 +186,7 @@ impl Place {
 impl Spell for Place {
     ghost spelled = { wanted_text };
 
-    /// What the place wants.
+    /// The kind of word for the place.
     fn spell<P: Page>(&self, page: &mut P) -> Result<(), NoRoom> {
         match self {
             Place::Number(operand) => {
@@ -199,14 +206,14 @@ impl Spell for Place {
     }
 }
 
-/// What may follow the words of a line that each such line has.
+/// What may follow the words that each line of a keyword has.
 #[derive(Clone, Copy, Debug, PartialEq, Eq)]
 pub enum Behind {
     /// No word.
     Nothing,
     /// `raw`, or no word.
     Raw,
-    /// Controllers, any number of them.
+    /// Any number of controllers.
     Controllers,
 }
 
@@ -222,7 +229,7 @@ impl Behind {
         }
     }
 
-    /// Whether so many words may follow.
+    /// Whether `words` words may follow.
     pub(crate) fn takes(self, words: usize) -> bool
         ensures { result ≡ takes_behind self words }
     {

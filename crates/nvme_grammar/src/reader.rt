@@ -1,12 +1,24 @@
-//! What a line says behind its keyword: numbers first, and behind them data or a list where the keyword has one.
+//! Parses a line after its keyword: first numbers, then data or a list if the keyword has one.
 
 ghost use Rattle.std.specs.Prelude.{◌≡◌, ◌<◌, ◌≤◌, ◌*◌, ◌∷◌, [], true, false, None, length, option_map, IfSome, IsNone};
 ghost use Rattle.nvme_spec.specs.Limits.{most_bytes};
 ghost use Rattle.script_text.specs.Words.{is_line_text, line_words, most_words, starts_apart};
-ghost use Rattle.nvme_grammar.specs.Reader.{IsStoreLine, IsTransfer, is_numeric, is_one, is_other, sentence_behind, sentence_in};
+ghost use Rattle.nvme_grammar.specs.Reader.{
+  IsStoreLine,
+  IsTransfer,
+  is_numeric,
+  is_one,
+  is_other,
+  sentence_behind,
+  sentence_in,
+};
 ghost use Rattle.nvme_grammar.specs.Lent.{line_by_value};
 ghost use Rattle.nvme_grammar.specs.Reading.{line_aside};
-ghost use Rattle.nvme_grammar.specs.declared.keyword.Keyword.TheVariants.{Write as WriteWord, Compare as CompareWord, Store as StoreWord};
+ghost use Rattle.nvme_grammar.specs.declared.keyword.Keyword.TheVariants.{
+  Write as WriteWord,
+  Compare as CompareWord,
+  Store as StoreWord,
+};
 
 use super::configuration::{attached_in, setup_of};
 use super::identifiers::list_line;
@@ -18,7 +30,7 @@ use nvme_driver::Request;
 use nvme_event::FleetEvent;
 use script_text::{bytes_in, data_in, first_word, is_data};
 
-/// A Write or a Compare, with the word that spells its data.
+/// A Write or a Compare, with the word for its data.
 #[derive(Clone, Copy)]
 struct Transfer<'a> {
     cntlid: u16,
@@ -28,7 +40,7 @@ struct Transfer<'a> {
     word: &'a [u8],
 }
 
-/// A store of a raw host, with the word that spells its bytes.
+/// A store of a raw host, with the word for its bytes.
 #[derive(Clone, Copy)]
 struct StoreLine<'a> {
     cntlid: u16,
@@ -36,7 +48,7 @@ struct StoreLine<'a> {
     word: &'a [u8],
 }
 
-/// The only word of a line that begins with no separator.
+/// The only word of a line that does not begin with a separator.
 #[inline(always)]
 fn last_word(line: &[u8]) -> Option<&[u8]>
     requires apart { starts_apart line.now ≡ true }
@@ -137,10 +149,10 @@ fn store_line<'a>(line: &[u8], bytes: &'a mut [u8]) -> Option<Line<'a>>
     Some(Line::Event(event))
 }
 
-/// A Write or a Compare that is judged and parsed again, for which any such event stands. The bytes are overwritten, but
+/// Checks a Write or a Compare that is parsed again later, and returns a placeholder. The bytes are overwritten, but
 /// not filled.
 #[inline(always)]
-fn judged_transfer<'a>(line: &[u8], bytes: &mut [u8]) -> Option<Line<'a>>
+fn checked_transfer<'a>(line: &[u8], bytes: &mut [u8]) -> Option<Line<'a>>
     requires apart { starts_apart line.now ≡ true }
     requires digits_room { length line.now ≤ 2 * length bytes.old }
     ensures write { option_map line_aside result ≡ option_map line_aside (sentence_behind WriteWord line.now) }
@@ -154,9 +166,9 @@ fn judged_transfer<'a>(line: &[u8], bytes: &mut [u8]) -> Option<Line<'a>>
     }
 }
 
-/// The same of a store.
+/// Like `checked_transfer`, for a store.
 #[inline(always)]
-fn judged_store<'a>(line: &[u8], bytes: &mut [u8]) -> Option<Line<'a>>
+fn checked_store<'a>(line: &[u8], bytes: &mut [u8]) -> Option<Line<'a>>
     requires apart { starts_apart line.now ≡ true }
     requires digits_room { length line.now ≤ 2 * length bytes.old }
     ensures { option_map line_aside result ≡ option_map line_aside (sentence_behind StoreWord line.now) }
@@ -166,7 +178,7 @@ fn judged_store<'a>(line: &[u8], bytes: &mut [u8]) -> Option<Line<'a>>
     Some(Line::Event(FleetEvent::PowerCycle))
 }
 
-/// A line of a list, or one before `start`, which are few.
+/// A line with a list, or one before `start`: these are few.
 #[inline(never)]
 fn other_line<'a>(keyword: Keyword, line: &[u8], identifiers: &'a mut [u16]) -> Option<Line<'a>>
     requires other { is_other keyword ≡ true }
@@ -181,7 +193,7 @@ fn other_line<'a>(keyword: Keyword, line: &[u8], identifiers: &'a mut [u16]) -> 
     }
 }
 
-/// The event of a keyword and the numbers behind it, which are all that its lines have.
+/// The event of a keyword that has only numbers after it.
 #[inline(always)]
 fn event_of(keyword: Keyword, line: &[u8]) -> Option<Line<'static>>
     requires apart { starts_apart line.now ≡ true }
@@ -196,7 +208,7 @@ fn event_of(keyword: Keyword, line: &[u8]) -> Option<Line<'static>>
     Some(Line::Event(event_in(keyword, numbers.as_slice())?))
 }
 
-/// What a line says behind its keyword, whose data or list are put into a buffer. `None` where it says nothing.
+/// Parses a line after its keyword, and puts its data or list into a buffer. `None` if it is outside the grammar.
 #[inline(always)]
 pub fn line_by<'a>(
     keyword: Keyword,
@@ -222,9 +234,10 @@ pub fn line_by<'a>(
     }
 }
 
-/// The same, but for its event where that is parsed again. The bytes are overwritten, but not filled.
+/// Parses a line like `line_by`, with a placeholder for an event that is parsed again later. The bytes are overwritten,
+/// but not filled.
 #[inline(always)]
-pub fn judged_by<'a>(
+pub fn checked_by<'a>(
     keyword: Keyword,
     line: &[u8],
     bytes: &mut [u8],
@@ -236,8 +249,8 @@ pub fn judged_by<'a>(
     ensures { option_map line_aside result ≡ option_map line_aside (sentence_behind keyword line.now) }
 {
     match keyword {
-        Keyword::Write | Keyword::Compare => judged_transfer(line, bytes),
-        Keyword::Store => judged_store(line, bytes),
+        Keyword::Write | Keyword::Compare => checked_transfer(line, bytes),
+        Keyword::Store => checked_store(line, bytes),
         Keyword::Attach | Keyword::Detach => other_line(keyword, line, identifiers),
         Keyword::Controller | Keyword::Namespace | Keyword::Attached | Keyword::Start => {
             other_line(keyword, line, identifiers)
@@ -246,7 +259,7 @@ pub fn judged_by<'a>(
     }
 }
 
-/// The keyword of a line that begins with no separator, and what stands behind it.
+/// The keyword of a line that does not begin with a separator, and the rest of the line.
 #[inline(always)]
 pub fn keyword_in(line: &[u8]) -> Option<(Keyword, &[u8])>
     requires apart { starts_apart line.now ≡ true }

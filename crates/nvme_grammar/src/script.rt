@@ -1,4 +1,4 @@
-//! The script that a text spells.
+//! Parses a text to a script.
 
 ghost use Rattle.std.specs.Prelude.{◌≡◌, ◌+◌, ◌++◌, ◌∷◌, [], List, true, length, IfOk, IfErr, OnOk};
 ghost use Rattle.script_text.specs.Lines.{text_lines};
@@ -13,30 +13,31 @@ ghost use Rattle.nvme_grammar.specs.declared.script.ParseFault.TheVariants.{NoMe
 
 use super::fault::{LineFault, line_fault};
 use super::kept::KeptEvent;
-use super::line::{Line, judged_line};
+use super::line::{Line, checked_line};
 use nvme_spec::Config;
 use script_text::front_line;
 use std::alloc::{AllocError, Global};
 
-/// What a script sets up, and its events. Most of these are kept as they are; the others stay in its text, of which
-/// whoever runs them parses their lines again, one after the other, so that no memory is kept for data.
+/// The configuration of a script, and its events. Most events are stored as they are; for the others only the position
+/// in the text, where the caller parses each line again when its event's turn comes, so that no memory is kept for
+/// data.
 #[derive(Drop)]
 pub struct Script {
-    /// What the lines before `start` set up, in their order; nothing where there is no `start`. Nothing about
-    /// it was judged but its words.
+    /// The configuration of the lines before `start`, in order; empty if there is no `start`. Only its words were
+    /// checked.
     pub config: Config,
     /// The number of the line `start`, counted from 1.
     pub start: Option<usize>,
-    /// The events of the text, in their order.
+    /// The events of the text, in order.
     pub events: Vec<KeptEvent>,
 }
 
-/// Why a text gives no script.
+/// Why a text is not a script.
 #[derive(Clone, Copy)]
 pub enum ParseFault<'a> {
-    /// The first line that is outside the grammar, counted from 1, and what is at fault in it.
+    /// The number of the first line that is outside the grammar, from 1, and its fault.
     Syntax(usize, LineFault<'a>),
-    /// Memory was refused, or a line begins behind more than 4,294,967,295 bytes.
+    /// Memory was refused, or a line begins after more than 4,294,967,295 bytes.
     NoMemory,
 }
 
@@ -49,7 +50,8 @@ impl From<AllocError> for ParseFault<'_> {
 }
 
 impl Script {
-    /// Nothing was read yet of a text of so many bytes. There is room for its events: the shortest line of one is `up 1`.
+    /// A script of no lines yet, for a text of `text_len` bytes, with memory for its events: the shortest line of one
+    /// is `up 1`.
     fn new(alloc: Global, text_len: usize) -> Result<Script, AllocError>
         ensures read { IfOk result (λ script. Reads script []) }
         ensures events { IfOk result (λ script. script.events.items ≡ []) }
@@ -65,7 +67,7 @@ impl Script {
         })
     }
 
-    /// Whether a line may stand behind those that were read.
+    /// Whether a line is allowed after those that were read.
     pub fn allows(&self, line: &Line) -> bool
         ensures { (lines : List Line) → Reads self.now lines → result ≡ fits_behind lines (line_by_value line.now) }
     {
@@ -78,8 +80,8 @@ impl Script {
         }
     }
 
-    /// Takes the next line, which has this number and begins behind so many bytes. It is lent, since to move it is much
-    /// of what an event's line costs here.
+    /// Adds line `number`, which begins after `before` bytes of the text. The line is borrowed, since a move would be
+    /// much of the cost of parsing an event.
     #[inline(always)]
     fn take(&mut self, number: usize, before: u32, line: &Line) -> Result<(), AllocError>
         ensures read { OnOk result ((lines : List Line) → Reads self.old lines → number ≡ length lines + 1
@@ -99,7 +101,7 @@ impl Script {
         Ok(())
     }
 
-    /// The script, once all lines were read: without a start nothing is set up.
+    /// The script after all lines were read: without `start` its configuration is empty.
     fn finish(self) -> Script
         ensures says { (lines : List Line) → Reads self lines → Says lines result }
         ensures events { result.events.items ≡ self.events.items }
@@ -115,7 +117,7 @@ impl Script {
     }
 }
 
-/// Why the line with this number is refused, as the first that is, where `start` was said before it or was not.
+/// The refusal of the line with this number, the first that is refused, with or without a `start` before it.
 fn refused<'a>(number: usize, line: &'a [u8], started: bool, bytes: &mut [u8]) -> ParseFault<'a>
     requires bytes_room { HasBytesRoom line.now bytes.old }
     ensures { IsRefusal result number (fault_of started line.now) }
@@ -126,13 +128,12 @@ fn refused<'a>(number: usize, line: &'a [u8], started: bool, bytes: &mut [u8]) -
     }
 }
 
-/// What the lines of a text say that begin a script: `start` may be missing. A line feed ends a line; the last line may
-/// lack it. The buffers need room for what any of its lines says. Memory is taken for its events, eight bytes for every
-/// five of the text.
+/// Parses the lines of a text, which may lack `start`. A line feed ends a line; the last line may lack it. The buffers
+/// must be long enough for any of its lines. It takes memory for the events, eight bytes for every five of the text.
 ///
-/// `Syntax` bears the number of the first line that is outside the grammar, and what is at fault in it: it says nothing the
-/// grammar has, or is a configuration line or a second `start` behind `start`, or an event before it. `NoMemory` where memory is
-/// refused, or a line begins behind more than 4,294,967,295 bytes.
+/// `Syntax` has the number of the first line that is outside the grammar, and its fault: it has no meaning, or is a
+/// configuration line or a second `start` after `start`, or an event before it. `NoMemory` if memory is refused, or a
+/// line begins after more than 4,294,967,295 bytes.
 ///
 /// The lines are read one after the other, in time linear in the text.
 pub fn read_lines<'a>(
@@ -145,7 +146,7 @@ pub fn read_lines<'a>(
     requires identifiers_room { HasWordsRoom text.now identifiers.old }
     ensures grammar { IfOk result (λ _. Begins (text_lines text.now)) }
     ensures read { IfOk result (λ script. Reads script (said (text_lines text.now))) }
-    // What is kept of the text are its events, all of them and no other.
+    // All events of the text are stored, and no others.
     ensures events { IfOk result (λ script.
         kept_events text.now script.events.items ≡ events_of (text_lines text.now)) }
     ensures fault { IfErr result (λ fault. IsParseFault (text_lines text.now) fault) }
@@ -155,7 +156,7 @@ pub fn read_lines<'a>(
     let mut rest = Some(text);
     while let Some(lines) = rest {
         let (raw, behind) = front_line(lines);
-        let said = judged_line(raw, bytes, identifiers);
+        let said = checked_line(raw, bytes, identifiers);
         let Some(line) = &said else {
             return Err(refused(before + 1, raw, script.start.is_some(), bytes));
         };
@@ -172,7 +173,7 @@ pub fn read_lines<'a>(
     Ok(script)
 }
 
-/// The script that a text spells, as `read_lines` reads it: without a `start` nothing is set up.
+/// Parses a text to a script, as `read_lines` reads it: without `start` the configuration is empty.
 pub fn parse<'a>(
     alloc: Global,
     text: &'a [u8],
@@ -183,7 +184,7 @@ pub fn parse<'a>(
     requires identifiers_room { HasWordsRoom text.now identifiers.old }
     ensures grammar { IfOk result (λ _. Begins (text_lines text.now)) }
     ensures says { IfOk result (λ script. Says (said (text_lines text.now)) script) }
-    // What is kept of the text are its events, all of them and no other.
+    // All events of the text are stored, and no others.
     ensures events { IfOk result (λ script.
         kept_events text.now script.events.items ≡ events_of (text_lines text.now)) }
     ensures fault { IfErr result (λ fault. IsParseFault (text_lines text.now) fault) }

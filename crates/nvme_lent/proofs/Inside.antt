@@ -1,4 +1,4 @@
--- Calls of the medium that stands in another are its calls.
+-- For the answers of `OwnOrLent`: calls of the medium inside are its own calls.
 use Rattle.std.proofs.Common.{ℕ, Bool, List, [], ◌∷◌, ap}
 use Rattle.nvme_spec.specs.MediumCalls.{MediumAnswer, MediumCall, Calls, MakesInOrder}
 use Rattle.nvme_medium.specs.Memory.{memory_step}
@@ -9,16 +9,20 @@ use Rattle.nvme_lent.specs.OwnOrLent.{step_of}
 use Rattle.nvme_lent.specs.declared.lent.LentMedium.{LentMedium}
 use Rattle.nvme_lent.specs.declared.either.OwnOrLent.TheVariants.{Own, Lent}
 
-own-calls : (old new : MemMedium) (calls : List MediumCall) → Calls memory_step old calls new → Calls step_of (Own old) calls (Own new)
+own-calls : (old new : MemMedium) (calls : List MediumCall) → Calls memory_step old calls new
+    → Calls step_of (Own old) calls (Own new)
 own-calls old new [] made = ap Own made
 own-calls old new (call ∷ calls) made = (Own made.0, made.1, own-calls made.0 new calls made.2)
 
-lent-calls : (old new : LentMedium) (calls : List MediumCall) → Calls lent_step old calls new → Calls step_of (Lent old) calls (Lent new)
+lent-calls : (old new : LentMedium) (calls : List MediumCall)
+    → Calls lent_step old calls new → Calls step_of (Lent old) calls (Lent new)
 lent-calls old new [] made = ap Lent made
 lent-calls old new (call ∷ calls) made = (Lent made.0, made.1, lent-calls made.0 new calls made.2)
 
-pub own-reads : (tells : Bool) (content : List ℕ) (first count : ℕ) (buffer left : List ℕ) (old new : MemMedium) (answer : MediumAnswer)
-    → ReadsBlocks memory_step tells content first count buffer left old answer new → ReadsBlocks step_of tells content first count buffer left (Own old) answer (Own new)
+pub own-reads : (tells : Bool) (content : List ℕ) (first count : ℕ) (buffer left : List ℕ) (old new : MemMedium)
+    (answer : MediumAnswer)
+    → ReadsBlocks memory_step tells content first count buffer left old answer new
+    → ReadsBlocks step_of tells content first count buffer left (Own old) answer (Own new)
 own-reads tells content first count buffer left old new answer h = record {
   passed = h.passed;
   ends = h.ends;
@@ -28,8 +32,10 @@ own-reads tells content first count buffer left old new answer h = record {
   long = h.long;
 }
 
-pub lent-reads : (tells : Bool) (content : List ℕ) (first count : ℕ) (buffer left : List ℕ) (old new : LentMedium) (answer : MediumAnswer)
-    → ReadsBlocks lent_step tells content first count buffer left old answer new → ReadsBlocks step_of tells content first count buffer left (Lent old) answer (Lent new)
+pub lent-reads : (tells : Bool) (content : List ℕ) (first count : ℕ) (buffer left : List ℕ) (old new : LentMedium)
+    (answer : MediumAnswer)
+    → ReadsBlocks lent_step tells content first count buffer left old answer new
+    → ReadsBlocks step_of tells content first count buffer left (Lent old) answer (Lent new)
 lent-reads tells content first count buffer left old new answer h = record {
   passed = h.passed;
   ends = h.ends;
@@ -39,10 +45,13 @@ lent-reads tells content first count buffer left old new answer h = record {
   long = h.long;
 }
 
-pub own-writes : (call : ℕ → MediumAnswer → MediumCall) (count : ℕ) (old new : MemMedium) (answer : MediumAnswer) → MakesInOrder memory_step call count old answer new
+pub own-writes : (call : ℕ → MediumAnswer → MediumCall) (count : ℕ) (old new : MemMedium) (answer : MediumAnswer)
+    → MakesInOrder memory_step call count old answer new
     → MakesInOrder step_of call count (Own old) answer (Own new)
 own-writes call count old new answer h = record { passed = h.passed; ends = h.ends; made = own-calls old new _ h.made }
 
-pub lent-writes : (call : ℕ → MediumAnswer → MediumCall) (count : ℕ) (old new : LentMedium) (answer : MediumAnswer) → MakesInOrder lent_step call count old answer new
+pub lent-writes : (call : ℕ → MediumAnswer → MediumCall) (count : ℕ) (old new : LentMedium) (answer : MediumAnswer)
+    → MakesInOrder lent_step call count old answer new
     → MakesInOrder step_of call count (Lent old) answer (Lent new)
-lent-writes call count old new answer h = record { passed = h.passed; ends = h.ends; made = lent-calls old new _ h.made }
+lent-writes call count old new answer h =
+    record { passed = h.passed; ends = h.ends; made = lent-calls old new _ h.made }

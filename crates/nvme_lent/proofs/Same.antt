@@ -1,4 +1,4 @@
--- Lent bytes are told apart by where they are, their number and their values.
+-- Borrowed bytes are equal if their address, length and values are.
 use Rattle.std.proofs.Common.{◌≡◌, ◌<◌, ◌^◌}
 use Rattle.std.proofs.Math.Bridge.{le_prop}
 use mathlib.Core.HLevel.{is_prop→PathP}

@@ -1,4 +1,5 @@
--- What is returned has no machine words: it is packed from what it owns. Assumes `Logic`.
+-- A returned value has no machine words: it is packed from what it owns. For the proofs of `none` and `of`. Assumes
+-- `Logic`.
 use Rattle.std.proofs.Common.{List, [], ◌∷◌, refl, Option}
 use seplogic.Ra.Ura.{Ura}
 use mir.Val.{Val, vstruct, vnil}
@@ -16,7 +17,8 @@ abbrev pub blank : Val
 blank = vstruct vnil
 
 module _ {M : Type 1} {𝓤 : Ura M} {𝓛 : Logic 𝓤} {K : Type 0} {Γ : List (Item 𝓤)} {G : Goal 𝓤 𝓛.H} where
-  pub returned_packed : K → (bytes : Option LentBytes) → Step K 𝓛 (‵ ((returned.the_row).own_val (record { bytes = bytes }) (blank ∷ [])) ∷ Γ) G (‵ (owned bytes) ∷ Γ) G
+  pub returned_packed : K → (bytes : Option LentBytes)
+      → Step K 𝓛 (‵ ((returned.the_row).own_val (record { bytes = bytes }) (blank ∷ [])) ∷ Γ) G (‵ (owned bytes) ∷ Γ) G
   returned_packed t bytes = step (λ rest.
       let whole : List Val = blank ∷ [] in
       nothing t $ feq_i t (List Val) whole whole refl $ fjoin t $

@@ -1,5 +1,25 @@
--- Writes to lent bytes pass.
-use Rattle.std.proofs.Common.{◌≡◌, ℕ, ◌+◌, ◌-◌, ◌*◌, ◌/◌, ◌≤◌, List, [], ◌∷◌, length, take, drop, Ok, refl, sym, ap, ◌∙◌, arith}
+-- For the answers of `LentMedium`: writes to borrowed bytes never fail.
+use Rattle.std.proofs.Common.{
+  ◌≡◌,
+  ℕ,
+  ◌+◌,
+  ◌-◌,
+  ◌*◌,
+  ◌/◌,
+  ◌≤◌,
+  List,
+  [],
+  ◌∷◌,
+  length,
+  take,
+  drop,
+  Ok,
+  refl,
+  sym,
+  ap,
+  ◌∙◌,
+  arith,
+}
 use Rattle.std.specs.Vec.{with_items}
 use Rattle.std.proofs.lemmas.List.{with_items_is}
 use borrow.Rule.Slice.PartMut.{put_mid}
@@ -8,14 +28,14 @@ use Rattle.nvme_spec.specs.Bytes.{with_bytes}
 use Rattle.nvme_spec.specs.MediumCalls.{MediumCall, Calls, MakesInOrder, writes_from}
 use Rattle.nvme_spec.proofs.Splices.{length-with_bytes}
 use Rattle.nvme_medium.proofs.Writing.{Takes, put-is, written-at-once}
-use Rattle.nvme_lent.specs.Bytes.{place}
+use Rattle.nvme_lent.specs.Bytes.{extent}
 use Rattle.nvme_lent.specs.Lent.{bytes_lent, lent_bytes, tail_bytes, lent_step, has_whole_blocks}
 use Rattle.nvme_lent.proofs.Whole.{written-inside, behind-stays}
 use Rattle.nvme_lent.specs.declared.lent.LentMedium.{LentMedium}
 
--- a medium over bytes of this place, with these behind its blocks
+-- a medium over the bytes of this extent, with these bytes after its last block
 abbrev At : Ptr × ℕ → List ℕ → Type 0
-At p behind = (m : LentMedium) × (place (bytes_lent m) ≡ p) × (tail_bytes m ≡ behind)
+At p behind = (m : LentMedium) × (extent (bytes_lent m) ≡ p) × (tail_bytes m ≡ behind)
 
 abbrev step_at : (p : Ptr × ℕ) (behind : List ℕ) → At p behind → MediumCall → At p behind → Type 0
 step_at p behind old call new = lent_step old.0 call new.0
@@ -23,14 +43,16 @@ step_at p behind old call new = lent_step old.0 call new.0
 fits-all : (m : LentMedium) → 512 * m.blocks ≤ length m.bytes.items
 fits-all m = omega (arith, m.whole)
 
-module _ (m : LentMedium) (i : ℕ) (block : List ℕ) (long : length block ≡ 512) (fits : 512 * i + 512 ≤ length (lent_bytes m)) where
+module _ (m : LentMedium) (i : ℕ) (block : List ℕ) (long : length block ≡ 512)
+    (fits : 512 * i + 512 ≤ length (lent_bytes m)) where
   inside : 512 * i + length block ≤ 512 * m.blocks
   inside = omega (arith, long, fits, has_whole_blocks m)
 
   sized : length (with_bytes m.bytes.items (512 * i) block) ≡ length m.bytes.items
   sized = length-with_bytes m.bytes.items (512 * i) block (omega (arith, inside, fits-all m))
 
-  items : (with_items m.bytes (with_bytes m.bytes.items (512 * i) block)).items ≡ with_bytes m.bytes.items (512 * i) block
+  items : (with_items m.bytes (with_bytes m.bytes.items (512 * i) block)).items
+      ≡ with_bytes m.bytes.items (512 * i) block
   items = with_items_is m.bytes (with_bytes m.bytes.items (512 * i) block) (sized ∙ sym m.bytes.ok.0)
 
   abbrev next : LentMedium
@@ -42,10 +64,13 @@ module _ (m : LentMedium) (i : ℕ) (block : List ℕ) (long : length block ≡ 
   }
 
   has-next : lent_bytes next ≡ with_bytes (lent_bytes m) (512 * i) block
-  has-next = ap (take (512 * m.blocks)) items ∙ written-inside m.bytes.items (512 * m.blocks) (512 * i) block inside (fits-all m)
+  has-next =
+      ap (take (512 * m.blocks)) items
+      ∙ written-inside m.bytes.items (512 * m.blocks) (512 * i) block inside (fits-all m)
 
   behind-next : tail_bytes next ≡ tail_bytes m
-  behind-next = ap (drop (512 * m.blocks)) items ∙ behind-stays m.bytes.items (512 * m.blocks) (512 * i) block inside (fits-all m)
+  behind-next =
+      ap (drop (512 * m.blocks)) items ∙ behind-stays m.bytes.items (512 * m.blocks) (512 * i) block inside (fits-all m)
 
 takes_at : (p : Ptr × ℕ) (behind : List ℕ) → Takes (step_at p behind) (λ m. lent_bytes m.0) (λ m. m.0.blocks)
 takes_at p behind = record {
@@ -55,32 +80,41 @@ takes_at p behind = record {
   writes = λ m n i block is kept. (refl, is, n.2 ∙ sym m.2, n.1 ∙ sym m.1, kept);
 }
 
-calls_at : (p : Ptr × ℕ) (behind : List ℕ) (old new : At p behind) (calls : List MediumCall) → Calls (step_at p behind) old calls new → Calls lent_step old.0 calls new.0
+calls_at : (p : Ptr × ℕ) (behind : List ℕ) (old new : At p behind) (calls : List MediumCall)
+    → Calls (step_at p behind) old calls new → Calls lent_step old.0 calls new.0
 calls_at p behind old new [] made = ap (λ (m : At p behind). m.0) made
 calls_at p behind old new (call ∷ calls) made = (made.0.0, made.1, calls_at p behind made.0 new calls made.2)
 
--- blocks that are copied at once have been written one after the other
-pub lent_at_once : (first blocks : ℕ) (brought : List ℕ) (old new : LentMedium) → length brought ≡ 512 * blocks → 1 ≤ blocks → 512 * (first + blocks) ≤ length (lent_bytes old)
-    → lent_bytes new ≡ with_bytes (lent_bytes old) (512 * first) brought → tail_bytes new ≡ tail_bytes old → place (bytes_lent new) ≡ place (bytes_lent old) → new.blocks ≡ old.blocks
+-- copying blocks at once has the same effect as writing them one after the other
+pub lent_at_once : (first blocks : ℕ) (brought : List ℕ) (old new : LentMedium)
+    → length brought ≡ 512 * blocks → 1 ≤ blocks → 512 * (first + blocks) ≤ length (lent_bytes old)
+    → lent_bytes new ≡ with_bytes (lent_bytes old) (512 * first) brought → tail_bytes new ≡ tail_bytes old
+    → extent (bytes_lent new) ≡ extent (bytes_lent old) → new.blocks ≡ old.blocks
     → MakesInOrder lent_step (writes_from first brought) blocks old (Ok tt) new
 lent_at_once first blocks brought old new all some fits is behind there kept =
-    let p = place (bytes_lent old) in let t = tail_bytes old in
-    let h = written-at-once (step_at p t) (λ m. lent_bytes m.0) (λ m. m.0.blocks) (takes_at p t) first blocks brought (old, refl, refl) (new, there, behind) all some fits is kept in
+    let p = extent (bytes_lent old) in let t = tail_bytes old in
+    let h = written-at-once (step_at p t) (λ m. lent_bytes m.0) (λ m. m.0.blocks) (takes_at p t) first blocks brought
+    (old, refl, refl) (new, there, behind) all some fits is kept in
     record { passed = h.passed; ends = h.ends; made = calls_at p t (old, refl, refl) (new, there, behind) _ h.made }
 
--- what is put into the bytes of its blocks is written there, and those behind stay
-items-put : (m : LentMedium) (at n : ℕ) (xs part brought : List ℕ) → xs ≡ m.bytes.items → part ≡ brought → length brought ≡ n → at + n ≤ length m.bytes.items
+-- bytes stored into the blocks are written there, and the bytes after the last block stay
+items-put : (m : LentMedium) (at n : ℕ) (xs part brought : List ℕ) → xs ≡ m.bytes.items → part ≡ brought
+    → length brought ≡ n → at + n ≤ length m.bytes.items
     → (with_items m.bytes (put_mid at (at + n - at) xs part)).items ≡ with_bytes m.bytes.items at brought
 items-put m at n xs part brought xs-is part-is long fits =
-    let put = ap (λ x. put_mid at (at + n - at) x part) xs-is ∙ ap (put_mid at (at + n - at) m.bytes.items) part-is ∙ put-is m.bytes.items brought at n long fits in
+    let put = ap (λ x. put_mid at (at + n - at) x part) xs-is ∙ ap (put_mid at (at + n - at) m.bytes.items) part-is
+    ∙ put-is m.bytes.items brought at n long fits in
     ap (λ c. (with_items m.bytes c).items) put
-    ∙ with_items_is m.bytes (with_bytes m.bytes.items at brought) (length-with_bytes m.bytes.items at brought (omega (arith, long, fits)) ∙ sym m.bytes.ok.0)
+    ∙ with_items_is m.bytes (with_bytes m.bytes.items at brought)
+    (length-with_bytes m.bytes.items at brought (omega (arith, long, fits)) ∙ sym m.bytes.ok.0)
 
-module _ (m : LentMedium) (at n : ℕ) (xs part brought : List ℕ) (xs-is : xs ≡ m.bytes.items) (part-is : part ≡ brought) (long : length brought ≡ n) (fits : at + n ≤ 512 * m.blocks) where
+module _ (m : LentMedium) (at n : ℕ) (xs part brought : List ℕ) (xs-is : xs ≡ m.bytes.items) (part-is : part ≡ brought)
+    (long : length brought ≡ n) (fits : at + n ≤ 512 * m.blocks) where
   within : at + n ≤ length m.bytes.items
   within = omega (arith, fits, fits-all m)
 
-  pub blocks-put : take (512 * m.blocks) (with_items m.bytes (put_mid at (at + n - at) xs part)).items ≡ with_bytes (lent_bytes m) at brought
+  pub blocks-put : take (512 * m.blocks) (with_items m.bytes (put_mid at (at + n - at) xs part)).items
+      ≡ with_bytes (lent_bytes m) at brought
   blocks-put =
       ap (take (512 * m.blocks)) (items-put m at n xs part brought xs-is part-is long within)
       ∙ written-inside m.bytes.items (512 * m.blocks) at brought (omega (arith, fits, long)) (fits-all m)

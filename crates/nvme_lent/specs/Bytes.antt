@@ -1,4 +1,4 @@
--- Bytes that C lends, and has back.
+-- Bytes that a C program provides and gets back.
 use Rattle.std.specs.Prelude.{ℕ, Option, Some, None}
 use Rattle.std.specs.Borrow.{full_share, u8}
 use Rattle.std.specs.Ptr.{lies_at}
@@ -11,7 +11,7 @@ use Rattle.std_alloc.specs.declared.vec.Vec.{Vec}
 use Rattle.std_alloc.specs.declared.vec.lodged.Lodged.{Lodged}
 use Rattle.nvme_lent.specs.declared.bytes.LentBytes.{LentBytes}
 
--- the bytes that a buffer lies on: their address, their number and what they are
+-- the bytes of a buffer: address, length and values
 abbrev pub as_lent : Vec ℕ Lodged → LentBytes
 as_lent buffer = record {
   at = vec_ptr buffer;
@@ -25,6 +25,6 @@ abbrev pub owned : Option LentBytes → Fml
 owned None = ftrue
 owned (Some bytes) = lies_at (Array u8 bytes.len) full_share bytes.at bytes.items
 
--- where bytes are, and how many
-abbrev pub place : LentBytes → Ptr × ℕ
-place bytes = (bytes.at, bytes.len)
+-- address and length
+abbrev pub extent : LentBytes → Ptr × ℕ
+extent bytes = (bytes.at, bytes.len)

@@ -1,9 +1,9 @@
--- A medium over blocks of its own, or over bytes that are lent.
+-- A medium over its own blocks or over borrowed bytes, as contracts see it.
 use Rattle.std.specs.Prelude.{◌≡◌, ◌<◌, ◌^◌, ℕ, ◌*◌, List, length, Option, Some, None, option_map}
 use denote.RawPtr.{Ptr}
 use Rattle.nvme_spec.specs.MediumCalls.{MediumCall}
 use Rattle.nvme_medium.specs.Memory.{memory_bytes, memory_step}
-use Rattle.nvme_lent.specs.Bytes.{place}
+use Rattle.nvme_lent.specs.Bytes.{extent}
 use Rattle.nvme_lent.specs.Lent.{bytes_lent, lent_bytes, lent_step, has_whole_blocks}
 use Rattle.nvme_lent.specs.declared.bytes.LentBytes.{LentBytes}
 use Rattle.nvme_lent.specs.declared.either.OwnOrLent.{OwnOrLent}
@@ -18,7 +18,7 @@ abbrev pub blocks_of : OwnOrLent → ℕ
 blocks_of (Own m) = m.blocks
 blocks_of (Lent m) = m.blocks
 
--- a call is one of the medium that stands in it, and which kind that is stays
+-- each call is one call of the inner medium; owned bytes stay owned, and borrowed bytes borrowed
 abbrev pub step_of : OwnOrLent → MediumCall → OwnOrLent → Type 0
 step_of (Own old) call (Own new) = memory_step old call new
 step_of (Own old) call (Lent new) = ⊥
@@ -33,11 +33,11 @@ abbrev pub whole_of : (m : OwnOrLent) → length (bytes_of m) ≡ 512 * blocks_o
 whole_of (Own m) = m.whole
 whole_of (Lent m) = has_whole_blocks m
 
--- the bytes that are lent to it, as they are now, if any are
+-- the borrowed bytes, as they are now; none if it has its own blocks
 abbrev pub lent_of : OwnOrLent → Option LentBytes
 lent_of (Own m) = None
 lent_of (Lent m) = Some (bytes_lent m)
 
--- where they are, and how many
-abbrev pub place_of : OwnOrLent → Option (Ptr × ℕ)
-place_of m = option_map place (lent_of m)
+-- their address and length
+abbrev pub extent_of : OwnOrLent → Option (Ptr × ℕ)
+extent_of m = option_map extent (lent_of m)

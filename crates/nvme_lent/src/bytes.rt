@@ -1,4 +1,4 @@
-//! Bytes that C lends.
+//! Bytes that a C program provides.
 
 ghost use Rattle.std.specs.Prelude.{◌≡◌, ◌<◌, ◌^◌, ℕ, List};
 ghost use Rattle.std.specs.Borrow.{full_share, u8};
@@ -8,8 +8,8 @@ ghost use denote.Array.{Array};
 use std::marker::Model;
 use std_alloc::vec::{Lodged, lodge};
 
-/// Bytes that C lends: the address of the first, and their number. C reads and writes none of them until it has them
-/// back.
+/// Bytes that a C program provides: the address of the first, and the length. The program reads and writes none of them
+/// until it gets them back.
 #[repr(C)]
 #[derive(Drop)]
 pub struct LentBytes {
@@ -26,8 +26,8 @@ impl Model for LentBytes {
 impl LentBytes {
     ghost use Rattle.nvme_lent.specs.Bytes.{as_lent};
 
-    /// The bytes at their own address, as the buffer of a `Vec` that takes and frees no memory. It is proved by hand,
-    /// since a pointer becomes a buffer.
+    /// The bytes at their own address, as the buffer of a `Vec` that neither allocates nor frees. Proved by hand, since
+    /// a pointer becomes a buffer.
     pub fn into_buffer(self) -> Vec<u8, Lodged>
         ensures { as_lent result ≡ self }
     {

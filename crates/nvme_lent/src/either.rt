@@ -1,11 +1,11 @@
-//! Blocks of one's own, or such as are lent.
+//! A medium over its own blocks or over borrowed bytes.
 
 ghost use Rattle.std.specs.Prelude.{◌≡◌, true};
 
 use crate::{LentMedium, ReturnedBytes};
 use nvme_medium::{Medium, MediumFault, MemMedium};
 
-/// A medium over blocks of its own, or over bytes that are lent to it. Its calls never fail.
+/// A medium over its own blocks, or over bytes that a C program provides. Its calls never fail.
 #[derive(Drop)]
 pub enum OwnOrLent {
     Own(MemMedium),
@@ -15,7 +15,7 @@ pub enum OwnOrLent {
 impl OwnOrLent {
     ghost use Rattle.nvme_lent.specs.OwnOrLent.{lent_of};
 
-    /// Gives the bytes back that were lent, if any were.
+    /// Returns the borrowed bytes, if there are any.
     pub fn into_returned(self) -> ReturnedBytes
         ensures { result.bytes ≡ lent_of self }
     {

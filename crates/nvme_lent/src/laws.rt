@@ -1,10 +1,9 @@
-//! What follows from the steps of the media, for calls that are made one after the other. The law is the contract of a
-//! function that does nothing.
+//! Laws of lists of media calls. Each law is the contract of an empty function.
 
 ghost use Rattle.nvme_lent.specs.CallLaws.{LentBytesStay, BytesFollow, ReadsLeave};
 
-/// Whatever calls are made, lent bytes stay where they are, as many; the blocks have what the writes among the calls
-/// leave there; and reads leave the medium as it was.
+/// After any calls, the borrowed bytes have the same address and length, and the blocks have what the writes left.
+/// Reads change nothing.
 #[tactic(auto, using(crate::proofs::CallLaws::lent_bytes_stay, crate::proofs::CallLaws::bytes_follow, crate::proofs::CallLaws::reads_leave))]
 pub fn lent_bytes_follow_calls()
     ensures stay { LentBytesStay }

@@ -1,4 +1,4 @@
-//! A medium over bytes that are lent.
+//! A medium over borrowed bytes.
 
 ghost use Rattle.std.specs.Prelude.{◌≡◌, ◌+◌, ◌*◌, ◌/◌, ◌<◌, ◌≤◌, ◌^◌, true, length, Some};
 ghost use Rattle.nvme_spec.specs.Blocks.{block_at, blocks_from};
@@ -8,7 +8,7 @@ use crate::{LentBytes, ReturnedBytes};
 use nvme_medium::{Medium, MediumFault};
 use std_alloc::vec::Lodged;
 
-/// A medium over bytes that are lent, at their own address. Its calls never fail.
+/// A medium over borrowed bytes, at their own address. Its calls never fail.
 #[derive(Drop)]
 pub struct LentMedium {
     bytes: Vec<u8, Lodged>,
@@ -20,8 +20,7 @@ pub struct LentMedium {
 impl LentMedium {
     ghost use Rattle.nvme_lent.specs.Lent.{bytes_lent, lent_bytes};
 
-    /// A medium of the whole blocks of these bytes: as many as 512 goes into their number. Bytes behind the last whole
-    /// block are left alone.
+    /// A medium of the whole blocks of 512 bytes among these bytes. Bytes after the last whole block are never touched.
     pub fn of(bytes: LentBytes) -> LentMedium
         ensures lent { bytes_lent result ≡ bytes }
         ensures blocks { lent_bytes result ≡ whole_blocks bytes.items }
@@ -34,14 +33,14 @@ impl LentMedium {
         }
     }
 
-    /// Gives the bytes back, as the commands have left them.
+    /// Returns the bytes, as the commands have left them.
     pub fn into_returned(self) -> ReturnedBytes
         ensures { result.bytes ≡ Some (bytes_lent self) }
     {
         ReturnedBytes::of(self.bytes)
     }
 
-    /// A block.
+    /// Block `i`.
     fn block(&self, i: u64) -> &[u8]
         requires { i < self.now.blocks }
         ensures block { result.now ≡ block_at (lent_bytes self.now) i }
@@ -51,7 +50,7 @@ impl LentMedium {
         &self.bytes[at..at + 512]
     }
 
-    /// So many bytes from a block on.
+    /// `len` bytes, from block `first`.
     fn bytes_from(&self, first: u64, len: usize) -> &[u8]
         requires { 512 * first + len ≤ 512 * self.now.blocks }
         ensures bytes { result.now ≡ blocks_from (lent_bytes self.now) first len }

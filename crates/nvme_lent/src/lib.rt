@@ -1,4 +1,4 @@
-//! Media for a library that C calls: bytes that C lends, and beside them blocks of the library's own.
+//! Media for a library that C programs call: over bytes of the C program, or over blocks that the library allocates.
 #![tactic(auto)]
 
 mod bytes;

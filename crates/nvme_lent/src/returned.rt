@@ -1,4 +1,4 @@
-//! Bytes that are C's again.
+//! Bytes that belong to the C program again.
 
 ghost use Rattle.std.specs.Prelude.{◌≡◌, Option, None, Some};
 ghost use Rattle.nvme_lent.specs.Bytes.{as_lent, owned};
@@ -7,8 +7,8 @@ ghost use Rattle.nvme_lent.specs.declared.bytes.LentBytes.{LentBytes as Lent};
 use std::marker::Model;
 use std_alloc::vec::Lodged;
 
-/// Bytes that C lent and has back, or none. What it holds is the right to them alone, so it takes no room, and C takes
-/// them back without a call. Both functions are proved by hand, since a right changes hands.
+/// Bytes that go back to the C program, or none. The value is only the right to them: it has no size, and the program
+/// takes the bytes without a call. Both functions are proved by hand, since a right changes owner.
 #[repr(C)]
 #[derive(Drop)]
 pub struct ReturnedBytes {
@@ -19,18 +19,18 @@ impl Model for ReturnedBytes {
     ghost also_owns = { λ returned. owned returned.bytes };
 }
 
-// The right to bytes may go to another thread.
+// The right to bytes may move to another thread.
 unsafe impl Send for ReturnedBytes {}
 
 impl ReturnedBytes {
-    /// None.
+    /// No bytes.
     pub fn none() -> ReturnedBytes
         ensures { result.bytes ≡ None }
     {
         ReturnedBytes {}
     }
 
-    /// The bytes that this buffer lies on.
+    /// The bytes of this buffer.
     pub fn of(buffer: Vec<u8, Lodged>) -> ReturnedBytes
         ensures { result.bytes ≡ Some (as_lent buffer) }
     {

@@ -1,4 +1,4 @@
--- A line's text is the same wherever its bytes lie.
+-- For programs that show how a line was read: a line's text does not depend on the address of its bytes.
 use Rattle.std.proofs.Common.{◌≡◌, ℕ, ◌++◌, codes, refl, ap}
 use Rattle.nvme_driver.specs.declared.request.Request.{Request}
 use Rattle.nvme_driver.specs.declared.request.Request.TheVariants as request

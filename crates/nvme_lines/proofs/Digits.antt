@@ -1,5 +1,32 @@
--- Bytes that are written are read.
-use Rattle.std.proofs.Common.{◌≡◌, ◌∙◌, ℕ, suc, ◌+◌, ◌-◌, ◌*◌, ◌/◌, ◌%◌, ◌<◌, ◌≤◌, Bool, true, false, List, [], ◌∷◌, ◌++◌, length, replicate, Some, Ok, refl, sym, ap, arith}
+-- For `ReadBack`: bytes that are formatted are parsed as the same.
+use Rattle.std.proofs.Common.{
+  ◌≡◌,
+  ◌∙◌,
+  ℕ,
+  suc,
+  ◌+◌,
+  ◌-◌,
+  ◌*◌,
+  ◌/◌,
+  ◌%◌,
+  ◌<◌,
+  ◌≤◌,
+  Bool,
+  true,
+  false,
+  List,
+  [],
+  ◌∷◌,
+  ◌++◌,
+  length,
+  replicate,
+  Some,
+  Ok,
+  refl,
+  sym,
+  ap,
+  arith,
+}
 use Rattle.std.specs.Prelude.{◌==◌, codes, if◌then◌else◌, nat_eq}
 use Rattle.std.specs.Fmt.{digit_glyph}
 use Rattle.std.specs.List.{flat_map, list_all, starts_with}
@@ -23,7 +50,8 @@ digit-visible d h = grind (arith)
 pub digits-visible : (bs : List ℕ) → AreBytes bs → list_all is_visible (flat_map hex_pair bs) ≡ true
 digits-visible [] are = refl
 digits-visible (b ∷ bs) are =
-    rw (digit-visible (b / 16) (omega (arith, are.0)), digit-visible (b % 16) (omega arith), digits-visible bs are.1) refl
+    rw (digit-visible (b / 16) (omega (arith, are.0)), digit-visible (b % 16) (omega arith), digits-visible bs are.1)
+    refl
 
 pub length-digits : (bs : List ℕ) → length (flat_map hex_pair bs) ≡ 2 * length bs
 length-digits [] = refl
@@ -34,13 +62,19 @@ unfolding decode_pairs
 pairs-decode i [] are = refl
 pairs-decode i (b ∷ bs) are =
     let same : b / 16 * 16 + b % 16 ≡ b = omega arith in
-    rw (digit-value (b / 16) (omega (arith, are.0)), digit-value (b % 16) (omega arith), pairs-decode (i + 2) bs are.1, same) refl
+    rw (
+      digit-value (b / 16) (omega (arith, are.0)),
+      digit-value (b % 16) (omega arith),
+      pairs-decode (i + 2) bs are.1,
+      same,
+    ) refl
 
 pub decode-digits : (bs : List ℕ) → AreBytes bs → decode_of (flat_map hex_pair bs) ≡ Ok bs
 decode-digits bs are =
     decode_of-even (flat_map hex_pair bs) (omega (arith, length-digits bs)) ∙ pairs-decode 0 bs are
 
-pub bytes-written : (b : ℕ) (bs : List ℕ) → AreBytes (b ∷ bs) → bytes_at (codes "hex:" ++ flat_map hex_pair (b ∷ bs)) ≡ Some (b ∷ bs)
+pub bytes-written : (b : ℕ) (bs : List ℕ)
+    → AreBytes (b ∷ bs) → bytes_at (codes "hex:" ++ flat_map hex_pair (b ∷ bs)) ≡ Some (b ∷ bs)
 unfolding bytes_at
 bytes-written b bs are = ap some_bytes (decode-digits (b ∷ bs) are)
 
@@ -53,11 +87,12 @@ zeros-only (b ∷ bs) h =
     let parts = and_parts (b == 0) (list_all (λ x. x == 0) bs) h in
     rw (eqb-true b 0 parts.0) (ap (λ t. 0 ∷ t) (zeros-only bs parts.1))
 
--- zeros fill up what lacks them
+-- zeros are added to bytes that are too short
 abbrev left : Bool → ℕ → List ℕ → List ℕ
 left t b bs = if t then [] else b ∷ bs
 
-refilled-by : (b : ℕ) (bs rest : List ℕ) (t : Bool) → list_all (λ x. x == 0) (b ∷ bs) ≡ t → rest ++ replicate (length bs - length rest) 0 ≡ bs
+refilled-by : (b : ℕ) (bs rest : List ℕ) (t : Bool) → list_all (λ x. x == 0) (b ∷ bs) ≡ t
+    → rest ++ replicate (length bs - length rest) 0 ≡ bs
     → left t b rest ++ replicate (length (b ∷ bs) - length (left t b rest)) 0 ≡ b ∷ bs
 refilled-by b bs rest true e same =
     let none : suc (length bs) - 0 ≡ suc (length bs) = omega arith in
@@ -66,7 +101,8 @@ refilled-by b bs rest false e same =
     let less : suc (length bs) - suc (length rest) ≡ length bs - length rest = omega arith in
     rw less (ap (λ t. b ∷ t) same)
 
-pub refilled : (bs : List ℕ) → without_trailing_zeros bs ++ replicate (length bs - length (without_trailing_zeros bs)) 0 ≡ bs
+pub refilled : (bs : List ℕ)
+    → without_trailing_zeros bs ++ replicate (length bs - length (without_trailing_zeros bs)) 0 ≡ bs
 refilled [] = refl
 refilled (b ∷ bs) = refilled-by b bs (without_trailing_zeros bs) (list_all (λ x. x == 0) (b ∷ bs)) refl (refilled bs)
 
@@ -76,7 +112,8 @@ shorter-by b n rest false less = omega (arith, less)
 
 pub trimmed-shorter : (bs : List ℕ) → length (without_trailing_zeros bs) ≤ length bs
 trimmed-shorter [] = omega arith
-trimmed-shorter (b ∷ bs) = shorter-by b (length bs) (without_trailing_zeros bs) (list_all (λ x. x == 0) (b ∷ bs)) (trimmed-shorter bs)
+trimmed-shorter (b ∷ bs) =
+    shorter-by b (length bs) (without_trailing_zeros bs) (list_all (λ x. x == 0) (b ∷ bs)) (trimmed-shorter bs)
 
 bytes-by : (b : ℕ) (rest : List ℕ) (t : Bool) → b < 256 → AreBytes rest → AreBytes (left t b rest)
 bytes-by b rest true small are = tt
@@ -84,19 +121,24 @@ bytes-by b rest false small are = (small, are)
 
 trimmed-bytes : (bs : List ℕ) → AreBytes bs → AreBytes (without_trailing_zeros bs)
 trimmed-bytes [] are = are
-trimmed-bytes (b ∷ bs) are = bytes-by b (without_trailing_zeros bs) (list_all (λ x. x == 0) (b ∷ bs)) are.0 (trimmed-bytes bs are.1)
+trimmed-bytes (b ∷ bs) are =
+    bytes-by b (without_trailing_zeros bs) (list_all (λ x. x == 0) (b ∷ bs)) are.0 (trimmed-bytes bs are.1)
 
--- the data of a transfer, of what is left of them
-filled : (front bytes : List ℕ) (len : ℕ) → length front ≤ len → length bytes ≡ len → front ++ replicate (len - length front) 0 ≡ bytes → filled_up len front ≡ Some bytes
+-- the rest of a transfer's data
+filled : (front bytes : List ℕ) (len : ℕ) → length front ≤ len → length bytes ≡ len
+    → front ++ replicate (len - length front) 0 ≡ bytes → filled_up len front ≡ Some bytes
 filled front bytes len fits whole same = rw (le-leb (length front) len fits) (ap Some same)
 
-some-read : (front bytes : List ℕ) (len : ℕ) → 0 < len → length front ≤ len → length bytes ≡ len → AreBytes front → front ++ replicate (len - length front) 0 ≡ bytes
+some-read : (front bytes : List ℕ) (len : ℕ) → 0 < len → length front ≤ len → length bytes ≡ len → AreBytes front
+    → front ++ replicate (len - length front) 0 ≡ bytes
     → hex_data (Some len) (bytes_at (some_bytes_word front)) ≡ Some bytes
 some-read [] bytes len some fits whole are same =
     let zero_read : bytes_at (codes "hex:00") ≡ Some (0 ∷ []) = bytes-written 0 [] (omega arith, tt) in
     let one_less : len ≡ suc (len - 1) = omega (arith, some) in
-    rw zero_read (filled (0 ∷ []) bytes len some whole (sym (ap (λ n. replicate n 0) one_less) ∙ ap (λ n. replicate n 0) (omega arith) ∙ same))
-some-read (b ∷ bs) bytes len some fits whole are same = rw (bytes-written b bs are) (filled (b ∷ bs) bytes len fits whole same)
+    rw zero_read (filled (0 ∷ []) bytes len some whole
+    (sym (ap (λ n. replicate n 0) one_less) ∙ ap (λ n. replicate n 0) (omega arith) ∙ same))
+some-read (b ∷ bs) bytes len some fits whole are same =
+    rw (bytes-written b bs are) (filled (b ∷ bs) bytes len fits whole same)
 
 no-fill : (front : List ℕ) → starts_with nat_eq (some_bytes_word front) (codes "fill:") ≡ false
 no-fill [] = refl
@@ -114,7 +156,8 @@ data-read (b ∷ bs) is =
     let whole : length (b ∷ bs) ≡ 512 * n = omega (arith, is.whole) in
     let some : 1 ≤ n = omega (arith, whole) in
     let few : n ≤ 256 = omega (arith, is.most) in
-    let read = some-read front (b ∷ bs) (512 * n) (omega (arith, some)) (omega (arith, whole, trimmed-shorter (b ∷ bs))) whole (trimmed-bytes (b ∷ bs) is.bytes)
+    let read = some-read front (b ∷ bs) (512 * n) (omega (arith, some))
+    (omega (arith, whole, trimmed-shorter (b ∷ bs))) whole (trimmed-bytes (b ∷ bs) is.bytes)
     (ap (λ k. front ++ replicate (k - length front) 0) (sym whole) ∙ refilled (b ∷ bs)) in
     rw (no-fill front, has-length n some few) read
 

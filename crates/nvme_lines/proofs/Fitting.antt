@@ -1,5 +1,38 @@
--- What a word is read as has its form.
-use Rattle.std.proofs.Common.{◌≡◌, ◌∙◌, ℕ, zero, suc, ◌-◌, ◌*◌, ◌%◌, ◌^◌, ◌<◌, ◌≤◌, Bool, true, false, List, [], ◌∷◌, ◌++◌, length, drop, replicate, length-append, Option, None, Some, Result, Ok, Err, refl, ap, subst, arith}
+-- For `Readings`: a number that is parsed from a word fits its width, and data are bytes of a valid length.
+use Rattle.std.proofs.Common.{
+  ◌≡◌,
+  ◌∙◌,
+  ℕ,
+  zero,
+  suc,
+  ◌-◌,
+  ◌*◌,
+  ◌%◌,
+  ◌^◌,
+  ◌<◌,
+  ◌≤◌,
+  Bool,
+  true,
+  false,
+  List,
+  [],
+  ◌∷◌,
+  ◌++◌,
+  length,
+  drop,
+  replicate,
+  length-append,
+  Option,
+  None,
+  Some,
+  Result,
+  Ok,
+  Err,
+  refl,
+  ap,
+  subst,
+  arith,
+}
 use Rattle.std.specs.Prelude.{◌&&◌, codes, if◌then◌else◌, nat_eq, nat_le, nat_lt}
 use Rattle.std.specs.List.{starts_with}
 use Rattle.std.proofs.lemmas.Bool.{and_parts, leb-true, ltb-true}
@@ -45,7 +78,8 @@ decoded ds bs h = are-bytes bs (decode_of-ok ds bs h).3
 abbrev HasBytes : List ℕ → Type 0
 HasBytes bytes = AreBytes bytes × (0 < length bytes)
 
-some-fit : (ds bytes : List ℕ) (r : Result (List ℕ) FromHexError) → decode_of ds ≡ r → some_bytes r ≡ Some bytes → HasBytes bytes
+some-fit : (ds bytes : List ℕ) (r : Result (List ℕ) FromHexError) → decode_of ds ≡ r → some_bytes r ≡ Some bytes
+    → HasBytes bytes
 some-fit ds bytes (Ok []) is h = absurd (cc)
 some-fit ds bytes (Ok (b ∷ bs)) is h = subst HasBytes (same (b ∷ bs) bytes h) (decoded ds (b ∷ bs) is, omega arith)
   where
@@ -84,7 +118,8 @@ same-bytes a b e = cc
 one-byte : (ds : List ℕ) (b : ℕ) → decode_of ds ≡ Ok (b ∷ []) → b < 256
 one-byte ds b h = (decoded ds (b ∷ []) h).0
 
-fill-fits : (ds bytes : List ℕ) (len : Option ℕ) → IsLength len → (r : Result (List ℕ) FromHexError) → decode_of ds ≡ r → fill_data len r ≡ Some bytes → IsData bytes
+fill-fits : (ds bytes : List ℕ) (len : Option ℕ) → IsLength len → (r : Result (List ℕ) FromHexError)
+    → decode_of ds ≡ r → fill_data len r ≡ Some bytes → IsData bytes
 fill-fits ds bytes (Some len) fits (Ok (b ∷ [])) is h = subst IsData (same-bytes (replicate len b) bytes h) (record {
   bytes = bytes-replicate len b (one-byte ds b is);
   whole = ap (λ k. k % block_size) (length-replicate len b) ∙ fits.0;
@@ -98,22 +133,31 @@ fill-fits ds bytes None fits (Ok (b ∷ c ∷ bs)) is h = absurd (cc)
 fill-fits ds bytes (Some len) fits (Err e) is h = absurd (cc)
 fill-fits ds bytes None fits (Err e) is h = absurd (cc)
 
-filled-fits : (len : ℕ) (front bytes : List ℕ) → IsLength (Some len) → AreBytes front → filled_up len front ≡ Some bytes → IsData bytes
+filled-fits : (len : ℕ) (front bytes : List ℕ) → IsLength (Some len) → AreBytes front → filled_up len front ≡ Some bytes
+    → IsData bytes
 filled-fits len front bytes fits are h = by (nat_le (length front) len) refl h
   where
-    by : (t : Bool) → nat_le (length front) len ≡ t → (if t then Some (front ++ replicate (len - length front) 0) else None) ≡ Some bytes → IsData bytes
+    by : (t : Bool) → nat_le (length front) len ≡ t
+        → (if t then Some (front ++ replicate (len - length front) 0) else None) ≡ Some bytes → IsData bytes
     by true e k =
         let room = leb-true (length front) len e in
         let whole : length (front ++ replicate (len - length front) 0) ≡ len =
-        omega (arith, length-append front (replicate (len - length front) 0), length-replicate {A = ℕ} (len - length front) 0, room) in
+        omega (
+          arith,
+          length-append front (replicate (len - length front) 0),
+          length-replicate {A = ℕ} (len - length front) 0,
+          room,
+        ) in
         subst IsData (same-bytes (front ++ replicate (len - length front) 0) bytes k) (record {
-          bytes = bytes-append front (replicate (len - length front) 0) are (bytes-replicate (len - length front) 0 (omega arith));
+          bytes = bytes-append front (replicate (len - length front) 0) are
+              (bytes-replicate (len - length front) 0 (omega arith));
           whole = ap (λ k. k % block_size) whole ∙ fits.0;
           most = omega (arith, whole, fits.1);
         })
     by false e k = absurd (cc)
 
-hex-fits : (word bytes : List ℕ) (len : Option ℕ) → IsLength len → (o : Option (List ℕ)) → bytes_at word ≡ o → hex_data len o ≡ Some bytes → IsData bytes
+hex-fits : (word bytes : List ℕ) (len : Option ℕ) → IsLength len → (o : Option (List ℕ))
+    → bytes_at word ≡ o → hex_data len o ≡ Some bytes → IsData bytes
 hex-fits word bytes (Some len) fits (Some front) is h = filled-fits len front bytes fits (bytes-fit word front is).0 h
 hex-fits word bytes None fits (Some front) is h = subst IsData (same-bytes [] bytes h) nothing
 hex-fits word bytes (Some len) fits None is h = absurd (cc)
@@ -123,6 +167,8 @@ pub data-fits : (blocks : ℕ) (word bytes : List ℕ) → data_at blocks word �
 unfolding data_at
 data-fits blocks word bytes h = by (starts_with nat_eq word (codes "fill:")) h
   where
-    by : (t : Bool) → (if t then fill_data (transfer_len blocks) (decode_of (drop 5 word)) else hex_data (transfer_len blocks) (bytes_at word)) ≡ Some bytes → IsData bytes
-    by true k = fill-fits (drop 5 word) bytes (transfer_len blocks) (length-fits blocks) (decode_of (drop 5 word)) refl k
+    by : (t : Bool) → (if t then fill_data (transfer_len blocks) (decode_of (drop 5 word))
+        else hex_data (transfer_len blocks) (bytes_at word)) ≡ Some bytes → IsData bytes
+    by true k =
+        fill-fits (drop 5 word) bytes (transfer_len blocks) (length-fits blocks) (decode_of (drop 5 word)) refl k
     by false k = hex-fits word bytes (transfer_len blocks) (length-fits blocks) (bytes_at word) refl k

@@ -1,4 +1,4 @@
--- Numbers that are written are read.
+-- For `ReadBack`: numbers that are formatted are parsed as the same.
 use Rattle.std.proofs.Common.{◌≡◌, ◌∙◌, ℕ, ◌^◌, ◌<◌, ◌≤◌, true, false, List, [], ◌∷◌, ◌++◌, Some, refl, sym, ap, arith}
 use Rattle.std.specs.Prelude.{codes}
 use Rattle.std.specs.Char.{digit_value}
@@ -45,5 +45,6 @@ pub number-host : (h : ℕ) → h < 2 ^ 128 → number_at 128 (codes "0x" ++ dig
 unfolding number_at
 number-host h small =
     let read = hex-read h small in
-    sym (below-fits (2 ^ 128) 16 (digits 16 false h) read.0.0 (all-digits 16 (digits 16 false h) read.0.1) (rw read.1 small))
+    sym (below-fits (2 ^ 128) 16 (digits 16 false h) read.0.0 (all-digits 16 (digits 16 false h) read.0.1)
+    (rw read.1 small))
     ∙ ap Some read.1

@@ -1,4 +1,4 @@
--- What an answer unfolds to compute the texts of literal lines.
+-- For examples: the definitions that compute the texts of literal lines.
 use Rattle.std.specs.Prelude.{⊤}
 use Rattle.std.specs.Fmt.{digits}
 

@@ -1,4 +1,4 @@
--- What is written is read as the same.
+-- Statements of the law `lines_are_read_back`: a formatted line is parsed as the same.
 use Rattle.std.specs.Prelude.{◌≡◌, ◌<◌, ◌≤◌, ◌%◌, ◌^◌, ℕ, List, [], ◌∷◌, length, Some}
 use Rattle.nvme_spec.specs.Limits.{block_size, most_bytes}
 use Rattle.nvme_driver.specs.declared.request.Request.{Request}
@@ -19,13 +19,13 @@ abbrev pub AreIdentifiers : List ℕ → Type 0
 AreIdentifiers [] = Unit {0}
 AreIdentifiers (n ∷ ns) = (n < 2 ^ 16) × AreIdentifiers ns
 
--- the data of a Write or a Compare: 256 whole blocks at most, and none where there is no transfer
+-- the data of a Write or a Compare: at most 256 whole blocks, or none
 pub record IsData (data_bytes : List ℕ) : Type 0 where
   pub bytes : AreBytes data_bytes
   pub whole : length data_bytes % block_size ≡ 0
   pub most : length data_bytes ≤ most_bytes
 
--- the numbers of a request have the bits that it gives them, and its data are whole blocks
+-- the numbers of a request fit their bits, and its data are whole blocks
 abbrev pub RequestFits : Request → Type 0
 RequestFits (request.Read nsid slba blocks) = (nsid < 2 ^ 32) × (slba < 2 ^ 64) × (blocks < 2 ^ 32)
 RequestFits (request.Write nsid slba bytes) = (nsid < 2 ^ 32) × (slba < 2 ^ 64) × IsData bytes.now
@@ -45,7 +45,7 @@ RequestFits (request.Protection nsid) = nsid < 2 ^ 32
 RequestFits (request.Attach nsid list) = (nsid < 2 ^ 32) × AreIdentifiers list.now
 RequestFits (request.Detach nsid list) = (nsid < 2 ^ 32) × AreIdentifiers list.now
 
--- the same of an event: of an execution, that its place has 16 bits, and of a store, that it has bytes
+-- the same for an event: the place of an execution fits 16 bits, and a store has bytes
 abbrev pub EventFits : FleetEvent → Type 0
 EventFits (event.BringUp cntlid) = cntlid < 2 ^ 16
 EventFits (event.Place cntlid asked) = (cntlid < 2 ^ 16) × RequestFits asked
@@ -59,7 +59,7 @@ EventFits (event.RawStore cntlid address bytes) =
 EventFits (event.RawWrite32 cntlid offset value) = (cntlid < 2 ^ 16) × (offset < 2 ^ 64) × (value < 2 ^ 32)
 EventFits event.PowerCycle = Unit {0}
 
--- the same of a line
+-- the same for a line
 abbrev pub LineFits : Line → Type 0
 LineFits Blank = Unit {0}
 LineFits (Controller c) = (c.cntlid < 2 ^ 16) × (c.host < 2 ^ 128)
@@ -68,14 +68,14 @@ LineFits (Attached cntlid nsid) = (cntlid < 2 ^ 16) × (nsid < 2 ^ 32)
 LineFits Start = Unit {0}
 LineFits (Event e) = EventFits e
 
--- the text of such a line is read as that line
+-- the text of such a line is parsed as that line
 abbrev pub LinesAreReadBack : Type 0
 LinesAreReadBack = (line : Line) → LineFits line → line_at (line_text line) ≡ Some (line_by_value line)
 
--- what the grammar reads is such a line
+-- the grammar parses only such lines
 abbrev pub LinesFit : Type 0
 LinesFit = (text : List ℕ) (line : Line) → line_at text ≡ Some line → LineFits line
 
--- So what is read of any text is read of its line's text as well.
+-- So whatever is parsed from any text is parsed from its line's text as well.
 abbrev pub ReadingIsWritten : Type 0
 ReadingIsWritten = (text : List ℕ) (line : Line) → line_at text ≡ Some line → line_at (line_text line) ≡ Some line

@@ -1,4 +1,4 @@
--- How lines are written: each thing that a line says has one text, which the grammar reads as that.
+-- The text of each line, which the grammar parses as that line.
 use Rattle.std.specs.Prelude.{ℕ, ◌/◌, Bool, true, false, List, [], ◌∷◌, ◌++◌, codes, length, map}
 use Rattle.std.specs.Fmt.{decimal, digits}
 use Rattle.std.specs.List.{flat_map}
@@ -34,12 +34,12 @@ host_word h = codes "0x" ++ digits 16 false h
 abbrev pub bytes_word : List ℕ → List ℕ
 bytes_word bytes = codes "hex:" ++ flat_map hex_pair bytes
 
--- bytes, and a zero where there is none
+-- bytes, or a zero if there are none
 abbrev pub some_bytes_word : List ℕ → List ℕ
 some_bytes_word [] = codes "hex:00"
 some_bytes_word (b ∷ bs) = bytes_word (b ∷ bs)
 
--- data, which zeros fill up when they are read
+-- data, which are extended with zeros when they are parsed
 abbrev pub data_word : List ℕ → List ℕ
 data_word bytes = some_bytes_word (without_trailing_zeros bytes)
 
@@ -48,7 +48,7 @@ abbrev pub bit_number : Bool → ℕ
 bit_number true = 1
 bit_number false = 0
 
--- a Write or a Compare, after `KEYWORD C`: its blocks are those of its data, and 0 where it has none
+-- a Write or a Compare, after `KEYWORD C`: its blocks are those of its data, or 0 if it has none
 abbrev pub transfer_words : ℕ → ℕ → List ℕ → List (List ℕ)
 transfer_words nsid slba bytes =
     decimals (nsid ∷ slba ∷ length bytes / block_size ∷ []) ++ data_word bytes ∷ []
@@ -146,7 +146,7 @@ abbrev pub namespace_line : ℕ → ℕ → Bool → List ℕ
 namespace_line nsid blocks shared =
     keyword_line keyword.Namespace (decimal nsid ∷ codes "blocks" ∷ decimal blocks ∷ sharing_word shared ∷ [])
 
--- the text of a line; one that says nothing has an empty one
+-- the text of a line; one without effect has an empty text
 abbrev pub line_text : Line → List ℕ
 line_text Blank = []
 line_text (Controller c) = controller_line c.cntlid c.host c.raw
@@ -155,7 +155,7 @@ line_text (Attached cntlid nsid) = keyword_line keyword.Attached (decimals (cntl
 line_text Start = keyword_text keyword.Start
 line_text (Event e) = event_line e
 
--- how a text is read, as an answer shows it
+-- the answer that shows how a text was parsed
 abbrev pub reading_text : Line → List ℕ
 reading_text Blank = codes "line blank"
 reading_text line = codes "line " ++ line_text line

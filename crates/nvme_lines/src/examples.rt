@@ -1,4 +1,4 @@
-//! Worked examples of the definitions: the contract of each function here is computed by the check.
+//! Worked examples of the definitions. Each is the contract of an empty function, proved by computing.
 
 ghost use Rattle.std.specs.Prelude.{◌≡◌, ◌++◌, ◌∷◌, [], codes, false, replicate, true};
 ghost use Rattle.nvme_driver.specs.declared.request.Request.TheVariants.{Attach, Register, Write};
@@ -7,7 +7,7 @@ ghost use Rattle.nvme_grammar.specs.Lent.{lent};
 ghost use Rattle.nvme_grammar.specs.declared.line.Line.TheVariants.{Attached, Blank, Event, Start};
 ghost use Rattle.nvme_lines.specs.LineTexts.{controller_line, line_text, namespace_line, reading_text};
 
-/// Lines before `start`, `start`, and lines that say nothing.
+/// Lines before `start`, `start`, and lines without effect.
 #[tactic(auto, unfolding(crate::proofs::OnLiterals::texts_on_literals))]
 pub fn lines_before_start()
     ensures controller { controller_line 1 161 false ≡ codes "controller 1 host 0xa1" }
@@ -20,7 +20,7 @@ pub fn lines_before_start()
     ensures nothing { line_text Blank ≡ [] }
 {}
 
-/// Events: of data the zeros at the end are left out, of the bytes of a store none.
+/// Events: data are formatted without the zeros at their end, the bytes of a store with them.
 #[tactic(auto, unfolding(crate::proofs::OnLiterals::texts_on_literals))]
 pub fn lines_of_events()
     ensures data { line_text (Event (Place 1 (Write 1 0 (lent (codes "Hello" ++ replicate 507 0)))))

@@ -1,4 +1,4 @@
-//! The writer of lines: the text of what a line of a script says, in one form, which the grammar reads as the same.
+//! Formats the line of a script as one text, which the grammar parses as the same line.
 #![tactic(auto)]
 
 mod event;

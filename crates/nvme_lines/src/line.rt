@@ -1,8 +1,15 @@
-//! Lines as texts.
+//! Formats lines.
 
 ghost use Rattle.std.specs.Prelude.{◌≡◌};
 ghost use Rattle.script_text.specs.Pages.{Adds};
-ghost use Rattle.nvme_lines.specs.LineTexts.{controller_line, line_text, namespace_line, raw_words, reading_text, spaced};
+ghost use Rattle.nvme_lines.specs.LineTexts.{
+  controller_line,
+  line_text,
+  namespace_line,
+  raw_words,
+  reading_text,
+  spaced,
+};
 
 use crate::event::put_event;
 use crate::words::put_keyword;
@@ -10,9 +17,9 @@ use nvme_grammar::{Keyword, Line};
 use nvme_spec::{ControllerConfig, NsConfig};
 use script_text::{NoRoom, Page, Spell, put_labelled, put_wide_hex};
 
-/// A line of a script. Its text is one that the grammar reads as this line: words with single spaces between them,
-/// numbers in decimal, a host as `0x` and lower-case digits, data as `hex:` without the zeros at their end, and `hex:00`
-/// where nothing is left. A line that says nothing has an empty text.
+/// A line of a script. Its text is one that the grammar parses as this line: words with single spaces between them,
+/// numbers in decimal, a host as `0x` and lower-case digits, data as `hex:` without the zeros at their end, or `hex:00`
+/// if nothing is left. A line without effect has an empty text.
 #[derive(Clone, Copy)]
 pub struct LineText<'a>(pub Line<'a>);
 
@@ -37,7 +44,7 @@ impl Spell for LineText<'_> {
     }
 }
 
-/// How a text was read. Its own text is `line` and that of the line, or `line blank`.
+/// How a text was parsed. Its own text is `line` and that of the line, or `line blank`.
 #[derive(Clone, Copy)]
 pub struct Reading<'a>(pub Line<'a>);
 

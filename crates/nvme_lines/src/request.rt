@@ -1,8 +1,14 @@
-//! Requests as lines.
+//! The lines of requests.
 
 ghost use Rattle.std.specs.Prelude.{◌≡◌};
 ghost use Rattle.script_text.specs.Pages.{Adds};
-ghost use Rattle.nvme_lines.specs.LineTexts.{request_keyword as keyword_spec, request_words, reservation_words, spaced, transfer_words};
+ghost use Rattle.nvme_lines.specs.LineTexts.{
+  request_keyword as keyword_spec,
+  request_words,
+  reservation_words,
+  spaced,
+  transfer_words,
+};
 
 use crate::words::{put_data, put_identifiers, put_numbers};
 use nvme_driver::Request;
@@ -33,7 +39,8 @@ pub fn request_keyword(request: &Request<'_>) -> Keyword
 
 /// Puts the words of a Write or a Compare.
 fn put_transfer<P: Page>(page: &mut P, nsid: u32, slba: u64, bytes: &[u8]) -> Result<(), NoRoom>
-    ensures { Adds P.room result (P.written page.old) (spaced (transfer_words nsid slba bytes.now)) (P.written page.new) }
+    ensures { Adds P.room result (P.written page.old) (spaced (transfer_words nsid slba bytes.now))
+        (P.written page.new) }
 {
     put_numbers(page, &[u64::from(nsid), slba, (bytes.len() / 512) as u64])?;
     put_data(page, bytes)

@@ -1,4 +1,4 @@
-//! What lines are made of: keywords, numbers and bytes.
+//! The parts of lines: keywords, numbers and bytes.
 
 ghost use Rattle.std.specs.Prelude.{◌≡◌, ◌++◌, codes};
 ghost use Rattle.script_text.specs.Pages.{Adds};
@@ -33,7 +33,8 @@ pub fn put_identifiers<P: Page>(page: &mut P, list: &[u16]) -> Result<(), NoRoom
 
 /// Puts a keyword, and numbers after it.
 pub fn put_keyword<P: Page>(page: &mut P, keyword: Keyword, numbers: &[u64]) -> Result<(), NoRoom>
-    ensures { Adds P.room result (P.written page.old) (keyword_line keyword (decimals numbers.now)) (P.written page.new) }
+    ensures { Adds P.room result (P.written page.old) (keyword_line keyword (decimals numbers.now))
+        (P.written page.new) }
 {
     page.put_str(keyword.text())?;
     put_numbers(page, numbers)
@@ -47,7 +48,7 @@ pub fn put_bytes<P: Page>(page: &mut P, bytes: &[u8]) -> Result<(), NoRoom>
     put_digits(page, bytes)
 }
 
-/// Puts data after a space, without the zeros at their end, but for one where nothing is left.
+/// Puts data after a space, without the zeros at their end, but at least one byte.
 pub fn put_data<P: Page>(page: &mut P, bytes: &[u8]) -> Result<(), NoRoom>
     ensures { Adds P.room result (P.written page.old) (codes " " ++ data_word bytes.now) (P.written page.new) }
 {

@@ -1,4 +1,4 @@
--- What an answer unfolds to compute texts with literal numbers.
+-- For examples: the definitions that compute texts with literal numbers.
 use Rattle.std.specs.Prelude.{⊤}
 use Rattle.std.specs.Fmt.{digits}
 use Rattle.nvme_program.specs.RuleTexts.{rule_text}

@@ -1,16 +1,49 @@
--- What `start` comes to.
-use Rattle.std.proofs.Common.{◌≡◌, ◌≢◌, ◌+◌, ◌⊎◌, ℕ, Bool, List, Option, None, Some, inl, inr, refl, sym, ap, subst, ◌∙◌}
+-- For the answers of `start` and `run_from_start`: the effect of `start`.
+use Rattle.std.proofs.Common.{
+  ◌≡◌,
+  ◌≢◌,
+  ◌+◌,
+  ◌⊎◌,
+  ℕ,
+  Bool,
+  List,
+  Option,
+  None,
+  Some,
+  inl,
+  inr,
+  refl,
+  sym,
+  ap,
+  subst,
+  ◌∙◌,
+}
 use Rattle.std.specs.Prelude.{true, false, if◌then◌else◌, is_some, nat_lt, unwrap_or, Result, Ok, Err, IfOk, IfErr}
 use Rattle.std.specs.List.{list_any}
 use Rattle.nvme_spec.specs.Blocks.{Device}
 use Rattle.nvme_spec.specs.MediumCalls.{MediumCall}
 use Rattle.nvme_subsys.specs.OverMedium.{over}
-use Rattle.nvme_spec.specs.Configuration.{Configuration, empty_configuration, first_config_fault, has_bad_id, has_bad_size, has_too_many, total_blocks}
+use Rattle.nvme_spec.specs.Configuration.{
+  Capacity,
+  Configuration,
+  empty_configuration,
+  config_fault,
+  has_bad_id,
+  has_bad_size,
+  has_too_many,
+  total_blocks,
+}
 use Rattle.nvme_ns.specs.declared.refusal.BrokenRule.{BrokenRule}
 use Rattle.nvme_live.specs.SetUps.{SetUp, numbered_reason}
 use Rattle.nvme_live.specs.SetUpLaws.{RunsWhereAccepted}
 use Rattle.nvme_spec.specs.declared.config.ConfigFault.{ConfigFault}
-use Rattle.nvme_spec.specs.declared.config.ConfigFault.TheVariants.{BadId, BadSize, DoesNotFit, NoMemory as WantOfMemory, TooMany}
+use Rattle.nvme_spec.specs.declared.config.ConfigFault.TheVariants.{
+  BadId,
+  BadSize,
+  DoesNotFit,
+  NoMemory as WantOfMemory,
+  TooMany,
+}
 use Rattle.nvme_machine.specs.Subsystems as machine
 use Rattle.nvme_fleet.specs.FleetStates.{Layers, opening_layers}
 use Rattle.nvme_ns.specs.Configured.{configuration}
@@ -30,76 +63,111 @@ use Rattle.nvme_live.specs.AnswerCalls.{TurnOver}
 use Rattle.nvme_live.specs.Conversations.{CanRun, ComesToStart, Converses, Ends, EndsBy, FromStart, standing_over}
 use Rattle.nvme_live.specs.Lives.{Rests, StartFails, StartRefused, device_in}
 use Rattle.nvme_live.specs.Saying.{LacksRoom, with_feed}
-use Rattle.nvme_live.specs.Standings.{MayLackRoom, Standing, Setting, Running, Over, Starts, Turn, refused_text, started_text}
+use Rattle.nvme_live.specs.Standings.{
+  MayLackRoom,
+  Standing,
+  Setting,
+  Running,
+  Over,
+  Starts,
+  Turn,
+  refused_text,
+  started_text,
+}
 use Rattle.script_text.specs.Writing.{Sending, Sent}
 use Rattle.nvme_live.specs.Streams.{Came, LineCall, Says}
 use Rattle.nvme_live.proofs.Lifting.{conversed-over}
 use Rattle.nvme_live.proofs.Sessions.{conversed-none, conversed-one, ends-behind, ends_by-behind}
 
-pub accepted-start : (o : Option ConfigFault) (blocks : ℕ) (d : Device) (n : ℕ) (s : SetUp) → o ≡ None → Starts o blocks d n s (with_feed started_text) (Running (opening_layers s.configuration d))
-accepted-start o blocks d n s e = subst (λ (p : Option ConfigFault). Starts p blocks d n s (with_feed started_text) (Running (opening_layers s.configuration d))) (sym e) (refl, refl)
+pub accepted-start : (o : Option ConfigFault) (size : Capacity) (d : Device) (n : ℕ) (s : SetUp)
+    → o ≡ None → Starts o size d n s (with_feed started_text) (Running (opening_layers s.configuration d))
+accepted-start o size d n s e = subst (λ (p : Option ConfigFault).
+    Starts p size d n s (with_feed started_text) (Running (opening_layers s.configuration d))) (sym e) (refl, refl)
 
-refuses : (o : Option ConfigFault) (fault : ConfigFault) → fault ≡ unwrap_or o WantOfMemory → fault ≢ WantOfMemory → o ≡ Some fault
+refuses : (o : Option ConfigFault) (fault : ConfigFault) → fault ≡ unwrap_or o WantOfMemory → fault ≢ WantOfMemory
+    → o ≡ Some fault
 refuses None fault e other = absurd (other e)
 refuses (Some f) fault e other = ap Some (sym e)
 
--- that there is no memory is the fault of no configuration
-never-wanting : (c : Configuration) (blocks : ℕ) → first_config_fault c blocks ≡ Some WantOfMemory → ⊥
-unfolding first_config_fault
-never-wanting c blocks = by (has_too_many c) (has_bad_id c) (has_bad_size c.namespaces) (nat_lt blocks (total_blocks c.namespaces))
+-- refused memory is not a fault of a configuration
+never-wanting : (c : Configuration) (size : Capacity) → config_fault c size ≡ Some WantOfMemory → ⊥
+unfolding config_fault
+never-wanting c size =
+    by (has_too_many c) (has_bad_id c) (has_bad_size size c.namespaces) (nat_lt size.medium (total_blocks c.namespaces))
   where
-    by : (many id size room : Bool) → (if many then Some TooMany else (if id then Some BadId else (if size then Some BadSize else (if room then Some DoesNotFit else None)))) ≡ Some WantOfMemory → ⊥
+    by : (many id size room : Bool) → (if many then Some TooMany
+        else (if id then Some BadId else (if size then Some BadSize else (if room then Some DoesNotFit else None))))
+        ≡ Some WantOfMemory → ⊥
     by true id size room e = cc
     by false true size room e = cc
     by false false true room e = cc
     by false false false true e = cc
     by false false false false e = cc
 
--- why a `start` is not answered: its configuration has no fault, or the text for that has no room
-unanswered : (o : Option ConfigFault) (fault : ConfigFault) (says : ConfigFault → List ℕ) → (o ≡ Some WantOfMemory → ⊥) → fault ≡ unwrap_or o WantOfMemory
-    → (fault ≡ WantOfMemory) ⊎ LacksRoom (says fault) → (o ≡ None) ⊎ ((f : ConfigFault) × (o ≡ Some f) × LacksRoom (says f))
+-- why a `start` is not answered: its configuration has no fault, or the text for the fault is too long
+unanswered : (o : Option ConfigFault) (fault : ConfigFault) (says : ConfigFault → List ℕ)
+    → (o ≡ Some WantOfMemory → ⊥) → fault ≡ unwrap_or o WantOfMemory
+    → (fault ≡ WantOfMemory) ⊎ LacksRoom (says fault)
+    → (o ≡ None) ⊎ ((f : ConfigFault) × (o ≡ Some f) × LacksRoom (says f))
 unanswered None fault says never is why = inl refl
 unanswered (Some f) fault says never is (inl e) = absurd (never (ap Some (sym is ∙ e)))
 unanswered (Some f) fault says never is (inr lacks) = inr (f, refl, subst (λ g. LacksRoom (says g)) is lacks)
 
--- a reason that is what the definition gives for this fault
-pub refused-start : {W : Type 0} (Sends : W → Sending → W → Type 0) (result : ScriptFault) (blocks : ℕ) (d : Device) (n : ℕ) (s : SetUp) (fault : ConfigFault) (reason : Option (ℕ × BrokenRule)) (before after : W) → fault ≡ unwrap_or (first_config_fault s.configuration blocks) WantOfMemory
-    → reason ≡ numbered_reason s blocks → StartRefused Sends result n fault reason before after → StartFails Sends result blocks d n s before after
-refused-start Sends (Config k why) blocks d n s fault reason before after is because (at, same, other, sent) = (
+-- the reason is that of the definition for this fault
+pub refused-start : {W : Type 0} (Sends : W → Sending → W → Type 0) (result : ScriptFault) (size : Capacity)
+    (d : Device) (n : ℕ) (s : SetUp) (fault : ConfigFault) (reason : Option (ℕ × BrokenRule)) (before after : W)
+    → fault ≡ unwrap_or (config_fault s.configuration size) WantOfMemory
+    → reason ≡ numbered_reason s size → StartRefused Sends result n fault reason before after
+    → StartFails Sends result size d n s before after
+refused-start Sends (Config k why) size d n s fault reason before after is because (at, same, other, sent) = (
   at,
-  refuses (first_config_fault s.configuration blocks) fault is other ∙ ap Some (sym same),
-  subst (λ (f : ConfigFault). Sends before (Sent (with_feed (refused_text n f (numbered_reason s blocks)))) after) (sym same)
-      (subst (λ (r : Option (ℕ × BrokenRule)). Sends before (Sent (with_feed (refused_text n fault r))) after) because sent),
+  refuses (config_fault s.configuration size) fault is other ∙ ap Some (sym same),
+  subst (λ (f : ConfigFault). Sends before (Sent (with_feed (refused_text n f (numbered_reason s size)))) after)
+      (sym same)
+      (subst (λ (r : Option (ℕ × BrokenRule)). Sends before (Sent (with_feed (refused_text n fault r))) after)
+      because sent),
 )
-refused-start Sends Write blocks d n s fault reason before after is because (other, broke) = (
+refused-start Sends Write size d n s fault reason before after is because (other, broke) = (
   with_feed (refused_text n fault reason),
   Over n fault,
-  subst (λ (p : Option ConfigFault). Starts p blocks d n s (with_feed (refused_text n fault reason)) (Over n fault)) (sym (refuses (first_config_fault s.configuration blocks) fault is other))
+  subst (λ (p : Option ConfigFault). Starts p size d n s (with_feed (refused_text n fault reason)) (Over n fault))
+      (sym (refuses (config_fault s.configuration size) fault is other))
       (ap (λ (r : Option (ℕ × BrokenRule)). with_feed (refused_text n fault r)) because, refl),
   broke,
 )
-refused-start Sends NoMemory blocks d n s fault reason before after is because (why, same) = (
-  unanswered (first_config_fault s.configuration blocks) fault (λ f. with_feed (refused_text n f (numbered_reason s blocks))) (never-wanting s.configuration blocks) is
-      (subst (λ (r : Option (ℕ × BrokenRule)). (fault ≡ WantOfMemory) ⊎ LacksRoom (with_feed (refused_text n fault r))) because why),
+refused-start Sends NoMemory size d n s fault reason before after is because (why, same) = (
+  unanswered (config_fault s.configuration size) fault (λ f. with_feed (refused_text n f (numbered_reason s size)))
+      (never-wanting s.configuration size) is
+      (subst (λ (r : Option (ℕ × BrokenRule)). (fault ≡ WantOfMemory) ⊎ LacksRoom (with_feed (refused_text n fault r)))
+      because why),
   same,
 )
-refused-start Sends (Syntax k) blocks d n s fault reason before after is because h = absurd h
-refused-start Sends TooLong blocks d n s fault reason before after is because h = absurd h
-refused-start Sends Read blocks d n s fault reason before after is because h = absurd h
+refused-start Sends (Syntax k) size d n s fault reason before after is because h = absurd h
+refused-start Sends TooLong size d n s fault reason before after is because h = absurd h
+refused-start Sends Read size d n s fault reason before after is because h = absurd h
 
--- where the answer of an accepted `start` is not sent
-pub unsaid-start : {W : Type 0} (Sends : W → Sending → W → Type 0) (fault : ScriptFault) (blocks : ℕ) (d : Device) (n : ℕ) (s : SetUp) (before after : W) → first_config_fault s.configuration blocks ≡ None
-    → Says Sends (λ _. ⊥) (Err fault) (with_feed started_text) before after → StartFails Sends fault blocks d n s before after
-unsaid-start Sends Write blocks d n s before after accepted broke = (with_feed started_text, Running (opening_layers s.configuration d), accepted-start (first_config_fault s.configuration blocks) blocks d n s accepted, broke)
-unsaid-start Sends NoMemory blocks d n s before after accepted h = absurd h.0
-unsaid-start Sends (Syntax k) blocks d n s before after accepted h = absurd h
-unsaid-start Sends (Config k f) blocks d n s before after accepted h = absurd h
-unsaid-start Sends TooLong blocks d n s before after accepted h = absurd h
-unsaid-start Sends Read blocks d n s before after accepted h = absurd h
+-- if the answer of an accepted `start` is not sent
+pub unsaid-start : {W : Type 0} (Sends : W → Sending → W → Type 0) (fault : ScriptFault) (size : Capacity) (d : Device)
+    (n : ℕ) (s : SetUp) (before after : W) → config_fault s.configuration size ≡ None
+    → Says Sends (λ _. ⊥) (Err fault) (with_feed started_text) before after
+    → StartFails Sends fault size d n s before after
+unsaid-start Sends Write size d n s before after accepted broke = (
+  with_feed started_text,
+  Running (opening_layers s.configuration d),
+  accepted-start (config_fault s.configuration size) size d n s accepted,
+  broke,
+)
+unsaid-start Sends NoMemory size d n s before after accepted h = absurd h.0
+unsaid-start Sends (Syntax k) size d n s before after accepted h = absurd h
+unsaid-start Sends (Config k f) size d n s before after accepted h = absurd h
+unsaid-start Sends TooLong size d n s before after accepted h = absurd h
+unsaid-start Sends Read size d n s before after accepted h = absurd h
 
--- what became of the answer of one that was refused
-pub said-refused : {W : Type 0} (Sends : W → Sending → W → Type 0) (fault : ScriptFault) (n : ℕ) (why : ConfigFault) (reason : Option (ℕ × BrokenRule)) (before after : W) → why ≢ WantOfMemory
-    → Says Sends LacksRoom (Err fault) (with_feed (refused_text n why reason)) before after → StartRefused Sends fault n why reason before after
+-- the sending of a refused one's answer
+pub said-refused : {W : Type 0} (Sends : W → Sending → W → Type 0) (fault : ScriptFault) (n : ℕ) (why : ConfigFault)
+    (reason : Option (ℕ × BrokenRule)) (before after : W) → why ≢ WantOfMemory
+    → Says Sends LacksRoom (Err fault) (with_feed (refused_text n why reason)) before after
+    → StartRefused Sends fault n why reason before after
 said-refused Sends Write n why reason before after other broke = (other, broke)
 said-refused Sends NoMemory n why reason before after other h = (inr h.0, h.1)
 said-refused Sends (Syntax k) n why reason before after other h = absurd h
@@ -107,20 +175,24 @@ said-refused Sends (Config k f) n why reason before after other h = absurd h
 said-refused Sends TooLong n why reason before after other h = absurd h
 said-refused Sends Read n why reason before after other h = absurd h
 
-runs-only : (o : Option ConfigFault) (blocks : ℕ) (d : Device) (n : ℕ) (s : SetUp) (answer : List ℕ) (later : Standing) (l : Layers) → Starts o blocks d n s answer later → later ≡ Running l → o ≡ None
-runs-only None blocks d n s answer later l says is = refl
-runs-only (Some fault) blocks d n s answer later l says is = absurd (not-running n fault l (sym says.1 ∙ is))
+runs-only : (o : Option ConfigFault) (size : Capacity) (d : Device) (n : ℕ) (s : SetUp) (answer : List ℕ)
+    (later : Standing) (l : Layers) → Starts o size d n s answer later → later ≡ Running l → o ≡ None
+runs-only None size d n s answer later l says is = refl
+runs-only (Some fault) size d n s answer later l says is = absurd (not-running n fault l (sym says.1 ∙ is))
   where
     not-running : (n : ℕ) (fault : ConfigFault) (l : Layers) → Over n fault ≡ Running l → ⊥
     not-running n fault l e = cc
 
 pub runs_where_accepted : RunsWhereAccepted
-runs_where_accepted tells blocks d n s line starts = (
-  λ runs. runs-only (first_config_fault s.configuration blocks) blocks d n s runs.0 runs.1 runs.3 (subst (λ (q : Asked). Turn tells blocks d n (Setting s) q runs.0 runs.1) starts runs.2) runs.4,
+runs_where_accepted tells size d n s line starts = (
+  λ runs. runs-only (config_fault s.configuration size) size d n s runs.0 runs.1 runs.3
+      (subst (λ (q : Asked). Turn tells size d n (Setting s) q runs.0 runs.1) starts runs.2) runs.4,
   λ accepted. (
     with_feed started_text,
     Running (opening_layers s.configuration d),
-    subst (λ (q : Asked). Turn tells blocks d n (Setting s) q (with_feed started_text) (Running (opening_layers s.configuration d))) (sym starts) (accepted-start (first_config_fault s.configuration blocks) blocks d n s accepted),
+    subst (λ (q : Asked).
+        Turn tells size d n (Setting s) q (with_feed started_text) (Running (opening_layers s.configuration d)))
+        (sym starts) (accepted-start (config_fault s.configuration size) size d n s accepted),
     opening_layers s.configuration d,
     refl,
   ),
@@ -130,56 +202,78 @@ opened-device : (c : Configuration) (d : Device) → (opening_layers c d).subsys
 unfolding machine.opening
 opened-device c d = refl
 
-pub starts-device : (o : Option ConfigFault) (blocks : ℕ) (d : Device) (n : ℕ) (s : SetUp) (answer : List ℕ) (new : Standing) → Starts o blocks d n s answer new → device_in d new ≡ d
-starts-device None blocks d n s answer new (says, is) = ap (device_in d) is ∙ opened-device s.configuration d
-starts-device (Some fault) blocks d n s answer new (says, is) = ap (device_in d) is
+pub starts-device : (o : Option ConfigFault) (size : Capacity) (d : Device) (n : ℕ) (s : SetUp) (answer : List ℕ)
+    (new : Standing) → Starts o size d n s answer new → device_in d new ≡ d
+starts-device None size d n s answer new (says, is) = ap (device_in d) is ∙ opened-device s.configuration d
+starts-device (Some fault) size d n s answer new (says, is) = ap (device_in d) is
 
-module _ {M R W : Type 0} (Reads : R → LineCall → R → Type 0) (Sends : W → Sending → W → Type 0) (step : M → MediumCall → M → Type 0) (device : M → Device) (tells : Bool) (blocks : ℕ) (d : Device) (n : ℕ) (c : SetUp) (m : M) (line : List ℕ) (between u : R) (y : W)
+module _ {M R W : Type 0} (Reads : R → LineCall → R → Type 0) (Sends : W → Sending → W → Type 0)
+    (step : M → MediumCall → M → Type 0) (device : M → Device) (tells : Bool) (size : Capacity) (d : Device) (n : ℕ)
+    (c : SetUp) (m : M) (line : List ℕ) (between u : R) (y : W)
     (taken : Reads between (Came line) u) (starts : asked line ≡ Sets Start) where
-  turn : (answer : List ℕ) (new : Standing) → Starts (first_config_fault c.configuration blocks) blocks d n c answer new → TurnOver step tells blocks d n (over (Setting c) m) line answer (over new m)
-  turn answer new s = (subst (λ (q : Asked). Turn tells blocks d n (Setting c) q answer new) (sym starts) s, refl)
+  turn : (answer : List ℕ) (new : Standing) → Starts (config_fault c.configuration size) size d n c answer new
+      → TurnOver step tells size d n (over (Setting c) m) line answer (over new m)
+  turn answer new s = (subst (λ (q : Asked). Turn tells size d n (Setting c) q answer new) (sym starts) s, refl)
 
-  can-run : first_config_fault c.configuration blocks ≡ None → CanRun (TurnOver step tells blocks d) standing_over n (over (Setting c) m) line
+  can-run : config_fault c.configuration size ≡ None
+      → CanRun (TurnOver step tells size d) standing_over n (over (Setting c) m) line
   can-run accepted = (
     with_feed started_text,
     over (Running (opening_layers c.configuration d)) m,
-    turn (with_feed started_text) (Running (opening_layers c.configuration d)) (accepted-start (first_config_fault c.configuration blocks) blocks d n c accepted),
+    turn (with_feed started_text) (Running (opening_layers c.configuration d))
+        (accepted-start (config_fault c.configuration size) size d n c accepted),
     opening_layers c.configuration d,
     refl,
   )
 
-  module _ (l : Layers) (z : W) (opened : l ≡ opening_layers c.configuration d) (accepted : first_config_fault c.configuration blocks ≡ None) (said : Sends y (Sent (with_feed started_text)) z) where
-    begun : Converses (TurnOver step tells blocks d) Reads Sends n (over (Setting c) m) (n + 1) (over (Running l) m) between u y z
+  module _ (l : Layers) (z : W) (opened : l ≡ opening_layers c.configuration d)
+      (accepted : config_fault c.configuration size ≡ None) (said : Sends y (Sent (with_feed started_text)) z) where
+    begun : Converses (TurnOver step tells size d) Reads Sends n (over (Setting c) m) (n + 1)
+        (over (Running l) m) between u y z
     begun =
-        conversed-one (TurnOver step tells blocks d) Reads Sends n (over (Setting c) m) (over (Running l) m) between u y z line (with_feed started_text) taken
-        (turn (with_feed started_text) (Running l) (subst (λ (m : Layers). Starts (first_config_fault c.configuration blocks) blocks d n c (with_feed started_text) (Running m)) (sym opened) (accepted-start (first_config_fault c.configuration blocks) blocks d n c accepted))) said
+        conversed-one (TurnOver step tells size d) Reads Sends n (over (Setting c) m)
+        (over (Running l) m) between u y z line (with_feed started_text) taken
+        (turn (with_feed started_text) (Running l) (subst
+        (λ (m : Layers). Starts (config_fault c.configuration size) size d n c (with_feed started_text) (Running m))
+        (sym opened) (accepted-start (config_fault c.configuration size) size d n c accepted))) said
 
-    pub start-ends : (w : R) (x : W) (left : M) → Rests device (λ last. Ends (TurnOver step tells blocks d) Reads Sends (n + 1) (over (Running l) m) last u w z x) d left
-        → Rests device (λ last. Ends (TurnOver step tells blocks d) Reads Sends n (over (Setting c) m) last between w y x) d left
+    pub start-ends : (w : R) (x : W) (left : M) → Rests device
+        (λ last. Ends (TurnOver step tells size d) Reads Sends (n + 1) (over (Running l) m) last u w z x) d left
+        → Rests device
+        (λ last. Ends (TurnOver step tells size d) Reads Sends n (over (Setting c) m) last between w y x) d left
     start-ends w x left h = record {
       last = h.last;
-      ended = ends-behind (TurnOver step tells blocks d) Reads Sends n (n + 1) (over (Setting c) m) (over (Running l) m) between u y z begun h.last w x h.ended;
+      ended = ends-behind (TurnOver step tells size d) Reads Sends n (n + 1) (over (Setting c) m)
+          (over (Running l) m) between u y z begun h.last w x h.ended;
       medium = h.medium;
       rests = h.rests;
     }
 
-    pub start-ends-by : (fault : ScriptFault) (w : R) (x : W) (left : M) → Rests device (λ last. EndsBy fault (TurnOver step tells blocks d) Reads Sends standing_over (n + 1) (over (Running l) m) last u w z x) d left
-        → Rests device (λ last. EndsBy fault (TurnOver step tells blocks d) Reads Sends standing_over n (over (Setting c) m) last between w y x) d left
+    pub start-ends-by : (fault : ScriptFault) (w : R) (x : W) (left : M) → Rests device (λ last. EndsBy fault
+        (TurnOver step tells size d) Reads Sends standing_over (n + 1) (over (Running l) m) last u w z x) d left
+        → Rests device (λ last. EndsBy fault (TurnOver step tells size d) Reads Sends standing_over n
+        (over (Setting c) m) last between w y x) d left
     start-ends-by fault w x left h = record {
       last = h.last;
-      ended = ends_by-behind (TurnOver step tells blocks d) Reads Sends n (n + 1) (over (Setting c) m) (over (Running l) m) between u y z begun standing_over fault h.last w x h.ended;
+      ended = ends_by-behind (TurnOver step tells size d) Reads Sends n (n + 1) (over (Setting c) m)
+          (over (Running l) m) between u y z begun standing_over fault h.last w x h.ended;
       medium = h.medium;
       rests = h.rests;
     }
 
-  pub start-fails : (fault : ScriptFault) (z : W) (left : M) → StartFails Sends fault blocks d n c y z → left ≡ m → device m ≡ d
-      → Rests device (λ last. EndsBy fault (TurnOver step tells blocks d) Reads Sends standing_over n (over (Setting c) m) last between u y z) d left
+  pub start-fails : (fault : ScriptFault) (z : W) (left : M) → StartFails Sends fault size d n c y z → left ≡ m
+      → device m ≡ d
+      → Rests device (λ last. EndsBy fault (TurnOver step tells size d) Reads Sends standing_over n
+      (over (Setting c) m) last between u y z) d left
   start-fails (Config k f) z left (at, is, sent) kept told = record {
     last = over (Over k f) m;
     ended = (
       n + 1,
-      conversed-one (TurnOver step tells blocks d) Reads Sends n (over (Setting c) m) (over (Over k f) m) between u y z line (with_feed (refused_text n f (numbered_reason c blocks))) taken
-          (turn (with_feed (refused_text n f (numbered_reason c blocks))) (Over k f) (subst (λ (o : Option ConfigFault). Starts o blocks d n c (with_feed (refused_text n f (numbered_reason c blocks))) (Over k f)) (sym is) (refl, ap (λ i. Over i f) at))) sent,
+      conversed-one (TurnOver step tells size d) Reads Sends n (over (Setting c) m)
+          (over (Over k f) m) between u y z line (with_feed (refused_text n f (numbered_reason c size))) taken
+          (turn (with_feed (refused_text n f (numbered_reason c size))) (Over k f) (subst (λ (o : Option ConfigFault).
+          Starts o size d n c (with_feed (refused_text n f (numbered_reason c size))) (Over k f)) (sym is)
+          (refl, ap (λ i. Over i f) at))) sent,
       refl,
     );
     medium = kept;
@@ -192,7 +286,7 @@ module _ {M R W : Type 0} (Reads : R → LineCall → R → Type 0) (Sends : W �
       mid = over (Setting c) m;
       between = between;
       written = y;
-      conversed = conversed-none (TurnOver step tells blocks d) Reads Sends n (over (Setting c) m) between y;
+      conversed = conversed-none (TurnOver step tells size d) Reads Sends n (over (Setting c) m) between y;
       line = line;
       taken = taken;
       answer = answer;
@@ -200,15 +294,16 @@ module _ {M R W : Type 0} (Reads : R → LineCall → R → Type 0) (Sends : W �
       unsent = broke;
     };
     medium = kept;
-    rests = ap device kept ∙ told ∙ sym (starts-device (first_config_fault c.configuration blocks) blocks d n c answer new s);
+    rests = ap device kept ∙ told ∙ sym (starts-device (config_fault c.configuration size) size d n c answer new s);
   }
   start-fails NoMemory z left (inl accepted, same) kept told = record {
     last = over (Setting c) m;
     ended = inl (record {
       next = n;
       between = between;
-      conversed = subst (λ (t : W). Converses (TurnOver step tells blocks d) Reads Sends n (over (Setting c) m) n (over (Setting c) m) between between y t) (sym same)
-          (conversed-none (TurnOver step tells blocks d) Reads Sends n (over (Setting c) m) between y);
+      conversed = subst (λ (t : W). Converses (TurnOver step tells size d) Reads Sends n (over (Setting c) m) n
+          (over (Setting c) m) between between y t) (sym same)
+          (conversed-none (TurnOver step tells size d) Reads Sends n (over (Setting c) m) between y);
       line = line;
       taken = taken;
       says = Start;
@@ -225,13 +320,18 @@ module _ {M R W : Type 0} (Reads : R → LineCall → R → Type 0) (Sends : W �
       mid = over (Setting c) m;
       between = between;
       written = y;
-      conversed = conversed-none (TurnOver step tells blocks d) Reads Sends n (over (Setting c) m) between y;
+      conversed = conversed-none (TurnOver step tells size d) Reads Sends n (over (Setting c) m) between y;
       line = line;
       taken = taken;
-      answer = with_feed (refused_text n fault (numbered_reason c blocks));
-      turn = turn (with_feed (refused_text n fault (numbered_reason c blocks))) (Over n fault)
-          (subst (λ (o : Option ConfigFault). Starts o blocks d n c (with_feed (refused_text n fault (numbered_reason c blocks))) (Over n fault)) (sym is) (refl, refl));
-      unsent = (subst (λ (q : Asked). MayLackRoom (Setting c) q (with_feed (refused_text n fault (numbered_reason c blocks)))) (sym starts) lacks, same);
+      answer = with_feed (refused_text n fault (numbered_reason c size));
+      turn = turn (with_feed (refused_text n fault (numbered_reason c size))) (Over n fault)
+          (subst (λ (o : Option ConfigFault). Starts o size d n c
+          (with_feed (refused_text n fault (numbered_reason c size))) (Over n fault)) (sym is) (refl, refl));
+      unsent = (
+        subst (λ (q : Asked). MayLackRoom (Setting c) q (with_feed (refused_text n fault (numbered_reason c size))))
+            (sym starts) lacks,
+        same,
+      );
     });
     medium = kept;
     rests = ap device kept ∙ told;
@@ -240,31 +340,40 @@ module _ {M R W : Type 0} (Reads : R → LineCall → R → Type 0) (Sends : W �
   start-fails TooLong z left h kept told = absurd h
   start-fails Read z left h kept told = absurd h
 
--- behind the lines before it
-module _ {M R W : Type 0} (Reads : R → LineCall → R → Type 0) (Sends : W → Sending → W → Type 0) (step : M → MediumCall → M → Type 0) (device : M → Device) (tells : Bool) (blocks : ℕ) (d : Device) (k : ℕ) (old new : SetUp) (m : M) (u v : R) (x y : W)
-    (h : ComesToStart Reads Sends tells blocks d k old new u v x y) (w : R) (z : W) (left : M) where
-  before : Converses (TurnOver step tells blocks d) Reads Sends 1 (over (Setting old) m) k (over (Setting new) m) u h.between x y
-  before = conversed-over step tells blocks d m Reads Sends old new k u h.between x y h.conversed
+-- after the lines before it
+module _ {M R W : Type 0} (Reads : R → LineCall → R → Type 0) (Sends : W → Sending → W → Type 0)
+    (step : M → MediumCall → M → Type 0) (device : M → Device) (tells : Bool) (size : Capacity) (d : Device) (k : ℕ)
+    (old new : SetUp) (m : M) (u v : R) (x y : W)
+    (h : ComesToStart Reads Sends tells size d k old new u v x y) (w : R) (z : W) (left : M) where
+  before : Converses (TurnOver step tells size d) Reads Sends 1 (over (Setting old) m) k
+      (over (Setting new) m) u h.between x y
+  before = conversed-over step tells size d m Reads Sends old new k u h.between x y h.conversed
 
-  pub set-then-ends : Rests device (λ last. Ends (TurnOver step tells blocks d) Reads Sends k (over (Setting new) m) last h.between w y z) d left
-      → Rests device (λ last. Ends (TurnOver step tells blocks d) Reads Sends 1 (over (Setting old) m) last u w x z) d left
+  pub set-then-ends : Rests device
+      (λ last. Ends (TurnOver step tells size d) Reads Sends k (over (Setting new) m) last h.between w y z) d left
+      → Rests device
+      (λ last. Ends (TurnOver step tells size d) Reads Sends 1 (over (Setting old) m) last u w x z) d left
   set-then-ends g = record {
     last = g.last;
-    ended = ends-behind (TurnOver step tells blocks d) Reads Sends 1 k (over (Setting old) m) (over (Setting new) m) u h.between x y before g.last w z g.ended;
+    ended = ends-behind (TurnOver step tells size d) Reads Sends 1 k (over (Setting old) m)
+        (over (Setting new) m) u h.between x y before g.last w z g.ended;
     medium = g.medium;
     rests = g.rests;
   }
 
-  pub set-then-fault : (fault : ScriptFault) → Rests device (λ last. EndsBy fault (TurnOver step tells blocks d) Reads Sends standing_over k (over (Setting new) m) last h.between w y z) d left
-      → Rests device (λ last. EndsBy fault (TurnOver step tells blocks d) Reads Sends standing_over 1 (over (Setting old) m) last u w x z) d left
+  pub set-then-fault : (fault : ScriptFault) → Rests device (λ last. EndsBy fault
+      (TurnOver step tells size d) Reads Sends standing_over k (over (Setting new) m) last h.between w y z) d left
+      → Rests device (λ last.
+      EndsBy fault (TurnOver step tells size d) Reads Sends standing_over 1 (over (Setting old) m) last u w x z) d left
   set-then-fault fault g = record {
     last = g.last;
-    ended = ends_by-behind (TurnOver step tells blocks d) Reads Sends 1 k (over (Setting old) m) (over (Setting new) m) u h.between x y before standing_over fault g.last w z g.ended;
+    ended = ends_by-behind (TurnOver step tells size d) Reads Sends 1 k (over (Setting old) m)
+        (over (Setting new) m) u h.between x y before standing_over fault g.last w z g.ended;
     medium = g.medium;
     rests = g.rests;
   }
 
--- What the script that is run first leaves.
+-- The effect of the script before the session.
 module _ (text : List ℕ) (script : Script) (ready : IsReady text script) where
   pub nothing-set : script.start ≡ None → configuration script.config ≡ empty_configuration
   nothing-set none =
@@ -273,32 +382,53 @@ module _ (text : List ℕ) (script : Script) (ready : IsReady text script) where
       let empty : configuration_in lines ≡ empty_configuration = rw no refl in
       same_configuration (text_lines text) script ready.says ∙ empty
 
--- What the lines behind `start` come to, as what they come to with it.
-module _ {T E R W : Type 0} (Reads : R → LineCall → R → Type 0) (Sends : W → Sending → W → Type 0) (step : T → MediumCall → T → Type 0) (device : T → Device) (tells : Bool) (blocks : ℕ) (d : Device) (n : ℕ) (c : SetUp) (l : Layers) (m opened-over : T) (u w : R) (y z x : W)
-    (opened : l ≡ opening_layers c.configuration d) (kept : opened-over ≡ m) (accepted : first_config_fault c.configuration blocks ≡ None) (said : Sends y (Sent (with_feed started_text)) z) where
-  pub start-ok : (r : Result T E) → IfOk r (λ after. (size : ℕ) (e : Device) → Rests device (λ last. Ends (TurnOver step tells size e) Reads Sends (n + 1) (over (Running l) opened-over) last u w z x) e after)
-      → IfOk r (λ after. FromStart Reads u (λ between. Rests device (λ last. Ends (TurnOver step tells blocks d) Reads Sends n (over (Setting c) m) last between w y x) d after))
-  start-ok (Ok after) h = λ line between taken starts. start-ends Reads Sends step device tells blocks d n c m line between u y taken starts l z opened accepted said w x after
-      (subst (λ (o : T). Rests device (λ last. Ends (TurnOver step tells blocks d) Reads Sends (n + 1) (over (Running l) o) last u w z x) d after) kept (h blocks d))
+-- The result of the lines after `start`, with `start` itself.
+module _ {T E R W : Type 0} (Reads : R → LineCall → R → Type 0) (Sends : W → Sending → W → Type 0)
+    (step : T → MediumCall → T → Type 0) (device : T → Device) (tells : Bool) (size : Capacity) (d : Device) (n : ℕ)
+    (c : SetUp) (l : Layers) (m opened-over : T) (u w : R) (y z x : W)
+    (opened : l ≡ opening_layers c.configuration d) (kept : opened-over ≡ m)
+    (accepted : config_fault c.configuration size ≡ None) (said : Sends y (Sent (with_feed started_text)) z) where
+  pub start-ok : (r : Result T E) → IfOk r (λ after. (size : Capacity) (e : Device) → Rests device (λ last.
+      Ends (TurnOver step tells size e) Reads Sends (n + 1) (over (Running l) opened-over) last u w z x) e after)
+      → IfOk r (λ after. FromStart Reads u (λ between. Rests device
+      (λ last. Ends (TurnOver step tells size d) Reads Sends n (over (Setting c) m) last between w y x) d after))
+  start-ok (Ok after) h = λ line between taken starts.
+      start-ends Reads Sends step device tells size d n c m line between u y taken starts l z opened accepted
+      said w x after
+      (subst (λ (o : T). Rests device (λ last.
+      Ends (TurnOver step tells size d) Reads Sends (n + 1) (over (Running l) o) last u w z x) d after) kept (h size d))
   start-ok (Err e) h = tt
 
-  pub start-err : (r : Result E (ScriptFault × T)) → IfErr r (λ e. (size : ℕ) (f : Device) → Rests device (λ last. EndsBy e.0 (TurnOver step tells size f) Reads Sends standing_over (n + 1) (over (Running l) opened-over) last u w z x) f e.1)
-      → IfErr r (λ e. FromStart Reads u (λ between. Rests device (λ last. EndsBy e.0 (TurnOver step tells blocks d) Reads Sends standing_over n (over (Setting c) m) last between w y x) d e.1))
+  pub start-err : (r : Result E (ScriptFault × T))
+      → IfErr r (λ e. (size : Capacity) (f : Device) → Rests device (λ last. EndsBy e.0
+      (TurnOver step tells size f) Reads Sends standing_over (n + 1) (over (Running l) opened-over) last u w z x) f e.1)
+      → IfErr r (λ e. FromStart Reads u (λ between. Rests device (λ last. EndsBy e.0
+      (TurnOver step tells size d) Reads Sends standing_over n (over (Setting c) m) last between w y x) d e.1))
   start-err (Ok after) h = tt
-  start-err (Err e) h = λ line between taken starts. start-ends-by Reads Sends step device tells blocks d n c m line between u y taken starts l z opened accepted said e.0 w x e.1
-      (subst (λ (o : T). Rests device (λ last. EndsBy e.0 (TurnOver step tells blocks d) Reads Sends standing_over (n + 1) (over (Running l) o) last u w z x) d e.1) kept (h blocks d))
+  start-err (Err e) h = λ line between taken starts. start-ends-by Reads Sends step device tells size d n c m line
+      between u y taken starts l z opened accepted said e.0 w x e.1
+      (subst (λ (o : T). Rests device (λ last. EndsBy e.0 (TurnOver step tells size d) Reads Sends standing_over (n + 1)
+      (over (Running l) o) last u w z x) d e.1) kept (h size d))
 
--- What the lines behind those that set up come to.
-module _ {T E R W : Type 0} (Reads : R → LineCall → R → Type 0) (Sends : W → Sending → W → Type 0) (step : T → MediumCall → T → Type 0) (device : T → Device) (tells : Bool) (blocks : ℕ) (d : Device) (k : ℕ) (old new : SetUp) (m : T) (u v w : R) (x y z : W)
-    (h : ComesToStart Reads Sends tells blocks d k old new u v x y) where
+-- The result of the lines after the setup lines.
+module _ {T E R W : Type 0} (Reads : R → LineCall → R → Type 0) (Sends : W → Sending → W → Type 0)
+    (step : T → MediumCall → T → Type 0) (device : T → Device) (tells : Bool) (size : Capacity) (d : Device) (k : ℕ)
+    (old new : SetUp) (m : T) (u v w : R) (x y z : W)
+    (h : ComesToStart Reads Sends tells size d k old new u v x y) where
   pub set-ok : (r : Result T E)
-      → IfOk r (λ after. FromStart Reads v (λ between. Rests device (λ last. Ends (TurnOver step tells blocks d) Reads Sends k (over (Setting new) m) last between w y z) d after))
-      → IfOk r (λ after. Rests device (λ last. Ends (TurnOver step tells blocks d) Reads Sends 1 (over (Setting old) m) last u w x z) d after)
-  set-ok (Ok after) g = set-then-ends Reads Sends step device tells blocks d k old new m u v x y h w z after (g h.line h.between h.taken h.starts)
+      → IfOk r (λ after. FromStart Reads v (λ between. Rests device
+      (λ last. Ends (TurnOver step tells size d) Reads Sends k (over (Setting new) m) last between w y z) d after))
+      → IfOk r (λ after. Rests device
+      (λ last. Ends (TurnOver step tells size d) Reads Sends 1 (over (Setting old) m) last u w x z) d after)
+  set-ok (Ok after) g = set-then-ends Reads Sends step device tells size d k old new m u v x y h w z after
+      (g h.line h.between h.taken h.starts)
   set-ok (Err e) g = tt
 
   pub set-err : (r : Result E (ScriptFault × T))
-      → IfErr r (λ e. FromStart Reads v (λ between. Rests device (λ last. EndsBy e.0 (TurnOver step tells blocks d) Reads Sends standing_over k (over (Setting new) m) last between w y z) d e.1))
-      → IfErr r (λ e. Rests device (λ last. EndsBy e.0 (TurnOver step tells blocks d) Reads Sends standing_over 1 (over (Setting old) m) last u w x z) d e.1)
+      → IfErr r (λ e. FromStart Reads v (λ between. Rests device (λ last. EndsBy e.0
+      (TurnOver step tells size d) Reads Sends standing_over k (over (Setting new) m) last between w y z) d e.1))
+      → IfErr r (λ e. Rests device (λ last.
+      EndsBy e.0 (TurnOver step tells size d) Reads Sends standing_over 1 (over (Setting old) m) last u w x z) d e.1)
   set-err (Ok after) g = tt
-  set-err (Err e) g = set-then-fault Reads Sends step device tells blocks d k old new m u v x y h w z e.1 e.0 (g h.line h.between h.taken h.starts)
+  set-err (Err e) g = set-then-fault Reads Sends step device tells size d k old new m u v x y h w z e.1 e.0
+      (g h.line h.between h.taken h.starts)

@@ -1,5 +1,36 @@
--- What stands at the front of bytes, up to a line feed, and what is kept of it.
-use Rattle.std.proofs.Common.{◌≡◌, ◌≢◌, ◌≤◌, ◌<◌, ◌+◌, ◌-◌, min, ℕ, zero, suc, Bool, true, false, List, [], ◌∷◌, ◌++◌, length, take, Option, refl, sym, ap, subst, ◌∙◌, arith, append_assoc, append-nil, inl, inr}
+-- For the answers of `cut`, `keep` and `take_part`: the front of bytes up to a line feed, and the stored part of it.
+use Rattle.std.proofs.Common.{
+  ◌≡◌,
+  ◌≢◌,
+  ◌≤◌,
+  ◌<◌,
+  ◌+◌,
+  ◌-◌,
+  min,
+  ℕ,
+  zero,
+  suc,
+  Bool,
+  true,
+  false,
+  List,
+  [],
+  ◌∷◌,
+  ◌++◌,
+  length,
+  take,
+  Option,
+  refl,
+  sym,
+  ap,
+  subst,
+  ◌∙◌,
+  arith,
+  append_assoc,
+  append-nil,
+  inl,
+  inr,
+}
 use Rattle.std.specs.Prelude.{◌==◌, IfSome, None, Some, Result, Ok, Err, OnOk, is_ok, if◌then◌else◌}
 use Rattle.std.specs.Io.{StartsWith}
 use Rattle.std.specs.Io.KnownBytes.{Consumes, Keeps, IsAtEnd}
@@ -23,30 +54,36 @@ is_no_feed b e f = false≢true (sym e ∙ eq-eqb b 10 f)
 one-more : (n : ℕ) → 1 + n ≡ suc n
 one-more n = omega arith
 
--- up to the first line feed there is none
+-- before the first line feed there is none
 pub front-of_line : (xs : List ℕ) → IsOfLine (take (prefix_len is_of_line xs) xs)
 front-of_line [] = All-nil (λ b. b ≢ 10)
 front-of_line (x ∷ xs) = by (x == 10) refl (front-of_line xs)
   where
-    by : (t : Bool) → (x == 10) ≡ t → IsOfLine (take (prefix_len is_of_line xs) xs) → IsOfLine (take (prefix_len is_of_line (x ∷ xs)) (x ∷ xs))
+    by : (t : Bool) → (x == 10) ≡ t → IsOfLine (take (prefix_len is_of_line xs) xs)
+        → IsOfLine (take (prefix_len is_of_line (x ∷ xs)) (x ∷ xs))
     by true e rest = rw e (All-nil (λ b. b ≢ 10))
-    by false e rest = rw (e, one-more (prefix_len is_of_line xs)) (All-cons (λ b. b ≢ 10) x (take (prefix_len is_of_line xs) xs) (is_no_feed x e) rest)
+    by false e rest = rw (e, one-more (prefix_len is_of_line xs))
+        (All-cons (λ b. b ≢ 10) x (take (prefix_len is_of_line xs) xs) (is_no_feed x e) rest)
 
--- and behind it the line feed
-pub front-feed : (xs : List ℕ) → prefix_len is_of_line xs < length xs → take (prefix_len is_of_line xs + 1) xs ≡ take (prefix_len is_of_line xs) xs ++ 10 ∷ []
+-- and then the line feed
+pub front-feed : (xs : List ℕ) → prefix_len is_of_line xs < length xs
+    → take (prefix_len is_of_line xs + 1) xs ≡ take (prefix_len is_of_line xs) xs ++ 10 ∷ []
 front-feed [] = λ below. absurd (omega (arith, below))
 front-feed (x ∷ xs) = by (x == 10) refl (front-feed xs)
   where
     two-more : (n : ℕ) → 1 + n + 1 ≡ suc (n + 1)
     two-more n = omega arith
 
-    by : (t : Bool) → (x == 10) ≡ t → (prefix_len is_of_line xs < length xs → take (prefix_len is_of_line xs + 1) xs ≡ take (prefix_len is_of_line xs) xs ++ 10 ∷ []) → prefix_len is_of_line (x ∷ xs) < length (x ∷ xs) → take (prefix_len is_of_line (x ∷ xs) + 1) (x ∷ xs) ≡ take (prefix_len is_of_line (x ∷ xs)) (x ∷ xs) ++ 10 ∷ []
+    by : (t : Bool) → (x == 10) ≡ t → (prefix_len is_of_line xs < length xs → take (prefix_len is_of_line xs + 1) xs
+        ≡ take (prefix_len is_of_line xs) xs ++ 10 ∷ []) → prefix_len is_of_line (x ∷ xs) < length (x ∷ xs)
+        → take (prefix_len is_of_line (x ∷ xs) + 1) (x ∷ xs) ≡ take (prefix_len is_of_line (x ∷ xs)) (x ∷ xs) ++ 10 ∷ []
     by true e rest below = rw e (ap (λ y. y ∷ []) (eqb-true x 10 e))
     by false e rest below =
         let less : 1 + prefix_len is_of_line xs < suc (length xs) = rw e at below in
-        rw (e, two-more (prefix_len is_of_line xs), one-more (prefix_len is_of_line xs)) (ap (λ t. x ∷ t) (rest (omega (arith, less))))
+        rw (e, two-more (prefix_len is_of_line xs), one-more (prefix_len is_of_line xs))
+        (ap (λ t. x ∷ t) (rest (omega (arith, less))))
 
--- where no line feed comes, all of it is of the line
+-- without a line feed, all bytes belong to the line
 pub whole-of_line : (xs : List ℕ) → length xs ≤ prefix_len is_of_line xs → IsOfLine xs
 whole-of_line xs all = subst IsOfLine (take_all (prefix_len is_of_line xs) xs all) (front-of_line xs)
 
@@ -58,13 +95,15 @@ take-min (suc r) zero ys h = absurd (omega (arith, h))
 take-min (suc r) (suc m) [] h = absurd (omega (arith, h))
 take-min (suc r) (suc m) (y ∷ ys) h = ap (λ t. y ∷ t) (take-min r m ys (omega (arith, h)))
 
--- bytes that are added to a front, as far as there is room
-pub front-more : (m : ℕ) (xs ys : List ℕ) (room : ℕ) → length xs ≤ m → room ≡ min (m - length xs) (length ys) → xs ++ take room ys ≡ take m (xs ++ ys)
+-- bytes that are appended to a front, as far as they fit
+pub front-more : (m : ℕ) (xs ys : List ℕ) (room : ℕ) → length xs ≤ m → room ≡ min (m - length xs) (length ys)
+    → xs ++ take room ys ≡ take m (xs ++ ys)
 front-more m [] ys room fits is = take-min room m ys (omega (arith, is))
 front-more zero (x ∷ xs) ys room fits is = absurd (omega (arith, fits))
-front-more (suc m) (x ∷ xs) ys room fits is = ap (λ t. x ∷ t) (front-more m xs ys room (omega (arith, fits)) (omega (arith, is)))
+front-more (suc m) (x ∷ xs) ys room fits is =
+    ap (λ t. x ∷ t) (front-more m xs ys room (omega (arith, fits)) (omega (arith, is)))
 
--- what is kept of a front that was kept, with more behind it
+-- the stored part of a front, after more bytes
 take-front : (m : ℕ) (xs ys : List ℕ) → take m (take m xs ++ ys) ≡ take m (xs ++ ys)
 take-front zero xs ys = refl
 take-front (suc m) [] ys = refl
@@ -78,7 +117,8 @@ pub kept-nil : kept [] ≡ []
 unfolding kept
 kept-nil = refl
 
-pub kept-added : (xs ys : List ℕ) (room : ℕ) → length xs ≤ 1048577 → room ≡ min (1048577 - length xs) (length ys) → xs ++ take room ys ≡ kept (xs ++ ys)
+pub kept-added : (xs ys : List ℕ) (room : ℕ) → length xs ≤ 1048577 → room ≡ min (1048577 - length xs) (length ys)
+    → xs ++ take room ys ≡ kept (xs ++ ys)
 unfolding kept
 kept-added xs ys room fits is = front-more 1048577 xs ys room fits is
 
@@ -86,7 +126,8 @@ pub kept-short : (xs : List ℕ) → length (kept xs) ≤ 1048577
 unfolding kept
 kept-short xs = let long = length-take 1048577 xs in omega (arith, long)
 
-pub extended : {T E : Type 0} (r : Result T E) (new old bytes whole : List ℕ) → new ≡ (if is_ok r then old ++ bytes else old) → old ++ bytes ≡ whole → OnOk r (new ≡ whole)
+pub extended : {T E : Type 0} (r : Result T E) (new old bytes whole : List ℕ)
+    → new ≡ (if is_ok r then old ++ bytes else old) → old ++ bytes ≡ whole → OnOk r (new ≡ whole)
 extended (Ok x) new old bytes whole h e = h ∙ e
 extended (Err x) new old bytes whole h e = tt
 
@@ -94,7 +135,7 @@ pub kept-all : (xs : List ℕ) → length xs ≤ 1048577 → kept xs ≡ xs
 unfolding kept
 kept-all xs fits = take_all 1048577 xs fits
 
--- the part that stands at the front of bytes
+-- the part at the front of bytes
 pub cut-last : (xs : List ℕ) (n : ℕ) → n ≡ prefix_len is_of_line xs → n < length xs → IsCut Last xs n (n + 1)
 cut-last xs n e below =
     let less : prefix_len is_of_line xs < length xs = rw e at below in
@@ -103,7 +144,8 @@ cut-last xs n e below =
 pub cut-nothing : (xs : List ℕ) (n : ℕ) → length xs ≤ n → n ≡ 0 → IsCut Nothing xs 0 0
 cut-nothing xs n all none = (refl, refl, omega (arith, all, none))
 
-pub cut-middle : (xs : List ℕ) (n : ℕ) → n ≡ prefix_len is_of_line xs → length xs ≤ n → (n ≡ 0 → ⊥) → IsCut Middle xs n n
+pub cut-middle : (xs : List ℕ) (n : ℕ) → n ≡ prefix_len is_of_line xs → length xs ≤ n → (n ≡ 0 → ⊥)
+    → IsCut Middle xs n n
 cut-middle xs n e all some =
     let most = prefix_len-le-length is_of_line xs in
     let whole : n ≡ length xs = omega (arith, e, all, most) in
@@ -114,9 +156,10 @@ cut-middle xs n e all some =
     positive zero h = absurd (h refl)
     positive (suc n) h = omega arith
 
--- what is taken of a reader that showed these bytes
+-- what is taken from a reader that showed these bytes
 module _ (a b c : Option (List ℕ)) (buffered : Option ℕ) (shown : List ℕ) (len all : ℕ) (before after : List ℕ)
-    (front : IfSome a (λ xs. StartsWith xs shown)) (end : IfSome a (λ xs. length shown ≡ 0 → xs ≡ [])) (kept : Keeps a b)
+    (front : IfSome a (λ xs. StartsWith xs shown)) (end : IfSome a (λ xs. length shown ≡ 0 → xs ≡ []))
+    (kept : Keeps a b)
     (fits : IfSome a (λ _. IfSome buffered (λ k. length shown ≤ k))) (drops : DropsConsumable b c buffered all)
     (room : length before ≤ 1048577) (has : after ≡ spec.kept (before ++ take len shown)) where
   moved : all ≤ length shown → Consumes a c (take all shown)
@@ -133,11 +176,15 @@ module _ (a b c : Option (List ℕ)) (buffered : Option ℕ) (shown : List ℕ) 
         subst (Consumes a c) (take_all all shown long) (moved within),
         has ∙ ap (λ t. spec.kept (before ++ t)) (take_all len shown lines),
       )
-  takes-part Last (within, less, of_line, feed) = (take len shown, of_line, subst (Consumes a c) feed (moved within), has)
+  takes-part Last (within, less, of_line, feed) =
+      (take len shown, of_line, subst (Consumes a c) feed (moved within), has)
   takes-part Nothing (none, zero-all, empty) =
       let within : all ≤ length shown = omega (arith, zero-all) in
-      let nil : take len shown ≡ [] = ap (λ k. take k shown) none in
-      (at-end a end empty, keeps a c (subst (Consumes a c) (ap (λ k. take k shown) zero-all) (moved within)), has ∙ ap (λ t. spec.kept (before ++ t)) nil ∙ ap spec.kept (append-nil before) ∙ kept-all before room)
+      let nil : take len shown ≡ [] = ap (λ k. take k shown) none in (
+        at-end a end empty,
+        keeps a c (subst (Consumes a c) (ap (λ k. take k shown) zero-all) (moved within)),
+        has ∙ ap (λ t. spec.kept (before ++ t)) nil ∙ ap spec.kept (append-nil before) ∙ kept-all before room,
+      )
     where
       at-end : (o : Option (List ℕ)) → IfSome o (λ xs. length shown ≡ 0 → xs ≡ []) → length shown ≡ 0 → IsAtEnd o
       at-end None h e = tt
@@ -148,7 +195,7 @@ module _ (a b c : Option (List ℕ)) (buffered : Option ℕ) (shown : List ℕ) 
       keeps (Some xs) None h = h
       keeps (Some xs) (Some ys) h = sym h
 
--- What was taken of a line so far, and what is kept of it.
+-- The bytes taken of a line so far, and the stored part.
 pub record SoFar (old now : Option (List ℕ)) (some : Bool) (line : List ℕ) : Type 0 where
   pub bytes : List ℕ
   pub of_line : IsOfLine bytes
@@ -190,7 +237,8 @@ module _ (a b c : Option (List ℕ)) (some : Bool) (line after : List ℕ) (h : 
     h.bytes ++ ys,
     record {
       of_line = All-append (λ b. b ≢ 10) h.bytes ys h.of_line of_line;
-      taken = inl (subst (Consumes a c) (sym (append_assoc h.bytes ys (10 ∷ []))) (Consumes-trans a b c h.bytes (ys ++ 10 ∷ []) h.taken taken));
+      taken = inl (subst (Consumes a c) (sym (append_assoc h.bytes ys (10 ∷ [])))
+          (Consumes-trans a b c h.bytes (ys ++ 10 ∷ []) h.taken taken));
     },
     grown ys is,
   )
@@ -218,10 +266,17 @@ module _ (a b c : Option (List ℕ)) (some : Bool) (line after : List ℕ) (h : 
       by : (t : Bool) → (t ≡ false → h.bytes ≡ []) → (t ≡ true → h.bytes ≢ []) → ReadsLine t a c after
       by true none any = (
         h.bytes,
-        record { of_line = h.of_line; taken = inr (any refl, Consumes-kept a b c h.bytes h.taken keeps, ended a b c h.taken end keeps) },
+        record {
+          of_line = h.of_line;
+          taken = inr (any refl, Consumes-kept a b c h.bytes h.taken keeps, ended a b c h.taken end keeps);
+        },
         is ∙ h.is,
       )
-      by false none any = (was-ended a b (none refl) h.taken end, stays a b c (none refl) h.taken keeps, is ∙ h.is ∙ ap spec.kept (none refl) ∙ kept-nil)
+      by false none any = (
+        was-ended a b (none refl) h.taken end,
+        stays a b c (none refl) h.taken keeps,
+        is ∙ h.is ∙ ap spec.kept (none refl) ∙ kept-nil,
+      )
 
   pub front-so-far : TakesFront b c → TakesFront a c
   front-so-far f = record {

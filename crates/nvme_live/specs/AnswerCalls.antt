@@ -1,5 +1,5 @@
--- What a line is answered over a medium, and what it leaves there: an event makes exactly its own calls of the medium, a
--- look at blocks reads just these, and no other line makes any.
+-- The answer to a line over a medium, and the calls that it makes there: an event makes exactly its own calls, a query
+-- of blocks reads just these, and no other line makes any.
 use Rattle.std.specs.Prelude.{◌≡◌, ◌*◌, Bool, ℕ, List, length, codes, Option, None, Some, Result}
 use Rattle.nvme_event.specs.declared.event.FleetEvent.{FleetEvent}
 use Rattle.nvme_event.specs.Replies.{Reply}
@@ -7,6 +7,7 @@ use Rattle.nvme_fleet.specs.FleetStates.{Layers}
 use Rattle.nvme_fleet.specs.LayerCalls.{AreCallsOfStep}
 use Rattle.nvme_transcript.specs.Transcript.{line_of}
 use Rattle.nvme_spec.specs.Blocks.{Device}
+use Rattle.nvme_spec.specs.Configuration.{Capacity}
 use Rattle.nvme_spec.specs.MediumCalls.{MediumCall, MakesCalls, MakesInOrder, reads_from}
 use Rattle.nvme_spec.specs.declared.medium.MediumFault.{MediumFault}
 use Rattle.nvme_subsys.specs.Looking.{Reads}
@@ -18,21 +19,21 @@ use Rattle.live_text.specs.declared.looking.Looking.TheVariants as look
 use Rattle.nvme_lines.specs.LineTexts.{reading_text}
 use Rattle.live_text.specs.declared.asking.Asked.{Asked}
 use Rattle.live_text.specs.declared.asking.Asked.TheVariants.{Fails, Nothing, Looks, Parses, Sets, Does}
-use Rattle.nvme_live.specs.Answers.{place_of}
+use Rattle.nvme_live.specs.Answers.{block_of}
 use Rattle.live_text.specs.Asking.{asked}
 use Rattle.nvme_live.specs.Saying.{with_feed}
 use Rattle.live_views.specs.Looks.{read_text}
 use Rattle.nvme_live.specs.Looks.{shown_text}
 use Rattle.nvme_live.specs.Standings.{Standing, Setting, Running, Over, Settles}
 
--- An event happened, by exactly its calls, and it is answered by the line of it and of what it gave.
+-- An event happened, by exactly its calls, and the answer is its line with its result.
 pub record HappensBy {M : Type 0} (step : M → MediumCall → M → Type 0) (tells : Bool) (old : OverMedium Layers M)
     (event : FleetEvent) (answer : List ℕ) (new : OverMedium Layers M) : Type 0 where
   pub reply : Reply
   pub calls : MakesCalls step (AreCallsOfStep tells old.state event reply new.state) old.medium new.medium
   pub says : answer ≡ line_of event reply
 
--- Blocks were looked at, from this one of the medium on, by reads of just these, up to the first that failed.
+-- Blocks of the medium were read, from this one, with one call each, up to the first that failed.
 pub record LooksAtBlocksBy {M : Type 0} (step : M → MediumCall → M → Type 0) (tells : Bool)
     (n m slba count first : ℕ) (old : OverMedium Layers M) (answer : List ℕ) (new : OverMedium Layers M) : Type 0 where
   pub bytes : List ℕ
@@ -43,7 +44,7 @@ pub record LooksAtBlocksBy {M : Type 0} (step : M → MediumCall → M → Type 
   pub drivers : new.state.drivers ≡ old.state.drivers
   pub says : answer ≡ with_feed (read_text n m slba count bytes result)
 
--- A look at blocks, at this place of the medium, if they are there; else it is refused, and nothing is called.
+-- A query of blocks, at this place of the medium, if they exist; otherwise it is refused, and no call is made.
 abbrev pub ShowsBlocksBy : {M : Type 0} → (M → MediumCall → M → Type 0) → Option ℕ → Bool → ℕ → ℕ → ℕ → ℕ
     → OverMedium Layers M → List ℕ → OverMedium Layers M → Type 0
 ShowsBlocksBy step None tells n m slba count old answer new =
@@ -51,14 +52,14 @@ ShowsBlocksBy step None tells n m slba count old answer new =
 ShowsBlocksBy step (Some first) tells n m slba count old answer new =
     LooksAtBlocksBy step tells n m slba count first old answer new
 
--- what a looking line is answered
+-- the answer to a query
 abbrev pub ShowsBy : {M : Type 0} → (M → MediumCall → M → Type 0) → Bool → ℕ → Looking → OverMedium Layers M → List ℕ
     → OverMedium Layers M → Type 0
 ShowsBy step tells n (look.Blocks m slba count) old answer new =
-    ShowsBlocksBy step (place_of m slba count old.state) tells n m slba count old answer new
+    ShowsBlocksBy step (block_of m slba count old.state) tells n m slba count old answer new
 ShowsBy step tells n looking old answer new = (answer ≡ with_feed (shown_text n looking old.state)) × (new ≡ old)
 
--- what the n-th line is answered once the fleet is there
+-- the answer to the n-th line after the fleet is opened
 abbrev pub AnswersLineBy : {M : Type 0} → (M → MediumCall → M → Type 0) → Bool → ℕ → Asked → OverMedium Layers M
     → List ℕ → OverMedium Layers M → Type 0
 AnswersLineBy step tells n (Fails why) old answer new = (answer ≡ with_feed (refusal n why)) × (new ≡ old)
@@ -68,19 +69,20 @@ AnswersLineBy step tells n (Parses line) old answer new = (answer ≡ with_feed 
 AnswersLineBy step tells n (Sets line) old answer new = (answer ≡ with_feed (refusal n BeforeStart)) × (new ≡ old)
 AnswersLineBy step tells n (Does event) old answer new = HappensBy step tells old event answer new
 
--- What the n-th line is answered, and where the session and its medium are then. Before the fleet is there no call is
--- made.
-abbrev pub TurnBy : {M : Type 0} → (M → MediumCall → M → Type 0) → Bool → ℕ → Device → ℕ → Standing → M → Asked
+-- The answer to the n-th line, and the states of the session and its medium after it. Before the fleet is opened, no
+-- call is made.
+abbrev pub TurnBy : {M : Type 0} → (M → MediumCall → M → Type 0) → Bool → Capacity → Device → ℕ → Standing → M → Asked
     → List ℕ → OverMedium Standing M → Type 0
-TurnBy step tells blocks d n (Setting s) medium asks answer new =
-    Settles blocks d n s asks answer new.state × (new.medium ≡ medium)
-TurnBy step tells blocks d n (Running old) medium asks answer new =
+TurnBy step tells size d n (Setting s) medium asks answer new =
+    Settles size d n s asks answer new.state × (new.medium ≡ medium)
+TurnBy step tells size d n (Running old) medium asks answer new =
     (later : Layers) × AnswersLineBy step tells n asks (over old medium) answer (over later new.medium)
     × (new.state ≡ Running later)
-TurnBy step tells blocks d n (Over k fault) medium asks answer new = ⊥
+TurnBy step tells size d n (Over k fault) medium asks answer new = ⊥
 
 -- the same, by the bytes of the line
-abbrev pub TurnOver : {M : Type 0} → (M → MediumCall → M → Type 0) → Bool → ℕ → Device → ℕ → OverMedium Standing M
+abbrev pub TurnOver : {M : Type 0} → (M → MediumCall → M → Type 0) → Bool → Capacity → Device → ℕ
+    → OverMedium Standing M
     → List ℕ → List ℕ → OverMedium Standing M → Type 0
-TurnOver step tells blocks d n old line answer new =
-    TurnBy step tells blocks d n old.state old.medium (asked line) answer new
+TurnOver step tells size d n old line answer new =
+    TurnBy step tells size d n old.state old.medium (asked line) answer new

@@ -1,5 +1,21 @@
--- What a line is answered once the fleet is there, and what it leaves.
-use Rattle.std.specs.Prelude.{◌≡◌, ◌*◌, ◌==◌, ◌||◌, nat_lt, Bool, ℕ, List, length, codes, Option, None, Some, Result, if◌then◌else◌}
+-- The answer to a line after the fleet is opened, and its effect.
+use Rattle.std.specs.Prelude.{
+  ◌≡◌,
+  ◌*◌,
+  ◌==◌,
+  ◌||◌,
+  nat_lt,
+  Bool,
+  ℕ,
+  List,
+  length,
+  codes,
+  Option,
+  None,
+  Some,
+  Result,
+  if◌then◌else◌,
+}
 use Rattle.nvme_event.specs.declared.event.FleetEvent.{FleetEvent}
 use Rattle.nvme_event.specs.Replies.{Reply}
 use Rattle.nvme_fleet.specs.FleetStates.{Layers}
@@ -7,7 +23,7 @@ use Rattle.nvme_fleet.specs.Layers.{Step}
 use Rattle.nvme_transcript.specs.Transcript.{line_of}
 use Rattle.nvme_spec.specs.World.{namespace_of}
 use Rattle.nvme_spec.specs.declared.medium.MediumFault.{MediumFault}
-use Rattle.nvme_subsys.specs.Looking.{Reads, place_in}
+use Rattle.nvme_subsys.specs.Looking.{Reads, block_in}
 use Rattle.live_text.specs.Faults.{refusal}
 use Rattle.live_text.specs.declared.fault.Why.TheVariants.{BeforeStart, OutsideNamespace}
 use Rattle.live_text.specs.declared.looking.Looking.{Looking}
@@ -22,14 +38,14 @@ use Rattle.script_text.specs.Writing.{Sending}
 use Rattle.nvme_live.specs.Streams.{Says}
 use Rattle.nvme_program.specs.declared.fault.ScriptFault.{ScriptFault}
 
--- An event happened, and it is answered by the line of it and of what it gave.
+-- An event was applied, and the answer is its line of the transcript.
 pub record Happens (tells : Bool) (old : Layers) (event : FleetEvent) (answer : List ℕ) (new : Layers) : Type 0 where
   pub reply : Reply
   pub step : Step tells old event reply new
   pub says : answer ≡ line_of event reply
 
--- Blocks were looked at, from this one of the medium on: nothing has changed but how often a call of the medium has
--- failed, where one has.
+-- `count` blocks were read from block `first` of the medium, and the answer shows them or the fault. Nothing changed
+-- except the medium's failure count, and that only if a call failed.
 pub record LooksAtBlocks (tells : Bool) (n m slba count first : ℕ) (old : Layers) (answer : List ℕ) (new : Layers)
     : Type 0 where
   pub bytes : List ℕ
@@ -39,24 +55,25 @@ pub record LooksAtBlocks (tells : Bool) (n m slba count first : ℕ) (old : Laye
   pub drivers : new.drivers ≡ old.drivers
   pub says : answer ≡ with_feed (read_text n m slba count bytes result)
 
--- A look at blocks, at this place of the medium, if they all lie in the namespace and are 1 to 256; else it is refused.
+-- The answer to a query of blocks. `None` if the query is refused, because it is for no block or more than 256, or the
+-- namespace does not have all of them; otherwise their first block of the medium.
 abbrev pub ShowsBlocks : Option ℕ → Bool → ℕ → ℕ → ℕ → ℕ → Layers → List ℕ → Layers → Type 0
 ShowsBlocks None tells n m slba count old answer new =
     (answer ≡ with_feed (refusal n OutsideNamespace)) × (new ≡ old)
 ShowsBlocks (Some first) tells n m slba count old answer new =
     LooksAtBlocks tells n m slba count first old answer new
 
-abbrev pub place_of : ℕ → ℕ → ℕ → Layers → Option ℕ
-place_of m slba count l =
-    if (count == 0) || nat_lt 256 count then None else place_in (namespace_of l.subsystem.world m) slba count
+abbrev pub block_of : ℕ → ℕ → ℕ → Layers → Option ℕ
+block_of m slba count l =
+    if (count == 0) || nat_lt 256 count then None else block_in (namespace_of l.subsystem.world m) slba count
 
--- what a looking line is answered: it says what it looks at, and changes nothing
+-- the answer to a query, which changes nothing
 abbrev pub Shows : Bool → ℕ → Looking → Layers → List ℕ → Layers → Type 0
 Shows tells n (look.Blocks m slba count) old answer new =
-    ShowsBlocks (place_of m slba count old) tells n m slba count old answer new
+    ShowsBlocks (block_of m slba count old) tells n m slba count old answer new
 Shows tells n looking old answer new = (answer ≡ with_feed (shown_text n looking old)) × (new ≡ old)
 
--- what the n-th line is answered, and what it leaves
+-- the answer to the n-th line, and its effect
 abbrev pub AnswersLine : Bool → ℕ → Asked → Layers → List ℕ → Layers → Type 0
 AnswersLine tells n (Fails why) old answer new = (answer ≡ with_feed (refusal n why)) × (new ≡ old)
 AnswersLine tells n Nothing old answer new = (answer ≡ with_feed (codes "ok")) × (new ≡ old)
@@ -65,7 +82,8 @@ AnswersLine tells n (Parses line) old answer new = (answer ≡ with_feed (readin
 AnswersLine tells n (Sets line) old answer new = (answer ≡ with_feed (refusal n BeforeStart)) × (new ≡ old)
 AnswersLine tells n (Does event) old answer new = Happens tells old event answer new
 
--- An answer of which this is said was sent, or else not, in the way that the result tells.
+-- An answer has this property, and was sent or not according to the result.
 abbrev pub Answered : {W : Type 0} → (W → Sending → W → Type 0) → (List ℕ → Type 0) → Result (Unit {0}) ScriptFault
     → (List ℕ → Type 0) → W → W → Type 0
-Answered Sends MayBe result Of before after = (answer : List ℕ) × Of answer × Says Sends MayBe result answer before after
+Answered Sends MayBe result Of before after =
+    (answer : List ℕ) × Of answer × Says Sends MayBe result answer before after

@@ -1,7 +1,28 @@
--- A session over streams: which lines were read, what was answered, and how it ended. What a turn, a read and the sending
--- of an answer are is said elsewhere: over a medium and streams, whose calls they are, or of what is known of these alone.
-use Rattle.std.specs.Prelude.{◌≡◌, ◌⊎◌, ◌≤◌, ◌<◌, ◌+◌, ◌-◌, ◌^◌, ℕ, Bool, List, [], ◌∷◌, length, Option, None, Some, Result, Ok, Err}
+-- A session over streams: the lines read, the answers, and how it ended. Answering a line, reading one and sending an
+-- answer are parameters: as calls of a medium and streams, or for known bytes alone.
+use Rattle.std.specs.Prelude.{
+  ◌≡◌,
+  ◌⊎◌,
+  ◌≤◌,
+  ◌<◌,
+  ◌+◌,
+  ◌-◌,
+  ◌^◌,
+  ℕ,
+  Bool,
+  List,
+  [],
+  ◌∷◌,
+  length,
+  Option,
+  None,
+  Some,
+  Result,
+  Ok,
+  Err,
+}
 use Rattle.nvme_spec.specs.Blocks.{Device}
+use Rattle.nvme_spec.specs.Configuration.{Capacity}
 use Rattle.nvme_fleet.specs.FleetStates.{Layers}
 use Rattle.nvme_live.specs.SetUps.{IsCrowded, SetUp}
 use Rattle.nvme_grammar.specs.declared.line.Line.{Line}
@@ -15,17 +36,17 @@ use Rattle.nvme_live.specs.Standings.{MayLackRoom, Standing, Setting, Running, O
 use Rattle.script_text.specs.Writing.{Broken, Sending, Sent}
 use Rattle.nvme_live.specs.Streams.{Came, Ended, Failed, LineCall}
 
--- these lines were read, one after the other, each by one call, and no other call was made
+-- these lines were read in order, each by one call, and no other call was made
 abbrev pub ReadsLines : {R : Type 0} → (R → LineCall → R → Type 0) → R → List (List ℕ) → R → Type 0
 ReadsLines Reads old [] new = new ≡ old
 ReadsLines {R} Reads old (line ∷ lines) new = (mid : R) × Reads old (Came line) mid × ReadsLines Reads mid lines new
 
--- these answers were sent, one after the other, and nothing else
+-- exactly these answers were sent, in order
 abbrev pub SendsAll : {W : Type 0} → (W → Sending → W → Type 0) → W → List (List ℕ) → W → Type 0
 SendsAll Sends old [] new = new ≡ old
 SendsAll {W} Sends old (answer ∷ answers) new = (mid : W) × Sends old (Sent answer) mid × SendsAll Sends mid answers new
 
--- Lines were read, and answered: exactly these, each by one answer, in their order. The next one has this number.
+-- Exactly these lines were read, each with one answer, in order. The next line has this number.
 pub record Converses {S R W : Type 0} (Turns : ℕ → S → List ℕ → List ℕ → S → Type 0) (Reads : R → LineCall → R → Type 0)
     (Sends : W → Sending → W → Type 0) (n : ℕ) (old : S) (next : ℕ) (new : S) (unread left : R) (before after : W)
     : Type 0 where
@@ -36,7 +57,7 @@ pub record Converses {S R W : Type 0} (Turns : ℕ → S → List ℕ → List �
   pub went : LineByLine Turns n old lines answers new
   pub sent : SendsAll Sends before answers after
 
--- It ended at the end of the input: the last call said that there is no line any more.
+-- The session ended at the end of the input: the last call returned no further line.
 pub record Ends {S R W : Type 0} (Turns : ℕ → S → List ℕ → List ℕ → S → Type 0) (Reads : R → LineCall → R → Type 0)
     (Sends : W → Sending → W → Type 0) (n : ℕ) (old new : S) (unread left : R) (before after : W) : Type 0 where
   pub next : ℕ
@@ -44,7 +65,7 @@ pub record Ends {S R W : Type 0} (Turns : ℕ → S → List ℕ → List ℕ �
   pub conversed : Converses Turns Reads Sends n old next new unread end before after
   pub ended : Reads end Ended left
 
--- It stopped at a line whose answer was not sent, in some sense: what that line does was done.
+-- The session stopped at a line whose answer was not sent, in one of these ways; the line has had its effect.
 pub record Stops {S R W : Type 0} (Turns : ℕ → S → List ℕ → List ℕ → S → Type 0) (Reads : R → LineCall → R → Type 0)
     (Sends : W → Sending → W → Type 0) (Unsent : S → List ℕ → W → List ℕ → W → Type 0) (n : ℕ) (old new : S)
     (unread left : R) (before after : W) : Type 0 where
@@ -65,14 +86,14 @@ abbrev pub BreaksOff : {S R W : Type 0} → (ℕ → S → List ℕ → List ℕ
 BreaksOff Turns Reads Sends n old new unread left before after =
     Stops Turns Reads Sends (λ mid line w answer z. Sends w (Broken answer) z) n old new unread left before after
 
--- its text had no room, since it is longer than a text may be, and nothing was called
+-- its text does not fit, since it is longer than a text may be, and nothing was called
 abbrev pub FindsNoRoom : {S R W : Type 0} → (ℕ → S → List ℕ → List ℕ → S → Type 0) → (R → LineCall → R → Type 0)
     → (W → Sending → W → Type 0) → (S → Standing) → ℕ → S → S → R → R → W → W → Type 0
 FindsNoRoom Turns Reads Sends standing n old new unread left before after =
     Stops Turns Reads Sends (λ mid line w answer z. MayLackRoom (standing mid) (asked line) answer × (z ≡ w)) n old
     new unread left before after
 
--- It stopped at a call that read no line, since it failed.
+-- The session stopped at a call of the input that failed, and read no line.
 pub record Unread {S R W : Type 0} (Turns : ℕ → S → List ℕ → List ℕ → S → Type 0) (Reads : R → LineCall → R → Type 0)
     (Sends : W → Sending → W → Type 0) (n : ℕ) (old new : S) (unread left : R) (before after : W) : Type 0 where
   pub next : ℕ
@@ -80,28 +101,28 @@ pub record Unread {S R W : Type 0} (Turns : ℕ → S → List ℕ → List ℕ 
   pub conversed : Converses Turns Reads Sends n old next new unread between before after
   pub failed : Reads between Failed left
 
--- It stopped where its lines can't be counted any more, and no further one was read.
+-- The session stopped because it can count no more lines, and read no further one.
 pub record Uncounted {S R W : Type 0} (Turns : ℕ → S → List ℕ → List ℕ → S → Type 0) (Reads : R → LineCall → R → Type 0)
     (Sends : W → Sending → W → Type 0) (n : ℕ) (old new : S) (unread left : R) (before after : W) : Type 0 where
   pub next : ℕ
   pub conversed : Converses Turns Reads Sends n old next new unread left before after
   pub many : 2 ^ 64 - 1 ≤ next
 
--- The n-th line, read where a session stands so, can be answered, and the session runs then: of `start`, that its
--- configuration has no fault.
+-- The n-th line, in this state of a session, can be answered, and then the session runs: for `start`, its configuration
+-- has no fault.
 abbrev pub CanRun : {S : Type 0} → (ℕ → S → List ℕ → List ℕ → S → Type 0) → (S → Standing) → ℕ → S → List ℕ → Type 0
 CanRun {S} Turns standing n old line =
     (answer : List ℕ) × (later : S) × Turns n old line answer later × (l : Layers) × (standing later ≡ Running l)
 
--- a line at which memory can run out, where a session stands so: `start`, if the session can run, or one that sets up,
--- of too many
+-- a line at which memory can be refused, in this state of a session: `start`, if the session can run, or a setup line
+-- beyond the limit
 abbrev pub CanStarve : Standing → Line → Type 0 → Type 0
 CanStarve (Setting s) line Runs = ((line ≡ Start) × Runs) ⊎ IsCrowded s line
 CanStarve (Running l) line Runs = ⊥
 CanStarve (Over k fault) line Runs = ⊥
 
--- It stopped at a line for which no memory was found, which starts a configuration without a fault, or sets up and is one
--- of too many: it is not answered, and changed nothing.
+-- The session stopped at a line for which memory was refused. The line is a `start` of a configuration without a fault,
+-- or a setup line beyond the limit. It is not answered, and changed nothing.
 pub record Starves {S R W : Type 0} (Turns : ℕ → S → List ℕ → List ℕ → S → Type 0) (Reads : R → LineCall → R → Type 0)
     (Sends : W → Sending → W → Type 0) (standing : S → Standing) (n : ℕ) (old new : S) (unread left : R)
     (before after : W) : Type 0 where
@@ -114,7 +135,7 @@ pub record Starves {S R W : Type 0} (Turns : ℕ → S → List ℕ → List ℕ
   pub sets : asked line ≡ Sets says
   pub starved : CanStarve (standing new) says (CanRun Turns standing next new line)
 
--- what the fault is by which a session ends, once it has begun, where it stands so
+-- the fault that ends a session in this state, after it has begun
 abbrev pub EndsBy : {S R W : Type 0} → ScriptFault → (ℕ → S → List ℕ → List ℕ → S → Type 0)
     → (R → LineCall → R → Type 0) → (W → Sending → W → Type 0) → (S → Standing) → ℕ → S → S → R → R → W → W → Type 0
 EndsBy (Config k fault) Turns Reads Sends standing n old new unread left before after =
@@ -130,7 +151,7 @@ EndsBy NoMemory Turns Reads Sends standing n old new unread left before after =
 EndsBy (Syntax k) Turns Reads Sends standing n old new unread left before after = ⊥
 EndsBy TooLong Turns Reads Sends standing n old new unread left before after = ⊥
 
--- where a session stands, without a medium and over one
+-- the state of a session, without a medium and over one
 abbrev pub alone : Standing → Standing
 alone standing = standing
 
@@ -139,27 +160,27 @@ standing_over s = s.state
 
 -- Lines before `start` were answered, and then `start` was read, which has this number and is not answered yet.
 pub record ComesToStart {R W : Type 0} (Reads : R → LineCall → R → Type 0) (Sends : W → Sending → W → Type 0)
-    (tells : Bool) (blocks : ℕ) (d : Device) (k : ℕ) (old new : SetUp) (unread left : R) (before after : W)
+    (tells : Bool) (size : Capacity) (d : Device) (k : ℕ) (old new : SetUp) (unread left : R) (before after : W)
     : Type 0 where
   pub between : R
-  pub conversed : Converses (TurnOf tells blocks d) Reads Sends 1 (Setting old) k (Setting new) unread between
+  pub conversed : Converses (TurnOf tells size d) Reads Sends 1 (Setting old) k (Setting new) unread between
       before after
   pub line : List ℕ
   pub taken : Reads between (Came line) left
   pub starts : asked line ≡ Sets Start
   pub countable : k < 2 ^ 64 - 1
 
--- the line `start` was just read: what holds from where the source was before that
+-- the line `start` was just read: a property of the state of the source before that
 abbrev pub FromStart : {R : Type 0} → (R → LineCall → R → Type 0) → R → (R → Type 0) → Type 0
 FromStart {R} Reads now From =
     (line : List ℕ) → (between : R) → Reads between (Came line) now → asked line ≡ Sets Start → From between
 
--- What the lines before `start` come to, over any medium.
+-- The result of the lines before `start`, over any medium.
 abbrev pub SetsUp : {R W : Type 0} → (R → LineCall → R → Type 0) → (W → Sending → W → Type 0)
     → Result (Option ℕ) ScriptFault → SetUp → SetUp → R → R → W → W → Type 0
-SetsUp Reads Sends (Ok None) old new unread left before after = (tells : Bool) (blocks : ℕ) (d : Device)
-    → Ends (TurnOf tells blocks d) Reads Sends 1 (Setting old) (Setting new) unread left before after
-SetsUp Reads Sends (Ok (Some k)) old new unread left before after = (tells : Bool) (blocks : ℕ) (d : Device)
-    → ComesToStart Reads Sends tells blocks d k old new unread left before after
-SetsUp Reads Sends (Err fault) old new unread left before after = (tells : Bool) (blocks : ℕ) (d : Device)
-    → EndsBy fault (TurnOf tells blocks d) Reads Sends alone 1 (Setting old) (Setting new) unread left before after
+SetsUp Reads Sends (Ok None) old new unread left before after = (tells : Bool) (size : Capacity) (d : Device)
+    → Ends (TurnOf tells size d) Reads Sends 1 (Setting old) (Setting new) unread left before after
+SetsUp Reads Sends (Ok (Some k)) old new unread left before after = (tells : Bool) (size : Capacity) (d : Device)
+    → ComesToStart Reads Sends tells size d k old new unread left before after
+SetsUp Reads Sends (Err fault) old new unread left before after = (tells : Bool) (size : Capacity) (d : Device)
+    → EndsBy fault (TurnOf tells size d) Reads Sends alone 1 (Setting old) (Setting new) unread left before after

@@ -1,6 +1,27 @@
--- A session that is kept as a script: its lines without those that look and those that were answered `!`.
-use Rattle.std.specs.Prelude.{◌≡◌, ◌≢◌, ◌≤◌, ◌+◌, ◌==◌, ◌&&◌, ℕ, Bool, IsTrue, true, false, not, List, [], ◌∷◌, ◌++◌, Option, None, Some}
+-- A session that is saved as a script: its lines without queries, and without those answered `!`.
+use Rattle.std.specs.Prelude.{
+  ◌≡◌,
+  ◌≢◌,
+  ◌≤◌,
+  ◌+◌,
+  ◌==◌,
+  ◌&&◌,
+  ℕ,
+  Bool,
+  IsTrue,
+  true,
+  false,
+  not,
+  List,
+  [],
+  ◌∷◌,
+  ◌++◌,
+  Option,
+  None,
+  Some,
+}
 use Rattle.nvme_spec.specs.Blocks.{Device, Told}
+use Rattle.nvme_spec.specs.Configuration.{Capacity}
 use Rattle.nvme_event.specs.declared.event.FleetEvent.{FleetEvent}
 use Rattle.nvme_event.specs.Replies.{Reply}
 use Rattle.nvme_fleet.specs.FleetStates.{Layers, fleet_in}
@@ -26,7 +47,7 @@ abbrev pub is_refusal : List ℕ → Bool
 is_refusal [] = false
 is_refusal (b ∷ bs) = b == 33
 
--- whether a line with its answer is kept
+-- whether a line with its answer is saved
 abbrev pub is_kept : List ℕ → List ℕ → Bool
 is_kept line answer = not (is_looking line) && not (is_refusal answer)
 
@@ -47,7 +68,7 @@ abbrev pub bytes_if : Bool → List ℕ → List ℕ → List ℕ
 bytes_if true bytes rest = bytes ++ rest
 bytes_if false bytes rest = rest
 
--- the lines that are kept, and the answers of the events among them
+-- the saved lines, and the answers of the events among them
 abbrev pub kept_lines : List (List ℕ) → List (List ℕ) → List (List ℕ)
 kept_lines [] answers = []
 kept_lines (line ∷ lines) [] = []
@@ -59,25 +80,25 @@ event_answers (line ∷ lines) [] = []
 event_answers (line ∷ lines) (answer ∷ answers) =
     bytes_if (is_kept line answer && is_event (line_at line)) answer (event_answers lines answers)
 
--- a line that looks at blocks, which makes calls of the medium
+-- a query of blocks, which makes calls of the medium
 abbrev pub is_block_look : Asked → Bool
 is_block_look (Looks (look.Blocks m slba count)) = true
 is_block_look asks = false
 
--- The n-th line leaves the medium as it was, if it looks at blocks: the medium tells its content, and did not fail.
+-- The n-th line leaves the medium, if it is a query of blocks: the medium reveals its content, and did not fail.
 abbrev pub LooksWell : Bool → ℕ → List ℕ → List ℕ → Type 0
 LooksWell tells n line answer =
     is_block_look (asked line) ≡ true → IsTrue tells × (answer ≢ with_feed (refusal n MediumFailed))
 
--- each line does, from the n-th on
+-- each line does, from the n-th
 abbrev pub LookWell : Bool → ℕ → List (List ℕ) → List (List ℕ) → Type 0
 LookWell tells n [] answers = Unit {0}
 LookWell tells n (line ∷ lines) [] = Unit {0}
 LookWell tells n (line ∷ lines) (answer ∷ answers) =
     LooksWell tells n line answer × LookWell tells (n + 1) lines answers
 
--- Blocks were looked at, or not. All else is as it was; so is the medium's content, where it tells that, and its count
--- of failures has not fallen.
+-- Blocks were read, or none. All else is unchanged; so is the medium's content, if it reveals that, and its failure
+-- count has not fallen.
 pub record Looked (tells : Bool) (old new : Layers) : Type 0 where
   pub content : Told tells (new.subsystem.device.content ≡ old.subsystem.device.content)
   pub count : old.subsystem.device.failures ≤ new.subsystem.device.failures
@@ -85,7 +106,7 @@ pub record Looked (tells : Bool) (old new : Layers) : Type 0 where
   pub controllers : new.subsystem.controllers ≡ old.subsystem.controllers
   pub drivers : new.drivers ≡ old.drivers
 
--- Events, one after the other, and what each gave; before each and behind the last, blocks may be looked at.
+-- Events in order, and their replies; before each and after the last, blocks may be read.
 abbrev pub RunAmidLooks : Bool → Layers → List FleetEvent → List Reply → Layers → Type 0
 RunAmidLooks tells old [] [] new = Looked tells old new
 RunAmidLooks tells old (event ∷ events) (reply ∷ later) new =
@@ -94,8 +115,8 @@ RunAmidLooks tells old (event ∷ events) (reply ∷ later) new =
 RunAmidLooks tells old [] (reply ∷ later) new = ⊥
 RunAmidLooks tells old (event ∷ events) [] new = ⊥
 
--- Lines of a fleet that is there, and what they were answered: what is kept of them ran so, in some sense of a run, and
--- what the events were answered is the transcript of that run, behind whatever was written before.
+-- Lines of an open fleet, and their answers: the saved ones ran, by some notion of a run, and the answers of the events
+-- are the transcript of that run, after whatever was written before.
 pub record RunsOn (Ran : Layers → List FleetEvent → List Reply → Layers → Type 0) (old : Layers)
     (lines answers : List (List ℕ)) (new : Standing) : Type 0 where
   pub last : Layers
@@ -103,25 +124,26 @@ pub record RunsOn (Ran : Layers → List FleetEvent → List Reply → Layers �
   pub ran : (before : List ℕ) → Transcribes Ran old (events_of (kept_lines lines answers)) last (Some before)
       (Some (before ++ event_answers lines answers))
 
--- Behind `start`, where each look at blocks left the medium as it was, what is kept is a run of both layers.
+-- After `start`, if each query of blocks left the medium unchanged, the saved lines are a run of both layers.
 abbrev pub KeptLinesAreARun : Type 0
 KeptLinesAreARun =
-    (tells : Bool) (blocks : ℕ) (d : Device) (n : ℕ) (old : Layers) (lines answers : List (List ℕ)) (new : Standing)
-    → Session tells blocks d n (Running old) lines answers new → LookWell tells n lines answers
+    (tells : Bool) (size : Capacity) (d : Device) (n : ℕ) (old : Layers) (lines answers : List (List ℕ))
+    (new : Standing)
+    → Session tells size d n (Running old) lines answers new → LookWell tells n lines answers
     → RunsOn (Run tells) old lines answers new
 
--- In any session behind `start` it is one amid looks at blocks.
+-- In any session after `start` they are one with queries of blocks in it.
 abbrev pub KeptLinesRunAmidLooks : Type 0
 KeptLinesRunAmidLooks =
-    (tells : Bool) (blocks : ℕ) (d : Device) (n : ℕ) (old : Layers) (lines answers : List (List ℕ)) (new : Standing)
-    → Session tells blocks d n (Running old) lines answers new → RunsOn (RunAmidLooks tells) old lines answers new
+    (tells : Bool) (size : Capacity) (d : Device) (n : ℕ) (old : Layers) (lines answers : List (List ℕ))
+    (new : Standing)
+    → Session tells size d n (Running old) lines answers new → RunsOn (RunAmidLooks tells) old lines answers new
 
--- So what the events among them were answered is exactly the transcript that a run of these events has, in the sense of
--- a script's run.
+-- So the answers of the events among them are exactly the transcript of a run of these events, as of a script.
 abbrev pub KeptLinesTranscribe : Type 0
 KeptLinesTranscribe =
-    (tells : Bool) (blocks : ℕ) (d : Device) (n : ℕ) (old last : Layers) (lines answers : List (List ℕ))
-    → Session tells blocks d n (Running old) lines answers (Running last) → LookWell tells n lines answers
+    (tells : Bool) (size : Capacity) (d : Device) (n : ℕ) (old last : Layers) (lines answers : List (List ℕ))
+    → Session tells size d n (Running old) lines answers (Running last) → LookWell tells n lines answers
     → (before : List ℕ)
     → Transcribes (mailboxes.Run tells) (fleet_in old) (events_of (kept_lines lines answers)) (fleet_in last)
     (Some before) (Some (before ++ event_answers lines answers))

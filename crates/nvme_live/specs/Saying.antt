@@ -1,13 +1,13 @@
--- An answer on its way to the writer.
+-- The text of an answer, and its writing.
 use Rattle.std.specs.Prelude.{ℕ, ◌≤◌, ◌<◌, List, [], ◌∷◌, ◌++◌, length, take, Option}
 use Rattle.std.specs.Io.KnownBytes.{Appends}
 use Rattle.script_text.specs.Pages.{most_text}
 
--- a line, with the line feed that ends it
+-- a line, with its line feed
 abbrev pub with_feed : List ℕ → List ℕ
 with_feed text = text ++ 10 ∷ []
 
--- the text that an answer is put together in has no room for it
+-- the answer does not fit the text in which it is assembled
 abbrev pub LacksRoom : List ℕ → Type 0
 LacksRoom answer = most_text < length answer
 

@@ -1,8 +1,27 @@
--- The script that a session is: what was run first, where that starts, and behind it the lines that are kept.
-use Rattle.std.specs.Prelude.{◌≡◌, ◌≤◌, ◌<◌, ◌-◌, ◌^◌, ℕ, Bool, true, List, [], ◌∷◌, ◌++◌, length, codes, Option, None, Some}
+-- Statements of the law `session_is_a_script`: the script of a session is its first script, if that has a `start`, and
+-- then the saved lines.
+use Rattle.std.specs.Prelude.{
+  ◌≡◌,
+  ◌≤◌,
+  ◌<◌,
+  ◌-◌,
+  ◌^◌,
+  ℕ,
+  Bool,
+  true,
+  List,
+  [],
+  ◌∷◌,
+  ◌++◌,
+  length,
+  codes,
+  Option,
+  None,
+  Some,
+}
 use Rattle.std.specs.Io.KnownBytes.{Appends}
 use Rattle.nvme_spec.specs.Blocks.{Device}
-use Rattle.nvme_spec.specs.Configuration.{Configuration, first_config_fault}
+use Rattle.nvme_spec.specs.Configuration.{Capacity, Configuration, config_fault}
 use Rattle.nvme_spec.specs.declared.config.ConfigFault.{ConfigFault}
 use Rattle.nvme_spec.specs.MediumCalls.{MediumCall}
 use Rattle.nvme_event.specs.declared.event.FleetEvent.{FleetEvent}
@@ -29,7 +48,7 @@ abbrev pub text_of : List (List ℕ) → List ℕ
 text_of [] = []
 text_of (line ∷ lines) = with_feed line ++ text_of lines
 
--- a text behind the one that is run first, where that has a `start`; else in its place
+-- a text after the first script, if that has a `start`; otherwise alone
 abbrev pub behind : Option ℕ → List ℕ → List ℕ → List ℕ
 behind None first text = text
 behind (Some n) first text = first ++ 10 ∷ text
@@ -37,92 +56,92 @@ behind (Some n) first text = first ++ 10 ∷ text
 abbrev pub session_text : List ℕ → List (List ℕ) → List (List ℕ) → List ℕ
 session_text first lines answers = behind (start_of (text_lines first)) first (text_of (kept_lines lines answers))
 
--- A text is a script but for its length; its configuration is accepted, and its events ran from where that opens to
--- here, with this transcript behind whatever was written before.
-pub record IsPlayed (Ran : Layers → List FleetEvent → List Reply → Layers → Type 0) (blocks : ℕ) (d : Device)
+-- A text is a script except for its length; its configuration is accepted, and its events ran from its opening to here,
+-- with this transcript after whatever was written before.
+pub record IsPlayed (Ran : Layers → List FleetEvent → List Reply → Layers → Type 0) (size : Capacity) (d : Device)
     (text said : List ℕ) (last : Layers) : Type 0 where
   pub grammar : Begins (text_lines text)
   pub starts : (k : ℕ) × (start_of (text_lines text) ≡ Some k)
-  pub accepted : first_config_fault (configuration_of (text_lines text)) blocks ≡ None
+  pub accepted : config_fault (configuration_of (text_lines text)) size ≡ None
   pub ran : (before : List ℕ) → Transcribes Ran (opening_layers (configuration_of (text_lines text)) d)
       (events_in text) last (Some before) (Some (before ++ said))
 
--- A text begins a script, and has no `start`; with one behind it, this would be its configuration.
+-- A text begins a script without `start`; with a `start` after it, this would be its configuration.
 pub record IsSetUp (text said : List ℕ) (c : Configuration) : Type 0 where
   pub grammar : Begins (text_lines text)
   pub unstarted : start_of (text_lines text) ≡ None
   pub sets : configuration_of (text_lines (text ++ codes "start")) ≡ c
   pub silent : said ≡ []
 
--- A text is a script but for its length, and for its configuration, whose first fault this is.
-pub record IsRefused (blocks : ℕ) (text said : List ℕ) (why : ConfigFault) : Type 0 where
+-- A text is a script except for its length and its configuration, whose first fault this is.
+pub record IsRefused (size : Capacity) (text said : List ℕ) (why : ConfigFault) : Type 0 where
   pub grammar : Begins (text_lines text)
   pub starts : (k : ℕ) × (start_of (text_lines text) ≡ Some k)
-  pub refused : first_config_fault (configuration_of (text_lines text)) blocks ≡ Some why
+  pub refused : config_fault (configuration_of (text_lines text)) size ≡ Some why
   pub silent : said ≡ []
 
--- what the text of a session is, and what it says, by where the session stands
-abbrev pub IsKeptAs : (Layers → List FleetEvent → List Reply → Layers → Type 0) → ℕ → Device → List ℕ → List ℕ
+-- the text of a session, and its configuration and events, by the state of the session
+abbrev pub IsKeptAs : (Layers → List FleetEvent → List Reply → Layers → Type 0) → Capacity → Device → List ℕ → List ℕ
     → Standing → Type 0
-IsKeptAs Ran blocks d text said (Setting s) = IsSetUp text said s.configuration
-IsKeptAs Ran blocks d text said (Running last) = IsPlayed Ran blocks d text said last
-IsKeptAs Ran blocks d text said (Over k why) = IsRefused blocks text said why
+IsKeptAs Ran size d text said (Setting s) = IsSetUp text said s.configuration
+IsKeptAs Ran size d text said (Running last) = IsPlayed Ran size d text said last
+IsKeptAs Ran size d text said (Over k why) = IsRefused size text said why
 
--- What the script that is run first has written, and behind it the answers of a session's events, are those of the
--- session's text, in some sense of a run.
-pub record IsAScript (Ran : Layers → List FleetEvent → List Reply → Layers → Type 0) (blocks : ℕ) (d : Device)
+-- The transcript of the first script, and then the answers of a session's events, are those of the session's text, by
+-- some notion of a run.
+pub record IsAScript (Ran : Layers → List FleetEvent → List Reply → Layers → Type 0) (size : Capacity) (d : Device)
     (first : List ℕ) (lines answers : List (List ℕ)) (last : Standing) (before told : Option (List ℕ)) : Type 0 where
   pub said : List ℕ
   pub wrote : Appends before told said
-  pub kept : IsKeptAs Ran blocks d (session_text first lines answers) (said ++ event_answers lines answers) last
+  pub kept : IsKeptAs Ran size d (session_text first lines answers) (said ++ event_answers lines answers) last
 
--- Of a session from its first line on, behind the script that is run first, each of whose looks at blocks left the
--- medium as it was: its text is a script, which set up what the session set up, and whose run is the session's.
+-- For a session from its first line, after its first script, each of whose queries of blocks left the medium unchanged:
+-- its text is a script, with the session's configuration, and the session's run.
 abbrev pub SessionIsAScript : {M R W : Type 0} → (M → MediumCall → M → Type 0) → Bool → (M → Device)
     → (R → LineCall → R → Type 0) → (R → Option (List ℕ)) → (W → WriteCall → W → Type 0) → (W → Bool → W → Type 0)
     → (W → Option (List ℕ)) → Type 0
 SessionIsAScript {M} {R} {W} step tells device read remaining write flush contents =
-    (blocks : ℕ) → (first : List ℕ) → (medium : M) → (from last : OverMedium Standing M) → (next : ℕ)
+    (size : Capacity) → (first : List ℕ) → (medium : M) → (from last : OverMedium Standing M) → (next : ℕ)
     → (unread left : R) → (before told after : W)
-    → Opens step tells device write flush contents blocks first medium (start_of (text_lines first)) from before told
-    → (h : Converses (TurnOver step tells blocks (device medium)) (ReadsBy read remaining)
+    → Opens step tells device write flush contents size first medium (start_of (text_lines first)) from before told
+    → (h : Converses (TurnOver step tells size (device medium)) (ReadsBy read remaining)
     (SendsBy write flush contents) 1 from next last unread left told after)
     → LookWell tells 1 h.lines h.answers
-    → IsAScript (Run tells) blocks (device medium) first h.lines h.answers last.state (contents before)
+    → IsAScript (Run tells) size (device medium) first h.lines h.answers last.state (contents before)
     (contents told)
 
--- Of any session it is so but for its run, which is one amid looks at blocks.
+-- The same for any session, whose run then includes queries of blocks.
 abbrev pub SessionIsAScriptAmidLooks : {M R W : Type 0} → (M → MediumCall → M → Type 0) → Bool → (M → Device)
     → (R → LineCall → R → Type 0) → (R → Option (List ℕ)) → (W → WriteCall → W → Type 0) → (W → Bool → W → Type 0)
     → (W → Option (List ℕ)) → Type 0
 SessionIsAScriptAmidLooks {M} {R} {W} step tells device read remaining write flush contents =
-    (blocks : ℕ) → (first : List ℕ) → (medium : M) → (from last : OverMedium Standing M) → (next : ℕ)
+    (size : Capacity) → (first : List ℕ) → (medium : M) → (from last : OverMedium Standing M) → (next : ℕ)
     → (unread left : R) → (before told after : W)
-    → Opens step tells device write flush contents blocks first medium (start_of (text_lines first)) from before told
-    → (h : Converses (TurnOver step tells blocks (device medium)) (ReadsBy read remaining)
+    → Opens step tells device write flush contents size first medium (start_of (text_lines first)) from before told
+    → (h : Converses (TurnOver step tells size (device medium)) (ReadsBy read remaining)
     (SendsBy write flush contents) 1 from next last unread left told after)
-    → IsAScript (RunAmidLooks tells) blocks (device medium) first h.lines h.answers last.state (contents before)
+    → IsAScript (RunAmidLooks tells) size (device medium) first h.lines h.answers last.state (contents before)
     (contents told)
 
--- A text that was played, and is not too long, is a script in the sense of `run_script`, and has run as that says.
+-- A text that was played, and is not too long, is a script as in the contract of `run_script`, and ran as it states.
 abbrev pub PlayedIsARun : Type 0
 PlayedIsARun =
-    (tells : Bool) → (blocks : ℕ) → (d : Device) → (text said : List ℕ) → (last : Layers)
-    → IsPlayed (Run tells) blocks d text said last → length text ≤ longest
-    → IsScript text blocks
+    (tells : Bool) → (size : Capacity) → (d : Device) → (text said : List ℕ) → (last : Layers)
+    → IsPlayed (Run tells) size d text said last → length text ≤ longest
+    → IsScript text size
     × ((before : List ℕ) → Runs tells text d last.subsystem.device (Some before) (Some (before ++ said)))
 
 -- One that was refused, and is not too long, is refused by `run_script` with the same fault, at its `start`.
 abbrev pub RefusedIsAFault : Type 0
 RefusedIsAFault =
-    (blocks : ℕ) → (text said : List ℕ) → (why : ConfigFault) → (h : IsRefused blocks text said why)
-    → length text ≤ longest → IsEarlyFault (Config h.starts.0 why) text blocks
+    (size : Capacity) → (text said : List ℕ) → (why : ConfigFault) → (h : IsRefused size text said why)
+    → length text ≤ longest → IsEarlyFault (Config h.starts.0 why) text size
 
--- Over a medium that tells its content, and none of whose calls fails, each run of the text as a script writes what the
--- session's events were answered, and leaves the medium as the session did.
+-- Over a medium that reveals its content, without faults, each run of the text as a script writes the answers of the
+-- session's events, and leaves the medium as the session did.
 abbrev pub ReplaysAlike : Type 0
 ReplaysAlike =
-    (blocks : ℕ) → (d new : Device) → (text said : List ℕ) → (last : Layers) → (before after : Option (List ℕ))
-    → IsPlayed (Run true) blocks d text said last → last.subsystem.device.failures ≡ d.failures
+    (size : Capacity) → (d new : Device) → (text said : List ℕ) → (last : Layers) → (before after : Option (List ℕ))
+    → IsPlayed (Run true) size d text said last → last.subsystem.device.failures ≡ d.failures
     → Runs true text d new before after → new.failures ≡ d.failures → d.failures < 2 ^ 64 - 1
     → Appends before after said × (new ≡ last.subsystem.device)

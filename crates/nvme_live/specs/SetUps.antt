@@ -1,6 +1,22 @@
--- What a session has set up before `start`, and which of its lines did.
-use Rattle.std.specs.Prelude.{◌≤◌, ◌<◌, ◌⊎◌, ℕ, List, [], ◌∷◌, ◌++◌, length, slice_get, vec_capacity, Option, None, Some, option_map}
-use Rattle.nvme_spec.specs.Configuration.{Configuration, empty_configuration}
+-- The configuration of a session before `start`, and the lines that made it.
+use Rattle.std.specs.Prelude.{
+  ◌≤◌,
+  ◌<◌,
+  ◌⊎◌,
+  ℕ,
+  List,
+  [],
+  ◌∷◌,
+  ◌++◌,
+  length,
+  slice_get,
+  vec_capacity,
+  Option,
+  None,
+  Some,
+  option_map,
+}
+use Rattle.nvme_spec.specs.Configuration.{Capacity, Configuration, empty_configuration}
 use Rattle.nvme_spec.specs.declared.config.Config.{Config}
 use Rattle.nvme_ns.specs.Configured as ns
 use Rattle.nvme_grammar.specs.declared.line.Line.{Line}
@@ -12,13 +28,13 @@ use Rattle.nvme_ns.specs.declared.refusal.BrokenRule.{BrokenRule}
 use Rattle.nvme_ns.specs.declared.refusal.ConfigReason.{ConfigReason}
 use Rattle.nvme_live.specs.declared.line_numbers.LineNumbers.{LineNumbers}
 
--- the numbers of the lines of a session that set up controllers, namespaces and attachments, in the order of the lines
+-- the numbers of a session's lines for controllers, namespaces and attachments, in order
 pub record Numbers : Type 0 where
   pub of_controllers : List ℕ
   pub of_namespaces : List ℕ
   pub of_attachments : List ℕ
 
--- what is set up, and the numbers of the lines that did
+-- the configuration, and the numbers of the lines that made it
 pub record SetUp : Type 0 where
   pub configuration : Configuration
   pub numbers : Numbers
@@ -39,7 +55,7 @@ numbers_in numbers = record {
 abbrev pub set_up_of : Config → LineNumbers → SetUp
 set_up_of config numbers = record { configuration = ns.configuration config; numbers = numbers_in numbers }
 
--- what a line adds to a configuration
+-- a configuration after a line
 abbrev pub set_by : Configuration → Line → Configuration
 set_by c Blank = c
 set_by c (Controller k) = record c { controllers = c.controllers ++ k ∷ [] }
@@ -48,7 +64,7 @@ set_by c (Attached k n) = record c { attached = c.attached ++ (k, n) ∷ [] }
 set_by c Start = c
 set_by c (Event event) = c
 
--- where the number of the n-th line of a session is put
+-- the numbers after the n-th line of a session
 abbrev pub numbered_by : ℕ → Numbers → Line → Numbers
 numbered_by n numbers Blank = numbers
 numbered_by n numbers (Controller k) = record numbers { of_controllers = numbers.of_controllers ++ n ∷ [] }
@@ -57,14 +73,14 @@ numbered_by n numbers (Attached k m) = record numbers { of_attachments = numbers
 numbered_by n numbers Start = numbers
 numbered_by n numbers (Event event) = numbers
 
--- what is set up behind the n-th line of a session
+-- the configuration and the numbers after the n-th line of a session
 abbrev pub with_line : ℕ → SetUp → Line → SetUp
 with_line n s line = record {
   configuration = set_by s.configuration line;
   numbers = numbered_by n s.numbers line;
 }
 
--- The room that is made before the first line: for one more of each kind than a configuration may have.
+-- The memory that is taken before the first line: for one more of each kind than a configuration may have.
 pub record HasSetUpRoom (config : Config) (numbers : LineNumbers) : Type 0 where
   pub controllers : 17 ≤ vec_capacity config.controllers
   pub namespaces : 9 ≤ vec_capacity config.namespaces
@@ -73,7 +89,7 @@ pub record HasSetUpRoom (config : Config) (numbers : LineNumbers) : Type 0 where
   pub of_namespaces : 9 ≤ vec_capacity numbers.namespaces
   pub of_attachments : 129 ≤ vec_capacity numbers.attached
 
--- There are more lines of this one's kind already than a configuration may have: only then can memory run out at it.
+-- There are more lines of this one's kind already than a configuration may have: only then can memory be refused at it.
 abbrev pub IsCrowded : SetUp → Line → Type 0
 IsCrowded s Blank = ⊥
 IsCrowded s (Controller k) =
@@ -94,7 +110,6 @@ abbrev pub by_number : Numbers → Option ConfigReason → Option (ℕ × Broken
 by_number numbers None = None
 by_number numbers (Some reason) = option_map (λ k. (k, reason.rule)) (number_of numbers reason.line)
 
--- Why what is set up is refused over a medium of so many blocks: the number of the line that is at fault, and the rule
--- that it breaks.
-abbrev pub numbered_reason : SetUp → ℕ → Option (ℕ × BrokenRule)
-numbered_reason s blocks = by_number s.numbers (refusal_of s.configuration blocks)
+-- why the configuration is refused: the number of the line at fault, and the rule that it breaks
+abbrev pub numbered_reason : SetUp → Capacity → Option (ℕ × BrokenRule)
+numbered_reason s size = by_number s.numbers (refusal_of s.configuration size)

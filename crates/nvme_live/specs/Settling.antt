@@ -1,6 +1,7 @@
--- What a line before `start` comes to.
+-- The result of a line before `start`.
 use Rattle.std.specs.Prelude.{◌≡◌, ◌⊎◌, ℕ, List, Result, Ok, Err}
 use Rattle.nvme_spec.specs.Blocks.{Device}
+use Rattle.nvme_spec.specs.Configuration.{Capacity}
 use Rattle.nvme_live.specs.SetUps.{IsCrowded, SetUp}
 use Rattle.nvme_grammar.specs.declared.line.Line.{Line}
 use Rattle.nvme_grammar.specs.declared.line.Line.TheVariants.{Start}
@@ -13,12 +14,12 @@ use Rattle.nvme_live.specs.declared.setting.Settled.TheVariants.{Answered, Start
 use Rattle.nvme_live.specs.Standings.{MayLackRoom, Setting, Settles}
 use Rattle.script_text.specs.Writing.{Broken, Sending, Sent}
 
--- over any medium the n-th line is answered so, and leaves this set up
+-- over any medium this is the answer to the n-th line, and the configuration after it
 abbrev pub SettlesAlike : ℕ → SetUp → Asked → List ℕ → SetUp → Type 0
-SettlesAlike n old asks answer new = (blocks : ℕ) (d : Device) → Settles blocks d n old asks answer (Setting new)
+SettlesAlike n old asks answer new = (size : Capacity) (d : Device) → Settles size d n old asks answer (Setting new)
 
--- It was answered; or it is `start`, and nothing was written yet; or its answer was not written whole, or not flushed, or
--- found no room; or there are too many of its kind already, and no memory was found for it.
+-- A line before the session runs was answered; or it is `start`, and nothing was written yet; or its answer was not
+-- written whole, not flushed, or did not fit; or there are too many lines of its kind, and memory for it was refused.
 abbrev pub Comes : {W : Type 0} → (W → Sending → W → Type 0) → Result Settled ScriptFault → ℕ → SetUp → Asked → SetUp
     → W → W → Type 0
 Comes Sends (Ok Answered) n old asks new before after =
@@ -28,7 +29,8 @@ Comes Sends (Err Write) n old asks new before after =
     (answer : List ℕ) × SettlesAlike n old asks answer new × Sends before (Broken answer) after
 Comes Sends (Err NoMemory) n old asks new before after =
     ((line : Line) × (asks ≡ Sets line) × IsCrowded old line × (new ≡ old) × (after ≡ before))
-    ⊎ ((answer : List ℕ) × SettlesAlike n old asks answer new × MayLackRoom (Setting old) asks answer × (after ≡ before))
+    ⊎ ((answer : List ℕ) × SettlesAlike n old asks answer new × MayLackRoom (Setting old) asks answer
+    × (after ≡ before))
 Comes Sends (Err (Syntax k)) n old asks new before after = ⊥
 Comes Sends (Err (Config k fault)) n old asks new before after = ⊥
 Comes Sends (Err TooLong) n old asks new before after = ⊥

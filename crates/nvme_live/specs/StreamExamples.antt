@@ -1,4 +1,4 @@
--- A sink that tells all its calls, for worked examples: it is the list of them.
+-- A sink that records all its calls, for worked examples: it is the list of them.
 use Rattle.std.specs.Prelude.{◌≡◌, Bool, List, [], ◌∷◌, ◌++◌}
 use Rattle.script_text.specs.Streams.{WriteCall, OutputCall, Wrote, Flushed}
 

@@ -1,5 +1,25 @@
--- The lines of a session, taken one after the other off the front of what a reader has left.
-use Rattle.std.specs.Prelude.{◌≡◌, ◌≢◌, ◌⊎◌, ◌+◌, ◌<◌, ◌≤◌, ℕ, Bool, List, [], ◌∷◌, ◌++◌, length, take, true, false, Option, Some, IfSome}
+-- The lines of a session, taken one after the other from the bytes that a reader has left.
+use Rattle.std.specs.Prelude.{
+  ◌≡◌,
+  ◌≢◌,
+  ◌⊎◌,
+  ◌+◌,
+  ◌<◌,
+  ◌≤◌,
+  ℕ,
+  Bool,
+  List,
+  [],
+  ◌∷◌,
+  ◌++◌,
+  length,
+  take,
+  true,
+  false,
+  Option,
+  Some,
+  IfSome,
+}
 use Rattle.std.specs.List.{All}
 use Rattle.std.specs.Io.KnownBytes.{Consumes, IsAtEnd, Keeps}
 use Rattle.script_text.specs.Lines.{text_lines}
@@ -11,12 +31,12 @@ use Rattle.nvme_live.specs.declared.reading.Part.TheVariants.{Middle, Last, Noth
 abbrev pub IsOfLine : List ℕ → Type 0
 IsOfLine bytes = All (λ b. b ≢ 10) bytes
 
--- A line was taken, and the line feed behind it. The last line of all may lack it, and is not empty then.
+-- A line was taken, and the line feed after it. The last line of all may lack it, and is not empty then.
 pub record TakesLine (old : Option (List ℕ)) (line : List ℕ) (new : Option (List ℕ)) : Type 0 where
   pub of_line : IsOfLine line
   pub taken : Consumes old new (line ++ 10 ∷ []) ⊎ ((line ≢ []) × Consumes old new line × IfSome old (λ _. IsAtEnd new))
 
--- these lines were taken, one after the other, and nothing else
+-- exactly these lines were taken, in order
 abbrev pub TakesLines : Option (List ℕ) → List (List ℕ) → Option (List ℕ) → Type 0
 TakesLines old [] new = new ≡ old
 TakesLines old (line ∷ lines) new = (mid : Option (List ℕ)) × TakesLine old line mid × TakesLines mid lines new
@@ -27,17 +47,18 @@ pub record TakesFront (old new : Option (List ℕ)) : Type 0 where
   pub of_line : IsOfLine bytes
   pub taken : Consumes old new bytes
 
--- what is kept of a line: all of it, or one byte more than a line may have
+-- the stored part of a line: all of it, or one byte more than a line may have
 unfoldable pub kept : List ℕ → List ℕ
 kept line = take (line_limit + 1) line
 
--- the part of a line that stands at the front of bytes: how many bytes it has, without its line feed and with it
+-- the part of a line at the front of bytes: its length without and with the line feed
 abbrev pub IsCut : Part → List ℕ → ℕ → ℕ → Type 0
 IsCut Middle bytes len all = (len ≡ length bytes) × (all ≡ length bytes) × (0 < len) × IsOfLine bytes
-IsCut Last bytes len all = (all ≤ length bytes) × (len ≤ length bytes) × IsOfLine (take len bytes) × (take all bytes ≡ take len bytes ++ 10 ∷ [])
+IsCut Last bytes len all = (all ≤ length bytes) × (len ≤ length bytes) × IsOfLine (take len bytes)
+    × (take all bytes ≡ take len bytes ++ 10 ∷ [])
 IsCut Nothing bytes len all = (len ≡ 0) × (all ≡ 0) × (length bytes ≡ 0)
 
--- what a look at the input came to: what was taken of it, and the line before and after
+-- the result of one look at the input: the bytes taken, and the line before and after
 abbrev pub TakesPart : Part → Option (List ℕ) → Option (List ℕ) → List ℕ → List ℕ → Type 0
 TakesPart Middle old new before after =
     (bytes : List ℕ) × IsOfLine bytes × (bytes ≢ []) × Consumes old new bytes × (after ≡ kept (before ++ bytes))
@@ -45,12 +66,12 @@ TakesPart Last old new before after =
     (bytes : List ℕ) × IsOfLine bytes × Consumes old new (bytes ++ 10 ∷ []) × (after ≡ kept (before ++ bytes))
 TakesPart Nothing old new before after = IsAtEnd old × Keeps old new × (after ≡ before)
 
--- what the reading of a line came to: a line was taken, and this is kept of it; or there was none
+-- the result of reading a line: a line was taken, and this part is stored; or there was none
 abbrev pub ReadsLine : Bool → Option (List ℕ) → Option (List ℕ) → List ℕ → Type 0
 ReadsLine true old new line = (whole : List ℕ) × TakesLine old whole new × (line ≡ kept whole)
 ReadsLine false old new line = IsAtEnd old × Keeps old new × (line ≡ [])
 
--- the lines of a text: what stands between its line feeds, but for an empty one behind the last
+-- the lines of a text: the parts between its line feeds, without an empty one after the last
 abbrev pub without_empty_last : List (List ℕ) → List (List ℕ)
 without_empty_last [] = []
 without_empty_last ([] ∷ []) = []
@@ -59,7 +80,7 @@ without_empty_last (line ∷ lines) = line ∷ without_empty_last lines
 abbrev pub session_lines : List ℕ → List (List ℕ)
 session_lines text = without_empty_last (text_lines text)
 
--- of known bytes, taken to their end, the lines are these, and no others
+-- known bytes, taken to their end, have exactly these lines
 abbrev pub LinesAreKnown : Type 0
 LinesAreKnown = (text : List ℕ) (lines : List (List ℕ)) → TakesLines (Some text) lines (Some [])
     → lines ≡ session_lines text

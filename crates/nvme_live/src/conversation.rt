@@ -1,7 +1,8 @@
-//! The lines of a session, one after the other: before `start`, and behind it.
+//! Answers the lines of a session in order: before `start`, and after it.
 
 ghost use Rattle.std.specs.Prelude.{◌≡◌, ◌<◌, ℕ, IfErr, IfOk, length};
 ghost use Rattle.nvme_spec.specs.Blocks.{Device};
+ghost use Rattle.nvme_spec.specs.Configuration.{Capacity};
 ghost use Rattle.nvme_live.specs.SetUps.{HasSetUpRoom, set_up_of};
 ghost use Rattle.nvme_fleet.specs.FleetStates.{layers_of};
 ghost use Rattle.nvme_subsys.specs.OverMedium.{over};
@@ -23,7 +24,7 @@ use nvme_program::ScriptFault;
 use nvme_spec::Config;
 use script_text::{FlushedSink, Text};
 
-/// Answers the lines before the fleet is there, up to `start`, whose number is the answer; `None` at the end of the
+/// Answers the lines before the fleet is opened, up to `start`, whose number it returns; `None` at the end of the
 /// input.
 pub fn set_up<R: LineSource, W: FlushedSink>(
     config: &mut Config,
@@ -60,7 +61,7 @@ pub fn set_up<R: LineSource, W: FlushedSink>(
     Err(ScriptFault::Read)
 }
 
-/// Answers the lines once the fleet is there, up to the end of the input.
+/// Answers the lines after the fleet is opened, up to the end of the input.
 fn converse<R: LineSource, W: FlushedSink, M: Medium>(
     first: u64,
     fleet: &mut Fleet<M>,
@@ -75,11 +76,11 @@ fn converse<R: LineSource, W: FlushedSink, M: Medium>(
     requires bytes_room { length bytes.old ≡ 2097153 }
     requires identifiers_room { length identifiers.old ≡ 2097153 }
     requires blocks_room { length blocks.old ≡ 2097153 }
-    ensures ok { IfOk result (λ _. (size : ℕ) (d : Device)
+    ensures ok { IfOk result (λ _. (size : Capacity) (d : Device)
         → Ends (TurnOver M.step M.tells size d) (ReadsBy R.step R.remaining) (SendsBy W.step W.flushes W.contents) first
         (over (Running (layers_of fleet.old.state)) fleet.old.medium)
         (over (Running (layers_of fleet.new.state)) fleet.new.medium) reader.old reader.new writer.old writer.new) }
-    ensures fault { IfErr result (λ e. (size : ℕ) (d : Device)
+    ensures fault { IfErr result (λ e. (size : Capacity) (d : Device)
         → EndsBy e (TurnOver M.step M.tells size d) (ReadsBy R.step R.remaining) (SendsBy W.step W.flushes W.contents)
         standing_over first (over (Running (layers_of fleet.old.state)) fleet.old.medium)
         (over (Running (layers_of fleet.new.state)) fleet.new.medium) reader.old reader.new writer.old writer.new) }
@@ -99,7 +100,7 @@ fn converse<R: LineSource, W: FlushedSink, M: Medium>(
     Err(ScriptFault::Read)
 }
 
-/// Answers the lines once the fleet is there, and gives the medium back.
+/// Answers the lines after the fleet is opened, and returns the medium.
 pub fn run_on<R: LineSource, W: FlushedSink, M: Medium>(
     first: u64,
     mut fleet: Fleet<M>,
@@ -110,11 +111,11 @@ pub fn run_on<R: LineSource, W: FlushedSink, M: Medium>(
     requires bytes_room { length rooms.old.bytes.items ≡ 2097153 }
     requires identifiers_room { length rooms.old.identifiers.items ≡ 2097153 }
     requires blocks_room { length rooms.old.blocks.items ≡ 2097153 }
-    ensures ok { IfOk result (λ after. (size : ℕ) (d : Device)
+    ensures ok { IfOk result (λ after. (size : Capacity) (d : Device)
         → Rests M.device (λ last. Ends (TurnOver M.step M.tells size d) (ReadsBy R.step R.remaining)
         (SendsBy W.step W.flushes W.contents) first (over (Running (layers_of fleet.state)) fleet.medium) last
         reader.old reader.new writer.old writer.new) d after) }
-    ensures fault { IfErr result (λ e. (size : ℕ) (d : Device)
+    ensures fault { IfErr result (λ e. (size : Capacity) (d : Device)
         → Rests M.device (λ last. EndsBy e.0 (TurnOver M.step M.tells size d) (ReadsBy R.step R.remaining)
         (SendsBy W.step W.flushes W.contents) standing_over first (over (Running (layers_of fleet.state)) fleet.medium)
         last reader.old reader.new writer.old writer.new) d e.1) }

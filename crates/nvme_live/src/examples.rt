@@ -1,8 +1,8 @@
-//! Worked examples of the definitions: the contract of each function here is computed by the check.
+//! Worked examples of the definitions. Each is the contract of an empty function, proved by computing.
 
 ghost use Rattle.std.specs.Prelude.{◌≡◌, ◌++◌, ◌∷◌, [], None, Some, codes, true, false};
 ghost use Rattle.std.specs.declared.io.Error.{Error};
-ghost use Rattle.nvme_spec.specs.Configuration.{empty_configuration};
+ghost use Rattle.nvme_spec.specs.Configuration.{empty_configuration, script_capacity};
 ghost use Rattle.nvme_spec.specs.Examples.{namespace};
 ghost use Rattle.nvme_grammar.specs.declared.line.Line.TheVariants.{Attached, Namespace, Start};
 ghost use Rattle.nvme_live.specs.Keeping.{is_kept};
@@ -17,7 +17,7 @@ ghost use Rattle.script_text.specs.Streams.{Flushed, Writes, Wrote};
 use nvme_ns::BrokenRule;
 use nvme_spec::ConfigFault;
 
-/// A line feed ends a line, and the last line may lack it; behind the last line feed stands no line.
+/// A line feed ends a line, and the last line may lack it; no line follows the last line feed.
 pub fn lines_of_bytes()
     ensures ended { session_lines (codes "a" ++ 10 ∷ []) ≡ codes "a" ∷ [] }
     ensures open { session_lines (codes "a" ++ 10 ∷ codes "b") ≡ codes "a" ∷ codes "b" ∷ [] }
@@ -25,8 +25,8 @@ pub fn lines_of_bytes()
     ensures none { session_lines [] ≡ [] }
 {}
 
-/// An answer is sent by writes of all that is left of it and one flush. One that is not flushed, is flushed first, or is
-/// written twice is not.
+/// An answer is sent by writes of all that is left of it and one flush. It is not sent if it is not flushed, flushed
+/// first, or written twice.
 pub fn answers()
     ensures at_once { IsSent Writing Flushing [] (Sent (codes "ok"))
         (Wrote (Writes (codes "ok") (Some 2)) ∷ Flushed true ∷ []) }
@@ -43,15 +43,16 @@ pub fn answers()
         (Wrote (Writes (codes "ok") (Some 2)) ∷ Flushed false ∷ []) }
 {}
 
-/// What is kept of a session is neither a line that looks nor one that was answered by a refusal.
+/// The saved lines of a session: neither a query nor a line that was answered by a refusal.
 pub fn kept_lines()
     ensures event { is_kept (codes "up 1") (codes "up 1 ok") ≡ true }
     ensures looks { is_kept (codes "?attached") (codes "attached") ≡ false }
     ensures parses { is_kept (codes "?line up 1") (codes "line up 1") ≡ false }
-    ensures refused { is_kept (codes "pu 1") (codes "! line 1 word 1: there is no line 'pu'; did you mean 'up'?") ≡ false }
+    ensures refused { is_kept (codes "pu 1")
+        (codes "! line 1 word 1: there is no line 'pu'; did you mean 'up'?") ≡ false }
 {}
 
-/// What a line adds to what is set up, with its number.
+/// The configuration after a line, with its number.
 pub fn configurations()
     ensures attached { set_by empty_configuration (Attached 1 2)
         ≡ record { controllers = []; namespaces = []; attached = (1, 2) ∷ [] } }
@@ -60,25 +61,26 @@ pub fn configurations()
         ≡ record { of_controllers = []; of_namespaces = []; of_attachments = 7 ∷ [] } }
 {}
 
-/// Why `start` is refused: the fourth line of the session is at fault, and its second one is not.
+/// Why `start` is refused: the fourth line of the session is at fault, although its second one is correct.
 #[tactic(auto, unfolding(nvme_ns::specs::Refusals::refusal_of))]
 pub fn reasons()
     ensures size { numbered_reason
-        (with_line 4 (with_line 2 nothing_set_up (Namespace (namespace 1 64 true))) (Namespace (namespace 3 70000 true)))
-        1024 ≡ Some (4, BrokenRule.TooLarge 3 70000) }
+        (with_line 4 (with_line 2 nothing_set_up (Namespace (namespace 1 64 true)))
+        (Namespace (namespace 3 70000 true)))
+        (script_capacity 1024) ≡ Some (4, BrokenRule.TooLarge 3 70000 65536) }
     ensures identifiers { numbered_reason
         (with_line 4 (with_line 2 nothing_set_up (Namespace (namespace 1 64 true))) (Namespace (namespace 1 64 true)))
-        1024 ≡ Some (4, BrokenRule.RepeatedNsid 1) }
+        (script_capacity 1024) ≡ Some (4, BrokenRule.RepeatedNsid 1) }
 {}
 
-/// What a refused `start` is answered.
+/// The answer to a refused `start`.
 #[tactic(auto, unfolding(crate::proofs::OnLiterals::texts_on_literals))]
 pub fn refusals()
-    ensures reason { refused_text 6 ConfigFault.BadSize (Some (4, BrokenRule.TooLarge 3 70000))
-        ≡ codes "refused line 6: BadSize; line 4: namespace 3 has 70000 blocks, and 65536 is the most" }
+    ensures reason { refused_text 6 ConfigFault.BadSize (Some (4, BrokenRule.TooLarge 3 70000 65536))
+        ≡ codes "refused line 6: BadSize; line 4: namespace 3 has 70000 blocks; at most 65536 are allowed" }
 {}
 
-/// Names that looking lines show.
+/// Names in answers to queries.
 pub fn names()
     ensures bit { bit_text true ≡ codes "1" }
     ensures command { io_name 5 ≡ codes "compare" }

@@ -1,4 +1,4 @@
-//! A session: a subsystem and its hosts, line by line. Each line is answered by exactly one, before the next is read.
+//! A session: a subsystem and its hosts, line by line. Each line gets exactly one answer, before the next is read.
 #![tactic(auto)]
 
 mod conversation;

@@ -1,6 +1,7 @@
-//! The numbers of the lines that set up a configuration, and which of them is at fault where it is refused.
+//! The numbers of the lines of a configuration, and which of them is at fault if it is refused.
 
 ghost use Rattle.std.specs.Prelude.{◌≡◌, OnErr, OnOk};
+ghost use Rattle.nvme_spec.specs.Configuration.{capacity};
 ghost use Rattle.nvme_grammar.specs.Lent.{line_by_value};
 ghost use Rattle.nvme_live.specs.SetUps as spec;
 
@@ -18,7 +19,7 @@ const MOST_NAMESPACES: usize = 8;
 /// The most attachments.
 const MOST_ATTACHMENTS: usize = 128;
 
-/// The numbers of the lines of a session that set up a configuration, in the order of its lists.
+/// The numbers of a session's setup lines, in the order of the configuration's lists.
 #[derive(Drop)]
 pub struct LineNumbers {
     pub controllers: Vec<u64>,
@@ -27,7 +28,7 @@ pub struct LineNumbers {
 }
 
 impl LineNumbers {
-    /// Of no lines.
+    /// No numbers.
     pub(crate) fn new(alloc: Global) -> LineNumbers
         ensures { spec.numbers_in result ≡ spec.no_numbers }
     {
@@ -50,7 +51,7 @@ impl LineNumbers {
     }
 }
 
-/// Makes room for one more line of each kind than a configuration may have, so that no memory is taken for these.
+/// Takes memory for one more line of each kind than a configuration may have, so that these lines take none.
 pub(crate) fn make_room(config: &mut Config, numbers: &mut LineNumbers) -> Result<(), AllocError>
     ensures kept { spec.set_up_of config.new numbers.new ≡ spec.set_up_of config.old numbers.old }
     ensures room { OnOk result (spec.HasSetUpRoom config.new numbers.new) }
@@ -63,8 +64,8 @@ pub(crate) fn make_room(config: &mut Config, numbers: &mut LineNumbers) -> Resul
     numbers.attached.reserve(MOST_ATTACHMENTS + 1)
 }
 
-/// Adds to a configuration what a line sets up, and the line's number to those of its kind. Memory is taken only behind
-/// the room that was made; where it is refused nothing is added to either.
+/// Adds a setup line to a configuration, and its number to those of its kind. It takes memory only beyond what
+/// `make_room` has taken; if it is refused, nothing is added to either.
 pub fn set(
     number: u64,
     config: &mut Config,
@@ -99,16 +100,18 @@ pub fn set(
     Ok(())
 }
 
-/// Why a configuration is refused over a medium of so many blocks: the number of the line that is at fault, and the rule
-/// that it breaks.
+/// Why a configuration is refused over a medium of `medium_blocks` blocks, when a namespace may have at most
+/// `max_blocks` blocks: the number of the line at fault, and the rule that it breaks.
 pub fn numbered_reason(
     config: &Config,
     numbers: &LineNumbers,
-    blocks: u64,
+    max_blocks: u64,
+    medium_blocks: u64,
 ) -> Option<(u64, BrokenRule)>
-    ensures { result ≡ spec.numbered_reason (spec.set_up_of config.now numbers.now) blocks }
+    ensures { result
+        ≡ spec.numbered_reason (spec.set_up_of config.now numbers.now) (capacity max_blocks medium_blocks) }
 {
-    let reason = refusal_of(config, blocks)?;
+    let reason = refusal_of(config, max_blocks, medium_blocks)?;
     let number = numbers.of(reason.line)?;
     Some((number, reason.rule))
 }

@@ -1,7 +1,8 @@
-//! What a session begins with.
+//! The first script of a session, and the memory for its lines.
 
 ghost use Rattle.std.specs.Prelude.{◌≡◌, ℕ, IfErr, IfOk, Ok, length};
 ghost use Rattle.script_text.specs.Reading.{IsRead};
+ghost use Rattle.nvme_spec.specs.Configuration.{Capacity};
 ghost use Rattle.nvme_script.specs.Faults.{IsEarlyFault, IsReady, IsWrite, ReadsThen};
 ghost use Rattle.nvme_live.specs.SetUps.{no_numbers, numbers_in};
 
@@ -12,8 +13,7 @@ use nvme_program::ScriptFault;
 use script_text::{Source, read_text};
 use std::alloc::Global;
 
-/// What a session begins with: the script that is run first, what it says, the numbers of the lines that set up, and the
-/// room that lines work in.
+/// The start of a session: the first script, its meaning, the numbers of its setup lines, and the buffers for lines.
 #[derive(Drop)]
 pub(crate) struct Opening {
     pub text: Vec<u8>,
@@ -22,7 +22,7 @@ pub(crate) struct Opening {
     pub rooms: Rooms,
 }
 
-/// Reads the script that is run first, and makes the room that lines work in.
+/// Reads the first script, and makes the buffers for lines.
 pub(crate) fn prepare<S: Source>(alloc: Global, script: &mut S) -> Result<Opening, ScriptFault>
     ensures text { IfOk result (λ opening. IsRead S.step S.remaining script.old (Ok opening.text.items) script.new) }
     ensures script { IfOk result (λ opening. IsReady opening.text.items opening.script) }
@@ -31,7 +31,7 @@ pub(crate) fn prepare<S: Source>(alloc: Global, script: &mut S) -> Result<Openin
     ensures identifiers { IfOk result (λ opening. length opening.rooms.identifiers.items ≡ 2097153) }
     ensures blocks { IfOk result (λ opening. length opening.rooms.blocks.items ≡ 2097153) }
     ensures fault { IfErr result (λ fault. ReadsThen S.step S.remaining script.old script.new fault
-        (λ text. (size : ℕ) → IsEarlyFault fault text size)) }
+        (λ text. (size : Capacity) → IsEarlyFault fault text size)) }
     ensures early { IfErr result (λ fault. ¬ IsWrite fault) }
 {
     let text = read_text(alloc, script)?;

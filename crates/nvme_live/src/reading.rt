@@ -1,4 +1,4 @@
-//! Reading a session's lines, one at a time.
+//! Reads a session's lines, one at a time.
 
 ghost use Rattle.std.specs.Prelude.{◌≡◌, ◌≢◌, ◌≤◌, ◌<◌, ◌+◌, ◌++◌, ◌∷◌, [], IfOk, IfErr, OnOk, length, take, vec_len};
 ghost use Rattle.std.specs.List.{prefix_len};
@@ -10,26 +10,25 @@ use std::alloc::AllocError;
 use std::io;
 use std::io::{BufRead, ErrorKind};
 
-/// What a look at the input came to.
+/// The part of a line at the front of the input.
 #[derive(Clone, Copy, Debug, PartialEq, Eq)]
 pub(crate) enum Part {
-    /// The line goes on behind it.
+    /// The line continues after it.
     Middle,
-    /// It had the line's end.
+    /// It has the line's end.
     Last,
     /// There was nothing left.
     Nothing,
 }
 
-/// How many bytes of a line stand at the front of some bytes.
+/// The number of bytes of a line at the front of some bytes.
 fn line_len(bytes: &[u8]) -> usize
     ensures { result ≡ prefix_len is_of_line bytes.now }
 {
     bytes.iter().take_while(|byte| **byte != b'\n').count()
 }
 
-/// The part of a line that stands at the front of some bytes: what it is, how many bytes of the line it has, and how many
-/// bytes it is with its line feed.
+/// The part of a line at the front of some bytes: its kind, and its length without and with the line feed.
 fn cut(bytes: &[u8]) -> (Part, usize, usize)
     ensures { IsCut result.0 bytes.now result.1 result.2 }
 {
@@ -43,7 +42,7 @@ fn cut(bytes: &[u8]) -> (Part, usize, usize)
     }
 }
 
-/// Keeps bytes of a line, as far as one byte more than a line may have.
+/// Stores bytes of a line, up to one byte more than a line may have.
 fn keep(line: &mut Vec<u8>, bytes: &[u8]) -> Result<(), AllocError>
     requires { vec_len line.old ≤ 1048577 }
     ensures room { vec_len line.new ≤ 1048577 }
@@ -53,7 +52,7 @@ fn keep(line: &mut Vec<u8>, bytes: &[u8]) -> Result<(), AllocError>
     line.extend_from_slice(&bytes[..room])
 }
 
-/// Takes what the reader has at hand of a line.
+/// Takes the bytes of a line that the reader has at hand.
 fn take_part<R: BufRead>(reader: &mut R, line: &mut Vec<u8>) -> io::Result<Part>
     requires { vec_len line.old ≤ 1048577 }
     ensures room { vec_len line.new ≤ 1048577 }
@@ -73,14 +72,13 @@ fn take_part<R: BufRead>(reader: &mut R, line: &mut Vec<u8>) -> io::Result<Part>
     Ok(part)
 }
 
-/// Reads the next line, of which one byte more is kept than it may have, and the rest is passed over. The answer is
-/// false at the end of the input.
+/// Reads the next line. It stores at most one byte more than a line may have, and skips the rest. Returns false at the
+/// end of the input.
 ///
 /// # Errors
 ///
-/// Those of the reader; `Other` where the line has too many parts to count; and `OutOfMemory` where no memory is found
-/// for it, which does not come where the line's vector has room for 1,048,577 bytes. What the line has in front is taken
-/// then.
+/// Those of the reader; `Other` if the line has too many parts to count; and `OutOfMemory` if memory for it is refused,
+/// which does not occur if the line's vector has capacity for 1,048,577 bytes. The front of the line is taken then.
 pub fn read_line<R: BufRead>(reader: &mut R, line: &mut Vec<u8>) -> io::Result<bool>
     ensures line { IfOk result (λ some. ReadsLine some (R.remaining reader.old) (R.remaining reader.new)
         line.new.items) }

@@ -1,5 +1,4 @@
-//! The room that the lines of a session work in: no memory is taken once a session has begun, but for what is set up
-//! before `start`.
+//! The buffers for the lines of a session: after a session has begun, only setup lines may take memory.
 
 ghost use Rattle.std.specs.Prelude.{◌≡◌, IfOk, length};
 
@@ -7,17 +6,17 @@ use live_text::LINE_LIMIT;
 use script_text::Text;
 use std::alloc::{AllocError, Global};
 
-/// Half of the bytes of the longest script, and one more: what one of its lines can spell.
+/// Half of the bytes of the longest script, and one more: the most bytes in one of its lines.
 const MOST_SPELLED: usize = 2_097_153;
 
-/// The room that the lines of a session work in.
+/// The buffers for the lines of a session.
 #[derive(Drop)]
 pub struct Rooms {
     /// The data of a request, or the bytes of a store.
     pub bytes: Vec<u8>,
     /// A list of controller identifiers.
     pub identifiers: Vec<u16>,
-    /// Blocks that are looked at, and what a line spells whose fault is looked for.
+    /// Blocks of a query, or decoded bytes that a search for a line's fault needs.
     pub blocks: Vec<u8>,
     /// One answer.
     pub text: Text,
@@ -25,7 +24,7 @@ pub struct Rooms {
     pub line: Vec<u8>,
 }
 
-/// Room for the bytes that a line can spell.
+/// A buffer for the bytes of a line.
 fn room_for_bytes(alloc: Global) -> Result<Vec<u8>, AllocError>
     ensures { IfOk result (λ room. length room.items ≡ 2097153) }
 {
@@ -33,7 +32,7 @@ fn room_for_bytes(alloc: Global) -> Result<Vec<u8>, AllocError>
 }
 
 impl Rooms {
-    /// Room for every line.
+    /// Buffers that are long enough for every line.
     pub fn new(alloc: Global) -> Result<Rooms, AllocError>
         ensures bytes { IfOk result (λ rooms. length rooms.bytes.items ≡ 2097153) }
         ensures identifiers { IfOk result (λ rooms. length rooms.identifiers.items ≡ 2097153) }

@@ -1,4 +1,4 @@
-//! Answers on their way to the writer: each is written whole and flushed.
+//! Sends answers: each is written whole and flushed.
 
 ghost use Rattle.script_text.specs.Pages.{Adds, most_text};
 ghost use Rattle.nvme_live.specs.Saying.{LacksRoom, with_feed};
@@ -7,7 +7,7 @@ ghost use Rattle.nvme_live.specs.Streams.{Says, SendsBy};
 use nvme_program::ScriptFault;
 use script_text::{FlushedSink, NoRoom, Page, Spell, Text, write_whole};
 
-/// Writes bytes whole, and flushes them.
+/// Writes all bytes, and flushes them.
 pub fn send<W: FlushedSink>(writer: &mut W, bytes: &[u8]) -> Result<(), ScriptFault>
     ensures { Says (SendsBy W.step W.flushes W.contents) (λ _. ⊥) result bytes.now writer.old writer.new }
 {
@@ -20,7 +20,7 @@ pub fn send<W: FlushedSink>(writer: &mut W, bytes: &[u8]) -> Result<(), ScriptFa
     Ok(())
 }
 
-/// Puts a line behind what a text has.
+/// Appends a line to a text.
 fn put_line<T: Spell>(text: &mut Text, line: &T) -> Result<(), NoRoom>
     ensures { Adds most_text result text.old (with_feed (T.spelled line.now)) text.new }
 {
@@ -28,8 +28,7 @@ fn put_line<T: Spell>(text: &mut Text, line: &T) -> Result<(), NoRoom>
     text.put_str("\n")
 }
 
-/// Writes a line, by way of a text, and flushes it. Where the text has no room for it, nothing is written, and the fault
-/// is `NoMemory`.
+/// Writes a line and flushes it. If the line does not fit in `text`, it writes nothing, and the fault is `NoMemory`.
 pub fn say<W: FlushedSink, T: Spell>(
     writer: &mut W,
     text: &mut Text,

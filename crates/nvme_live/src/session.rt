@@ -1,9 +1,25 @@
-//! A session from the script that is run first to its end.
+//! A session, from its first script to its end.
 
-ghost use Rattle.std.specs.Prelude.{◌≡◌, ◌<◌, ◌-◌, ◌^◌, ℕ, List, Option, IfErr, IfOk, None, Ok, OnErr, OnOk, Some, length};
+ghost use Rattle.std.specs.Prelude.{
+  ◌≡◌,
+  ◌<◌,
+  ◌-◌,
+  ◌^◌,
+  ℕ,
+  List,
+  Option,
+  IfErr,
+  IfOk,
+  None,
+  Ok,
+  OnErr,
+  OnOk,
+  Some,
+  length,
+};
 ghost use Rattle.script_text.specs.Pages.{Adds};
 ghost use Rattle.script_text.specs.Reading.{IsRead};
-ghost use Rattle.nvme_spec.specs.Configuration.{first_config_fault};
+ghost use Rattle.nvme_spec.specs.Configuration.{capacity, config_fault, script_capacity};
 ghost use Rattle.nvme_ns.specs.Configured.{configuration};
 ghost use Rattle.nvme_fleet.specs.FleetStates.{layers_of, opening_layers};
 ghost use Rattle.nvme_script.specs.Faults.{IsReady, IsScript, events_in};
@@ -13,7 +29,17 @@ ghost use Rattle.nvme_script.specs.ScriptWrites.{StopsAtBy, TranscribesBy};
 ghost use Rattle.nvme_subsys.specs.OverMedium.{over};
 ghost use Rattle.nvme_live.specs.AnswerCalls.{TurnOver};
 ghost use Rattle.nvme_live.specs.Conversations.{Ends, EndsBy, FromStart, standing_over};
-ghost use Rattle.nvme_live.specs.Lives.{Fails, FailsBehindReading, FailsFirst, LivesOn, Rests, RunsTo, StartFails, StartRefused, surroundings};
+ghost use Rattle.nvme_live.specs.Lives.{
+  Fails,
+  FailsBehindReading,
+  FailsFirst,
+  LivesOn,
+  Rests,
+  RunsTo,
+  StartFails,
+  StartRefused,
+  surroundings,
+};
 ghost use Rattle.nvme_live.specs.Saying.{with_feed};
 ghost use Rattle.nvme_live.specs.SetUps.{HasSetUpRoom, set_up_of};
 ghost use Rattle.nvme_live.specs.Standings.{Setting, reason_text, refused_text, started_text};
@@ -28,7 +54,7 @@ use crate::saying::{say, send};
 use crate::streams::LineSource;
 use nvme_fleet::{Fleet, NewFault};
 use nvme_medium::Medium;
-use nvme_ns::BrokenRule;
+use nvme_ns::{BrokenRule, MAX_BLOCKS};
 use nvme_program::{ScriptFault, config_fault_name, sentence_of};
 use nvme_script::run_events;
 use nvme_spec::{Config, ConfigFault};
@@ -36,8 +62,8 @@ use script_text::{FlushedSink, NoRoom, Page, Source, Spell, Text, put_both, put_
 use std::alloc::Global;
 use std::io;
 
-/// The answer to `start`, which has this number, where the configuration is refused: the fault, and the line that is at
-/// fault, by its number, with the rule that it breaks.
+/// The answer to the `start` with this number if the configuration is refused: the fault, with the number of the line
+/// at fault and the rule that it breaks.
 #[derive(Clone, Copy)]
 struct RefusedText {
     number: u64,
@@ -55,7 +81,7 @@ impl Spell for RefusedText {
     }
 }
 
-/// Puts the line that is at fault, and what of it.
+/// Writes the number of the line at fault, and the rule that it breaks.
 fn put_reason<P: Page>(page: &mut P, reason: Option<(u64, BrokenRule)>) -> Result<(), NoRoom>
     ensures { Adds P.room result (P.written page.old) (reason_text reason) (P.written page.new) }
 {
@@ -67,7 +93,7 @@ fn put_reason<P: Page>(page: &mut P, reason: Option<(u64, BrokenRule)>) -> Resul
     sentence_of(rule).spell(page)
 }
 
-/// Answers `start`, whose fleet was refused for this reason. `NoMemory` is not answered.
+/// Answers a `start` whose fleet was refused for this reason; not if it was `NoMemory`.
 fn refuse_start<W: FlushedSink>(
     number: u64,
     fault: ConfigFault,
@@ -94,9 +120,10 @@ fn refuse_start<W: FlushedSink>(
     }
 }
 
-/// Opens the fleet that was set up before a session's `start`, and answers that line.
+/// Opens the fleet that the lines before `start` have set up, and answers `start`.
 fn start<W: FlushedSink, M: Medium>(
     alloc: Global,
+    max_blocks: u64,
     number: u64,
     config: &Config,
     numbers: &LineNumbers,
@@ -107,29 +134,32 @@ fn start<W: FlushedSink, M: Medium>(
     ensures opened { IfOk result (λ fleet. layers_of fleet.state
         ≡ opening_layers (configuration config.now) (M.device medium)) }
     ensures medium { IfOk result (λ fleet. fleet.medium ≡ medium) }
-    ensures accepted { IfOk result (λ _. first_config_fault (configuration config.now) (M.size medium) ≡ None) }
+    ensures accepted { IfOk result
+        (λ _. config_fault (configuration config.now) (capacity max_blocks (M.size medium)) ≡ None) }
     ensures said { IfOk result (λ _.
         SendsBy W.step W.flushes W.contents writer.old (Sent (with_feed started_text)) writer.new) }
-    ensures fault { IfErr result (λ e. StartFails (SendsBy W.step W.flushes W.contents) e.0 (M.size medium)
+    ensures fault { IfErr result
+        (λ e. StartFails (SendsBy W.step W.flushes W.contents) e.0 (capacity max_blocks (M.size medium))
         (M.device medium) number (set_up_of config.now numbers.now) writer.old writer.new) }
     ensures kept { IfErr result (λ e. e.1 ≡ medium) }
 {
-    match Fleet::new(alloc, config, medium) {
+    match Fleet::within(alloc, config, max_blocks, medium) {
         Ok(fleet) => match send(writer, b"started\n") {
             Ok(()) => Ok(fleet),
             Err(unsaid) => Err((unsaid, fleet.into_medium())),
         },
         Err(NewFault { fault, medium }) => {
-            let reason = numbered_reason(config, numbers, medium.blocks());
+            let reason = numbered_reason(config, numbers, max_blocks, medium.blocks());
             let answered = refuse_start(number, fault, reason, text, writer);
             Err((answered, medium))
         }
     }
 }
 
-/// Answers `start`, which has this number and was just read, and the lines behind it.
+/// Answers `start`, which was just read and has this number, and the lines after it.
 fn run_from_start<R: LineSource, W: FlushedSink, M: Medium>(
     alloc: Global,
+    max_blocks: u64,
     number: u64,
     config: &Config,
     numbers: &LineNumbers,
@@ -143,18 +173,20 @@ fn run_from_start<R: LineSource, W: FlushedSink, M: Medium>(
     requires identifiers_room { length rooms.old.identifiers.items ≡ 2097153 }
     requires blocks_room { length rooms.old.blocks.items ≡ 2097153 }
     ensures ok { IfOk result (λ after. FromStart (ReadsBy R.step R.remaining) reader.old (λ between.
-        Rests M.device (λ last. Ends (TurnOver M.step M.tells (M.size medium) (M.device medium))
+        Rests M.device (λ last. Ends (TurnOver M.step M.tells (capacity max_blocks (M.size medium)) (M.device medium))
         (ReadsBy R.step R.remaining) (SendsBy W.step W.flushes W.contents) number
         (over (Setting (set_up_of config.now numbers.now)) medium) last between reader.new writer.old writer.new)
         (M.device medium) after)) }
     ensures fault { IfErr result (λ e. FromStart (ReadsBy R.step R.remaining) reader.old (λ between.
-        Rests M.device (λ last. EndsBy e.0 (TurnOver M.step M.tells (M.size medium) (M.device medium))
+        Rests M.device
+        (λ last. EndsBy e.0 (TurnOver M.step M.tells (capacity max_blocks (M.size medium)) (M.device medium))
         (ReadsBy R.step R.remaining) (SendsBy W.step W.flushes W.contents) standing_over number
         (over (Setting (set_up_of config.now numbers.now)) medium) last between reader.new writer.old writer.new)
         (M.device medium) e.1)) }
 {
     let started = start(
         alloc,
+        max_blocks,
         number,
         config,
         numbers,
@@ -168,9 +200,10 @@ fn run_from_start<R: LineSource, W: FlushedSink, M: Medium>(
     }
 }
 
-/// A session whose script has no `start`: it has set nothing up.
+/// A session whose first script has no `start`, and so sets up nothing.
 fn run_from_setting<R: LineSource, W: FlushedSink, M: Medium>(
     alloc: Global,
+    max_blocks: u64,
     opening: &mut Opening,
     reader: &mut R,
     writer: &mut W,
@@ -181,12 +214,13 @@ fn run_from_setting<R: LineSource, W: FlushedSink, M: Medium>(
     requires blocks_room { length opening.old.rooms.blocks.items ≡ 2097153 }
     requires room { HasSetUpRoom opening.old.script.config opening.old.numbers }
     ensures ok { IfOk result (λ after.
-        Rests M.device (λ last. Ends (TurnOver M.step M.tells (M.size medium) (M.device medium))
+        Rests M.device (λ last. Ends (TurnOver M.step M.tells (capacity max_blocks (M.size medium)) (M.device medium))
         (ReadsBy R.step R.remaining) (SendsBy W.step W.flushes W.contents) 1
         (over (Setting (set_up_of opening.old.script.config opening.old.numbers)) medium) last
         reader.old reader.new writer.old writer.new) (M.device medium) after) }
     ensures fault { IfErr result (λ e.
-        Rests M.device (λ last. EndsBy e.0 (TurnOver M.step M.tells (M.size medium) (M.device medium))
+        Rests M.device
+        (λ last. EndsBy e.0 (TurnOver M.step M.tells (capacity max_blocks (M.size medium)) (M.device medium))
         (ReadsBy R.step R.remaining) (SendsBy W.step W.flushes W.contents) standing_over 1
         (over (Setting (set_up_of opening.old.script.config opening.old.numbers)) medium) last
         reader.old reader.new writer.old writer.new) (M.device medium) e.1) }
@@ -207,6 +241,7 @@ fn run_from_setting<R: LineSource, W: FlushedSink, M: Medium>(
         Err(fault) => Err((fault, medium)),
         Ok(Some(number)) => run_from_start(
             alloc,
+            max_blocks,
             number,
             &opening.script.config,
             &opening.numbers,
@@ -218,7 +253,7 @@ fn run_from_setting<R: LineSource, W: FlushedSink, M: Medium>(
     }
 }
 
-/// Lets the events of the script happen that is run first.
+/// Applies the events of the first script, and writes its transcript.
 fn run_events_of<W: FlushedSink, M: Medium>(
     opening: &mut Opening,
     fleet: &mut Fleet<M>,
@@ -248,9 +283,10 @@ fn run_events_of<W: FlushedSink, M: Medium>(
     )
 }
 
-/// Opens the fleet of a script that has started, and runs its events.
+/// Opens the fleet of a first script with a `start`, and runs its events.
 fn run_first<W: FlushedSink, M: Medium>(
     alloc: Global,
+    max_blocks: u64,
     start: usize,
     opening: &mut Opening,
     writer: &mut W,
@@ -263,13 +299,14 @@ fn run_first<W: FlushedSink, M: Medium>(
     ensures bytes { length opening.new.rooms.bytes.items ≡ 2097153 }
     ensures identifiers { length opening.new.rooms.identifiers.items ≡ 2097153 }
     ensures blocks { length opening.new.rooms.blocks.items ≡ length opening.old.rooms.blocks.items }
-    ensures ok { IfOk result (λ fleet. IsScript opening.old.text.items (M.size medium)
+    ensures ok { IfOk result (λ fleet. IsScript opening.old.text.items (capacity max_blocks (M.size medium))
         × RunsTo M.step M.tells M.device W.step W.flushes W.contents opening.old.text.items medium
         (layers_of fleet.state) fleet.medium writer.old writer.new) }
-    ensures fault { IfErr result (λ e. FailsFirst M.step M.tells M.device W.step W.flushes W.contents (M.size medium)
+    ensures fault { IfErr result
+        (λ e. FailsFirst M.step M.tells M.device W.step W.flushes W.contents (capacity max_blocks (M.size medium))
         opening.old.text.items e.0 medium e.1 writer.old writer.new) }
 {
-    let mut fleet = match Fleet::new(alloc, &opening.script.config, medium) {
+    let mut fleet = match Fleet::within(alloc, &opening.script.config, max_blocks, medium) {
         Ok(fleet) => fleet,
         Err(NewFault { fault, medium }) => return Err((refused_at(start, fault), medium)),
     };
@@ -292,29 +329,33 @@ fn refused_at(start: usize, fault: ConfigFault) -> ScriptFault
     }
 }
 
-/// A session: runs a script first, then answers each line of the input by one line, which is flushed before the next
-/// line is read.
+/// A session: runs a script first, then answers each line of the input by one line, which it flushes before it reads
+/// the next line.
 ///
-/// The lines that are read are those of the input, each by one call of it, and no other; what is written is the script's
-/// transcript, line by line and then flushed, and behind it the answer of each line, in their order: what `start` and
-/// the lines before it set up, what an event gives, or why a line is not carried out. A line that looks, and one that is
-/// not carried out, changes nothing. Each answer is written by writes of all that is left of it, and flushed once; behind
-/// a read, a write or a flush that fails no further call is made of input, output or medium.
+/// It reads each line of the input by one call, and makes no other call of the input. It writes the transcript of the
+/// script, line by line, and flushes it; then the answer to each line, in order: the part that a line up to `start` set
+/// up, the result of an event, the state that a query asks for, or why a line is refused. A query and a refused line
+/// change nothing. It writes each answer by writes of all that is left of it, and flushes once. After a read, a write
+/// or a flush that fails it calls neither input, output nor medium.
 ///
-/// Of the medium exactly the calls of the events that happened and of the looks at blocks are made, in the order of their
-/// lines, and no other.
+/// It makes exactly the calls of the medium that its events and its queries of blocks make, in the order of their
+/// lines.
 ///
 /// # Errors
 ///
-/// The faults of the script, which are those of `run_script`. Where it can't be read or is refused, nothing is read of
-/// the input, nothing is written, and no call is made of the medium; where its transcript can't be written, nothing is
-/// read of the input. Behind it: `Config` where the
-/// session's own `start` is refused, with the number of that line, and it is answered so; `Write` where a write or the
-/// flush of an answer failed, and what its line does was done; `Read` where the reading of the next line failed, or where
-/// there were 18,446,744,073,709,551,614 lines, and no more can be counted; `NoMemory` where no memory was found for the
-/// fleet of a configuration that has no fault, for a line before `start` of whose kind there are more already than a
-/// configuration may have, or for the text of an answer, of which nothing was written then. The medium is as after the
-/// last event.
+/// The faults of the script are those of `run_script`. If the script can't be read or is refused, the session reads no
+/// input, writes nothing, and does not call the medium; if the transcript can't be written, it reads no input. After
+/// the script:
+///
+/// - `Config`: the session's own `start` is refused. The fault has the number of that line, and the line was answered.
+/// - `Write`: a write or the flush of an answer failed. The line has had its effect.
+/// - `Read`: the next line could not be read; or 18,446,744,073,709,551,614 lines were read, and no more can be
+///   counted.
+/// - `NoMemory`: memory was refused for the fleet of a configuration without a fault; or for a line before `start`, of
+///   whose kind there are already more than a configuration may have; or for the text of an answer, which then was not
+///   written in part either.
+///
+/// The medium is as after the last event.
 pub fn run_live<S: Source, R: LineSource, W: FlushedSink, M: Medium>(
     alloc: Global,
     script: &mut S,
@@ -324,13 +365,37 @@ pub fn run_live<S: Source, R: LineSource, W: FlushedSink, M: Medium>(
 ) -> Result<M, (ScriptFault, M)>
     // The input was read to its end.
     ensures ok { IfOk result (λ after. (text : List ℕ) × IsRead S.step S.remaining script.old (Ok text) script.new
-        × LivesOn M.step M.tells M.device (ReadsBy R.step R.remaining) W.step W.flushes W.contents (M.size medium) text
+        × LivesOn M.step M.tells M.device (ReadsBy R.step R.remaining) W.step W.flushes W.contents
+        (script_capacity (M.size medium)) text
         (surroundings reader.old writer.old medium) (surroundings reader.new writer.new after)) }
-    // What each fault says of the script's reads, of the text that they gave, and of the session behind it. A script that
-    // can't be read, or is refused, leaves the input, the output and the medium uncalled.
+    // What each fault implies about the reads of the script, the text that they returned, and the session after it. If
+    // the script can't be read or is refused, neither input, output nor medium were called.
     ensures fault { IfErr result (λ e. FailsBehindReading S.step S.remaining script.old script.new e.0
         (surroundings reader.old writer.old medium) (surroundings reader.new writer.new e.1) (λ text.
-        Fails M.step M.tells M.device (ReadsBy R.step R.remaining) W.step W.flushes W.contents (M.size medium) text e.0
+        Fails M.step M.tells M.device (ReadsBy R.step R.remaining) W.step W.flushes W.contents
+        (script_capacity (M.size medium)) text e.0
+        (surroundings reader.old writer.old medium) (surroundings reader.new writer.new e.1))) }
+{
+    run_live_within(alloc, MAX_BLOCKS, script, reader, writer, medium)
+}
+
+/// Like `run_live`, but a namespace may have up to `max_blocks` blocks.
+pub(crate) fn run_live_within<S: Source, R: LineSource, W: FlushedSink, M: Medium>(
+    alloc: Global,
+    max_blocks: u64,
+    script: &mut S,
+    reader: &mut R,
+    writer: &mut W,
+    medium: M,
+) -> Result<M, (ScriptFault, M)>
+    ensures ok { IfOk result (λ after. (text : List ℕ) × IsRead S.step S.remaining script.old (Ok text) script.new
+        × LivesOn M.step M.tells M.device (ReadsBy R.step R.remaining) W.step W.flushes W.contents
+        (capacity max_blocks (M.size medium)) text
+        (surroundings reader.old writer.old medium) (surroundings reader.new writer.new after)) }
+    ensures fault { IfErr result (λ e. FailsBehindReading S.step S.remaining script.old script.new e.0
+        (surroundings reader.old writer.old medium) (surroundings reader.new writer.new e.1) (λ text.
+        Fails M.step M.tells M.device (ReadsBy R.step R.remaining) W.step W.flushes W.contents
+        (capacity max_blocks (M.size medium)) text e.0
         (surroundings reader.old writer.old medium) (surroundings reader.new writer.new e.1))) }
 {
     let mut opening = match prepare(alloc, script) {
@@ -341,9 +406,9 @@ pub fn run_live<S: Source, R: LineSource, W: FlushedSink, M: Medium>(
         if make_room(&mut opening.script.config, &mut opening.numbers).is_err() {
             return Err((ScriptFault::NoMemory, medium));
         }
-        return run_from_setting(alloc, &mut opening, reader, writer, medium);
+        return run_from_setting(alloc, max_blocks, &mut opening, reader, writer, medium);
     };
-    match run_first(alloc, start, &mut opening, writer, medium) {
+    match run_first(alloc, max_blocks, start, &mut opening, writer, medium) {
         Ok(fleet) => run_on(1, fleet, &mut opening.rooms, reader, writer),
         Err(fault) => Err(fault),
     }

@@ -1,4 +1,4 @@
-//! One line of a session before its fleet is there.
+//! One line of a session before its fleet is opened.
 
 ghost use Rattle.std.specs.Prelude.{◌≡◌, IfErr, IfOk, Err, Ok};
 ghost use Rattle.nvme_grammar.specs.Lent.{line_by_value};
@@ -20,7 +20,7 @@ use nvme_program::ScriptFault;
 use nvme_spec::Config;
 use script_text::{FlushedSink, Text};
 
-/// What a line before `start` came to.
+/// The result of a line before `start`.
 #[derive(Clone, Copy, Debug, PartialEq, Eq)]
 pub enum Settled {
     /// It was answered.
@@ -29,7 +29,7 @@ pub enum Settled {
     Started,
 }
 
-/// What was answered, or the fault for which it was not.
+/// The result of sending an answer.
 fn answered(said: Result<(), ScriptFault>) -> Result<Settled, ScriptFault>
     ensures ok { IfOk said (λ _. result ≡ Ok IsAnswered) }
     ensures fault { IfErr said (λ fault. result ≡ Err fault) }
@@ -40,7 +40,7 @@ fn answered(said: Result<(), ScriptFault>) -> Result<Settled, ScriptFault>
     }
 }
 
-/// Takes a line of the grammar, and answers it unless it is `start`.
+/// Adds a line to the configuration, and answers it; `start` is left to the caller.
 fn take<W: FlushedSink>(
     number: u64,
     line: Line<'_>,
@@ -62,7 +62,7 @@ fn take<W: FlushedSink>(
     }
 }
 
-/// Answers a line before the fleet is there, unless it is `start`.
+/// Answers a line before the fleet is opened; `start` is left to the caller.
 pub fn settle<W: FlushedSink>(
     number: u64,
     asked: Asked<'_>,

@@ -1,4 +1,4 @@
-//! What a looking line shows of a fleet.
+//! What a query shows of a fleet, unless it asks for blocks.
 
 ghost use Rattle.std.specs.Prelude.{◌≡◌, option_map};
 ghost use Rattle.nvme_fleet.specs.FleetStates.{layers_of};
@@ -12,7 +12,7 @@ use nvme_ctrl::Controller;
 use nvme_fleet::Fleet;
 use nvme_medium::Medium;
 
-/// The controller that a line looks at, if it names one that is there.
+/// The controller that a query names, if it exists.
 fn named<M: Medium>(looking: Looking, fleet: &Fleet<M>) -> Option<&Controller>
     ensures { option_map (λ c. c.now) result ≡ named_in fleet.now.state.subsystem looking }
 {
@@ -32,7 +32,7 @@ fn driver_of<M: Medium>(number: u64, cntlid: u16, fleet: &Fleet<M>) -> Shown<'_>
     }
 }
 
-/// What the line with this number shows, one that looks at anything but blocks.
+/// What the query with this number shows, unless it asks for blocks.
 pub fn shown_of<M: Medium>(number: u64, looking: Looking, fleet: &Fleet<M>) -> Shown<'_>
     ensures { shown_by result ≡ shown_text number looking (layers_of fleet.now.state) }
 {

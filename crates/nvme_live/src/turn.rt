@@ -1,4 +1,4 @@
-//! One line of a session, once its fleet is there.
+//! One line of a session after its fleet is opened.
 
 ghost use Rattle.std.specs.Prelude.{◌≡◌, length};
 ghost use Rattle.live_text.specs.Faults.{refusal, why_by_value};
@@ -6,7 +6,7 @@ ghost use Rattle.nvme_grammar.specs.Lent.{event_by_value};
 ghost use Rattle.nvme_fleet.specs.FleetStates.{layers_of};
 ghost use Rattle.live_text.specs.Asking.{asked_by_value};
 ghost use Rattle.nvme_subsys.specs.OverMedium.{over};
-ghost use Rattle.nvme_live.specs.Answers.{Answered, place_of};
+ghost use Rattle.nvme_live.specs.Answers.{Answered, block_of};
 ghost use Rattle.nvme_live.specs.AnswerCalls.{AnswersLineBy, HappensBy, ShowsBlocksBy, ShowsBy};
 ghost use Rattle.nvme_live.specs.Saying.{LacksRoom, with_feed};
 ghost use Rattle.nvme_live.specs.Standings.{MayLackRoom, Running};
@@ -24,7 +24,7 @@ use nvme_spec::Marks;
 use nvme_transcript::TranscriptLine;
 use script_text::{FlushedSink, Text};
 
-/// Answers a line that is not carried out.
+/// Answers a line that is refused.
 #[tactic(auto, using(live_text::proofs::ByValue::refusal_by_value))]
 pub fn refuse<W: FlushedSink>(
     number: u64,
@@ -38,7 +38,7 @@ pub fn refuse<W: FlushedSink>(
     say(writer, text, &Refusal { number, why })
 }
 
-/// Makes an event happen, and writes its line.
+/// Applies an event, and sends its answer.
 fn apply<W: FlushedSink, M: Medium>(
     event: FleetEvent<'_>,
     fleet: &mut Fleet<M>,
@@ -50,7 +50,7 @@ fn apply<W: FlushedSink, M: Medium>(
         (over (layers_of fleet.new.state) fleet.new.medium)) writer.old writer.new }
 {
     let mut marks = Marks::none();
-    let seen = fleet.apply_marking(event, &mut marks);
+    let seen = fleet.apply_into(event, &mut marks);
     let data = fleet.data();
     let shown = TranscriptLine {
         event,
@@ -60,10 +60,10 @@ fn apply<W: FlushedSink, M: Medium>(
     say(writer, text, &shown)
 }
 
-/// Answers a line that looks at blocks of a namespace.
+/// Answers a query of blocks of a namespace.
 fn look_at_blocks<W: FlushedSink, M: Medium>(
     number: u64,
-    place: (u32, u64, u32),
+    range: (u32, u64, u32),
     fleet: &mut Fleet<M>,
     blocks: &mut [u8],
     text: &mut Text,
@@ -71,20 +71,20 @@ fn look_at_blocks<W: FlushedSink, M: Medium>(
 ) -> Result<(), ScriptFault>
     requires { length blocks.old ≡ 2097153 }
     ensures { Answered (SendsBy W.step W.flushes W.contents) LacksRoom result (λ answer.
-        ShowsBlocksBy M.step (place_of place.0 place.1 place.2 (layers_of fleet.old.state)) M.tells number place.0
-        place.1 place.2 (over (layers_of fleet.old.state) fleet.old.medium) answer
+        ShowsBlocksBy M.step (block_of range.0 range.1 range.2 (layers_of fleet.old.state)) M.tells number range.0
+        range.1 range.2 (over (layers_of fleet.old.state) fleet.old.medium) answer
         (over (layers_of fleet.new.state) fleet.new.medium)) writer.old writer.new }
 {
-    let (nsid, slba, count) = place;
+    let (nsid, slba, count) = range;
     if count == 0 || count > 256 {
         return refuse(number, Why::OutsideNamespace, text, writer);
     }
     let bytes = &mut blocks[..512 * count as usize];
     let looked = fleet.read_blocks(nsid, slba, bytes);
-    say(writer, text, &blocks_shown(number, place, looked, bytes))
+    say(writer, text, &blocks_shown(number, range, looked, bytes))
 }
 
-/// Answers a looking line.
+/// Answers a query.
 fn look<W: FlushedSink, M: Medium>(
     number: u64,
     looking: Looking,
@@ -94,7 +94,8 @@ fn look<W: FlushedSink, M: Medium>(
     writer: &mut W,
 ) -> Result<(), ScriptFault>
     requires { length blocks.old ≡ 2097153 }
-    ensures { Answered (SendsBy W.step W.flushes W.contents) LacksRoom result (λ answer. ShowsBy M.step M.tells number looking
+    ensures { Answered (SendsBy W.step W.flushes W.contents) LacksRoom result
+        (λ answer. ShowsBy M.step M.tells number looking
         (over (layers_of fleet.old.state) fleet.old.medium) answer (over (layers_of fleet.new.state) fleet.new.medium))
         writer.old writer.new }
 {
@@ -106,7 +107,7 @@ fn look<W: FlushedSink, M: Medium>(
     }
 }
 
-/// Answers a line once the fleet is there.
+/// Answers a line after the fleet is opened.
 pub fn answer<W: FlushedSink, M: Medium>(
     number: u64,
     asked: Asked<'_>,

@@ -1,14 +1,55 @@
--- The calls of an execution are among those that its command needed.
-use Rattle.std.proofs.Common.{◌≡◌, ℕ, ◌+◌, ◌<◌, ◌==◌, not, Bool, true, false, List, [], ◌∷◌, Some, Ok, Result, refl, sym, ap, subst, ◌∙◌, arith}
+-- For `laws.rt`: the calls of an execution are among those that its command needs.
+use Rattle.std.proofs.Common.{
+  ◌≡◌,
+  ℕ,
+  ◌+◌,
+  ◌<◌,
+  ◌==◌,
+  not,
+  Bool,
+  true,
+  false,
+  List,
+  [],
+  ◌∷◌,
+  Some,
+  Ok,
+  Result,
+  refl,
+  sym,
+  ap,
+  subst,
+  ◌∙◌,
+  arith,
+}
 use Rattle.std.specs.Prelude.{if◌then◌else◌}
 use Rattle.std.proofs.lemmas.Bool.{and_parts, eqb-true}
 use Rattle.nvme_wire.specs.Submission.{opcode, nsid}
 use Rattle.nvme_spec.specs.declared.command.Command.{Command}
-use Rattle.nvme_spec.specs.declared.command.Command.TheVariants.{Flush, Write, Read, Compare, WriteZeroes, ReservationRegister, ReservationReport, ReservationAcquire, ReservationRelease}
+use Rattle.nvme_spec.specs.declared.command.Command.TheVariants.{
+  Flush,
+  Write,
+  Read,
+  Compare,
+  WriteZeroes,
+  ReservationRegister,
+  ReservationReport,
+  ReservationAcquire,
+  ReservationRelease,
+}
 use Rattle.nvme_spec.specs.declared.medium.MediumFault.{MediumFault}
 use Rattle.nvme_spec.specs.declared.verdict.Plan.{Plan}
 use Rattle.nvme_spec.specs.declared.verdict.Verdict.TheVariants.{Allowed}
-use Rattle.nvme_spec.specs.Commands.{altering, readers, is_one_of, block_count, starting_lba, command_of, plan_of, data_length_of}
+use Rattle.nvme_spec.specs.Commands.{
+  altering,
+  readers,
+  is_one_of,
+  block_count,
+  starting_lba,
+  command_of,
+  plan_of,
+  data_length_of,
+}
 use Rattle.nvme_spec.specs.DataRules.{pointer_rule}
 use Rattle.nvme_spec.specs.Execution.{start_of}
 use Rattle.nvme_spec.specs.IoData.{io_verdict, io_judgement, action_rule, reservation_outcome, data_of}
@@ -26,28 +67,41 @@ use Rattle.nvme_machine.specs.Subsystems.{Subsystem}
 use Rattle.nvme_machine.specs.Fencing.{IsAllowedAt}
 use Rattle.nvme_machine.specs.Examples.{OtherCallsAreNotNeeded}
 use Rattle.nvme_machine.specs.AllowedCalls.{IsCallOf}
-use Rattle.nvme_machine.specs.Needs.{need_by, need_in, need_of, need_of_one, need_of_its, need_at, IsNeeded, CallsAreNeeded}
+use Rattle.nvme_machine.specs.Needs.{
+  need_by,
+  need_in,
+  need_of,
+  need_of_one,
+  need_of_its,
+  need_at,
+  IsNeeded,
+  CallsAreNeeded,
+}
 use Rattle.nvme_machine.proofs.AllowedCalls.{all-mapped, calls_are_allowed}
 
 -- The rules on access pass if all rules do.
 
--- the rules behind them
+-- the rules after them
 abbrev data_rules : World → ℕ → List ℕ → List ℕ → List Rule
 data_rules w k window e =
-    pointer_rule (data_length_of (command_of (opcode e)) e) window e ∷ action_rule (reservation_outcome w k e (data_of window e)) ∷ []
+    pointer_rule (data_length_of (command_of (opcode e)) e) window e
+    ∷ action_rule (reservation_outcome w k e (data_of window e)) ∷ []
 
-pub front-passes : (w : World) (k : ℕ) (e : List ℕ) (marked : Bool) (window : List ℕ) → io_judgement w k e marked window ≡ Ok tt → first_failing (access_rules w k e marked) ≡ Ok tt
+pub front-passes : (w : World) (k : ℕ) (e : List ℕ) (marked : Bool) (window : List ℕ)
+    → io_judgement w k e marked window ≡ Ok tt → first_failing (access_rules w k e marked) ≡ Ok tt
 unfolding io_judgement
 front-passes w k e marked window h =
     (both (first_failing (access_rules w k e marked)) (first_failing (data_rules w k window e))
     (sym (first_failing-append (access_rules w k e marked) (data_rules w k window e)) ∙ h)).0
 
-allowed : (w : World) (k : ℕ) (e : List ℕ) (marked : Bool) (window : List ℕ) (plan : Plan) → io_verdict w k e marked window ≡ Allowed plan
+allowed : (w : World) (k : ℕ) (e : List ℕ) (marked : Bool) (window : List ℕ) (plan : Plan)
+    → io_verdict w k e marked window ≡ Allowed plan
     → verdict w k e marked ≡ Allowed (plan_of plan.kind e)
 unfolding verdict
 allowed w k e marked window plan h =
     let p = planned (io_judgement w k e marked window) (command_of (opcode e)) e plan h in
-    ap (λ j. conclusion j (command_of (opcode e)) e) (front-passes w k e marked window p.passed) ∙ ap (λ c. conclusion (Ok tt) c e) p.named
+    ap (λ j. conclusion j (command_of (opcode e)) e) (front-passes w k e marked window p.passed)
+    ∙ ap (λ c. conclusion (Ok tt) c e) p.named
 
 -- what an allowed command needs
 abbrev need_as : Command → World → List ℕ → Need
@@ -74,10 +128,13 @@ module _ (s : Subsystem) (k i n : ℕ) (commands : List Command) (is : IsAllowed
       ∙ ap (need_of_one s.world k) is.found
       ∙ need-of s.world k is.command is.controller.window is.allowed.plan (not-admin _ parts.0) is.allowed.allowed
 
-  start-is : (space : Namespace) → namespace_of s.world n ≡ Some space → start_of (namespace_of s.world (nsid is.command.entry)) ≡ space.first
-  start-is space there = ap (λ m. start_of (namespace_of s.world m)) (eqb-true (nsid is.command.entry) n parts.1) ∙ ap start_of there
+  start-is : (space : Namespace) → namespace_of s.world n ≡ Some space
+      → start_of (namespace_of s.world (nsid is.command.entry)) ≡ space.first
+  start-is space there =
+      ap (λ m. start_of (namespace_of s.world m)) (eqb-true (nsid is.command.entry) n parts.1) ∙ ap start_of there
 
-reads : (kind : Command) (e : List ℕ) (start nth b : ℕ) (answer : Result (List ℕ) MediumFault) → is_one_of (Some kind) readers ≡ true → nth < block_count e → b ≡ start + (starting_lba e + nth)
+reads : (kind : Command) (e : List ℕ) (start nth b : ℕ) (answer : Result (List ℕ) MediumFault)
+    → is_one_of (Some kind) readers ≡ true → nth < block_count e → b ≡ start + (starting_lba e + nth)
     → IsNeeded (need_by kind (start + (plan_of kind e).first) (plan_of kind e).blocks) (Reads b answer)
 reads Read e start nth b answer is below place = (omega (arith, place), omega (arith, place, below))
 reads Compare e start nth b answer is below place = (omega (arith, place), omega (arith, place, below))
@@ -89,7 +146,8 @@ reads ReservationReport e start nth b answer is below place = absurd (cc)
 reads ReservationAcquire e start nth b answer is below place = absurd (cc)
 reads ReservationRelease e start nth b answer is below place = absurd (cc)
 
-writes : (kind : Command) (e : List ℕ) (start nth b : ℕ) (bytes : List ℕ) (answer : MediumAnswer) → is_one_of (Some kind) altering ≡ true → nth < block_count e → b ≡ start + (starting_lba e + nth)
+writes : (kind : Command) (e : List ℕ) (start nth b : ℕ) (bytes : List ℕ) (answer : MediumAnswer)
+    → is_one_of (Some kind) altering ≡ true → nth < block_count e → b ≡ start + (starting_lba e + nth)
     → IsNeeded (need_by kind (start + (plan_of kind e).first) (plan_of kind e).blocks) (Writes b bytes answer)
 writes Write e start nth b bytes answer is below place = (omega (arith, place), omega (arith, place, below))
 writes WriteZeroes e start nth b bytes answer is below place = (omega (arith, place), omega (arith, place, below))
@@ -101,7 +159,8 @@ writes ReservationReport e start nth b bytes answer is below place = absurd (cc)
 writes ReservationAcquire e start nth b bytes answer is below place = absurd (cc)
 writes ReservationRelease e start nth b bytes answer is below place = absurd (cc)
 
-flushes : (kind : Command) (first blocks : ℕ) (answer : MediumAnswer) → is_one_of (Some kind) (Flush ∷ []) ≡ true → IsNeeded (need_by kind first blocks) (Flushes answer)
+flushes : (kind : Command) (first blocks : ℕ) (answer : MediumAnswer) → is_one_of (Some kind) (Flush ∷ []) ≡ true
+    → IsNeeded (need_by kind first blocks) (Flushes answer)
 flushes Flush first blocks answer is = tt
 flushes Write first blocks answer is = absurd (cc)
 flushes Read first blocks answer is = absurd (cc)
@@ -131,7 +190,8 @@ needed s k i (Flushes answer) (n, r) =
 
 pub calls_are_needed : CallsAreNeeded
 calls_are_needed tells old new k i seen calls h =
-    all-mapped (IsCallOf old k i) (IsNeeded (need_at old k i)) calls (needed old k i) (calls_are_allowed tells old new (Execute k i) seen calls h)
+    all-mapped (IsCallOf old k i) (IsNeeded (need_at old k i)) calls (needed old k i)
+    (calls_are_allowed tells old new (Execute k i) seen calls h)
 
 pub other_calls_are_not_needed : OtherCallsAreNotNeeded
 other_calls_are_not_needed = (

@@ -1,5 +1,25 @@
--- Hosts that may not read a namespace learn nothing of its bytes.
-use Rattle.std.proofs.Common.{◌≡◌, ℕ, ◌-◌, ◌^◌, ◌<◌, true, false, List, [], ◌∷◌, Option, None, Some, refl, sym, ap, subst, ◌∙◌}
+-- For laws on fenced reads, such as `fenced_hosts_read_nothing`: the bytes of a namespace have no effect on hosts that
+-- may not read it.
+use Rattle.std.proofs.Common.{
+  ◌≡◌,
+  ℕ,
+  ◌-◌,
+  ◌^◌,
+  ◌<◌,
+  true,
+  false,
+  List,
+  [],
+  ◌∷◌,
+  Option,
+  None,
+  Some,
+  refl,
+  sym,
+  ap,
+  subst,
+  ◌∙◌,
+}
 use Rattle.std.specs.Prelude.{slice_get}
 use Rattle.nvme_spec.specs.Blocks.{Device}
 use Rattle.nvme_spec.specs.Commands.{reserving}
@@ -11,7 +31,23 @@ use Rattle.nvme_machine.specs.declared.fetched.FetchedCommand.{FetchedCommand}
 use Rattle.nvme_machine.specs.declared.seen.Seen.{Seen}
 use Rattle.nvme_machine.specs.Controllers.{Controller, QueuePair, Reaction, queues_of, open_pair}
 use Rattle.nvme_machine.specs.CommandExecutions.{CommandExecution}
-use Rattle.nvme_machine.specs.Subsystems.{Subsystem, Step, Run, ReactsAs, Completes as Finishes, ExecutesAt, ExecutesOne, ExecutesOver, OfItsController, controller_at, with_controller, scene_of, after_completion, after_execution, after_power_cycle}
+use Rattle.nvme_machine.specs.Subsystems.{
+  Subsystem,
+  Step,
+  Run,
+  ReactsAs,
+  Completes as Finishes,
+  ExecutesAt,
+  ExecutesOne,
+  ExecutesOver,
+  OfItsController,
+  controller_at,
+  with_controller,
+  scene_of,
+  after_completion,
+  after_execution,
+  after_power_cycle,
+}
 use Rattle.nvme_machine.specs.Fencing.{RunWhere, Allows, Forgets, LeavesReservation}
 use Rattle.nvme_machine.specs.Secrecy.{over, DifferIn, MayNotRead, FencedReading, FencedReadingIsSame}
 use Rattle.nvme_machine.proofs.AdminWorlds.{HasSameExtents}
@@ -25,17 +61,23 @@ use Rattle.nvme_machine.proofs.SecretCommands.{Mirrors, command_execution_over, 
 abbrev MirrorsStep : ℕ → Subsystem → Subsystem → (Device → Type 0) → Type 0
 MirrorsStep n old new does = Mirrors n old.world new.device does
 
-whole : (n : ℕ) (old new : Subsystem) (d : Device) → DifferIn n old.world old.device d → new ≡ old → DifferIn n old.world new.device d
+whole : (n : ℕ) (old new : Subsystem) (d : Device) → DifferIn n old.world old.device d → new ≡ old
+    → DifferIn n old.world new.device d
 whole n old new d differ is = subst (λ x. DifferIn n old.world x d) (sym (ap (λ (s : Subsystem). s.device) is)) differ
 
-reacts : (o : Option Controller) (n : ℕ) (old new : Subsystem) (k : ℕ) (f : Controller → Reaction) (seen : Seen) (d : Device) → DifferIn n old.world old.device d → ReactsAs o old k f seen new
+reacts : (o : Option Controller) (n : ℕ) (old new : Subsystem) (k : ℕ) (f : Controller → Reaction) (seen : Seen)
+    (d : Device) → DifferIn n old.world old.device d → ReactsAs o old k f seen new
     → MirrorsStep n old new (λ x. ReactsAs o (over d old) k f seen (over x new))
 unfolding with_controller
 reacts None n old new k f seen d differ h = (d, (h.0, ap (over d) h.1), whole n old new d differ h.1)
-reacts (Some c) n old new k f seen d differ h =
-    (d, (h.0, ap (over d) h.1), subst (λ x. DifferIn n old.world x d) (sym (ap (λ (s : Subsystem). s.device) h.1)) differ)
+reacts (Some c) n old new k f seen d differ h = (
+  d,
+  (h.0, ap (over d) h.1),
+  subst (λ x. DifferIn n old.world x d) (sym (ap (λ (s : Subsystem). s.device) h.1)) differ,
+)
 
-completes-over : (n : ℕ) (old new : Subsystem) (k : ℕ) (c : Controller) (i : ℕ) (t : FetchedCommand) (p : QueuePair) (seen : Seen) (d : Device) → IsLaidOut old.world old.device.content
+completes-over : (n : ℕ) (old new : Subsystem) (k : ℕ) (c : Controller) (i : ℕ) (t : FetchedCommand) (p : QueuePair)
+    (seen : Seen) (d : Device) → IsLaidOut old.world old.device.content
     → DifferIn n old.world old.device d → may_read old.world k n ≡ false → Finishes true old k c i t p seen new
     → MirrorsStep n old new (λ x. Finishes true (over d old) k c i t p seen (over x new))
 unfolding after_execution after_completion
@@ -43,58 +85,88 @@ completes-over n old new k c i t p seen d laid differ fenced h =
     let a : CommandExecution = h.execution in
     let m = answers-over n (queues_of c) k t (scene_of old c) a d laid differ fenced h.comes_to in (
       m.0,
-      record { execution = command_execution_over m.0 a; comes_to = m.1; gives = h.gives; leaves = ap (over m.0) h.leaves ∙ same m.0 a },
+      record {
+        execution = command_execution_over m.0 a;
+        comes_to = m.1;
+        gives = h.gives;
+        leaves = ap (over m.0) h.leaves ∙ same m.0 a;
+      },
       subst (λ x. DifferIn n old.world x m.0) (sym (ap (λ (s : Subsystem). s.device) h.leaves)) m.2,
     )
   where
-    same : (x : Device) (a : CommandExecution) → over x (after_execution old k c i t p a) ≡ after_execution (over d old) k c i t p (command_execution_over x a)
+    same : (x : Device) (a : CommandExecution)
+        → over x (after_execution old k c i t p a) ≡ after_execution (over d old) k c i t p (command_execution_over x a)
     same x a = refl
 
-over-one : (o : Option QueuePair) (n : ℕ) (old new : Subsystem) (k : ℕ) (c : Controller) (i : ℕ) (t : FetchedCommand) (seen : Seen) (d : Device) → IsLaidOut old.world old.device.content
+over-one : (o : Option QueuePair) (n : ℕ) (old new : Subsystem) (k : ℕ) (c : Controller) (i : ℕ) (t : FetchedCommand)
+    (seen : Seen) (d : Device) → IsLaidOut old.world old.device.content
     → DifferIn n old.world old.device d → may_read old.world k n ≡ false → ExecutesOver o true old k c i t seen new
     → MirrorsStep n old new (λ x. ExecutesOver o true (over d old) k c i t seen (over x new))
 over-one None n old new k c i t seen d laid differ fenced h = (d, (h.0, ap (over d) h.1), whole n old new d differ h.1)
-over-one (Some p) n old new k c i t seen d laid differ fenced h = completes-over n old new k c i t p seen d laid differ fenced h
+over-one (Some p) n old new k c i t seen d laid differ fenced h =
+    completes-over n old new k c i t p seen d laid differ fenced h
 
-executes-one : (o : Option FetchedCommand) (n : ℕ) (old new : Subsystem) (k : ℕ) (c : Controller) (i : ℕ) (seen : Seen) (d : Device) → IsLaidOut old.world old.device.content
+executes-one : (o : Option FetchedCommand) (n : ℕ) (old new : Subsystem) (k : ℕ) (c : Controller) (i : ℕ) (seen : Seen)
+    (d : Device) → IsLaidOut old.world old.device.content
     → DifferIn n old.world old.device d → may_read old.world k n ≡ false → ExecutesOne o true old k c i seen new
     → MirrorsStep n old new (λ x. ExecutesOne o true (over d old) k c i seen (over x new))
-executes-one None n old new k c i seen d laid differ fenced h = (d, (h.0, ap (over d) h.1), whole n old new d differ h.1)
-executes-one (Some t) n old new k c i seen d laid differ fenced h = over-one (open_pair c t) n old new k c i t seen d laid differ fenced h
+executes-one None n old new k c i seen d laid differ fenced h =
+    (d, (h.0, ap (over d) h.1), whole n old new d differ h.1)
+executes-one (Some t) n old new k c i seen d laid differ fenced h =
+    over-one (open_pair c t) n old new k c i t seen d laid differ fenced h
 
-executes : (o : Option Controller) (n : ℕ) (old new : Subsystem) (k i : ℕ) (seen : Seen) (d : Device) → IsLaidOut old.world old.device.content
+executes : (o : Option Controller) (n : ℕ) (old new : Subsystem) (k i : ℕ) (seen : Seen) (d : Device)
+    → IsLaidOut old.world old.device.content
     → DifferIn n old.world old.device d → may_read old.world k n ≡ false → ExecutesAt o true old k i seen new
     → MirrorsStep n old new (λ x. ExecutesAt o true (over d old) k i seen (over x new))
 executes None n old new k i seen d laid differ fenced h = (d, (h.0, ap (over d) h.1), whole n old new d differ h.1)
-executes (Some c) n old new k i seen d laid differ fenced h = executes-one (slice_get c.fetched i) n old new k c i seen d laid differ fenced h
+executes (Some c) n old new k i seen d laid differ fenced h =
+    executes-one (slice_get c.fetched i) n old new k c i seen d laid differ fenced h
 
-cycles : (n : ℕ) (old new : Subsystem) (seen : Seen) (d : Device) → DifferIn n old.world old.device d → Step true old PowerCycle seen new
+cycles : (n : ℕ) (old new : Subsystem) (seen : Seen) (d : Device) → DifferIn n old.world old.device d
+    → Step true old PowerCycle seen new
     → MirrorsStep n old new (λ x. Step true (over d old) PowerCycle seen (over x new))
 unfolding after_power_cycle
-cycles n old new seen d differ h =
-    (d, (h.0, ap (over d) h.1), subst (λ x. DifferIn n old.world x d) (sym (ap (λ (s : Subsystem). s.device) h.1)) differ)
+cycles n old new seen d differ h = (
+  d,
+  (h.0, ap (over d) h.1),
+  subst (λ x. DifferIn n old.world x d) (sym (ap (λ (s : Subsystem). s.device) h.1)) differ,
+)
 
-pub step-over : (n : ℕ) (old new : Subsystem) (event : Event) (seen : Seen) (d : Device) → IsLaidOut old.world old.device.content → DifferIn n old.world old.device d
+pub step-over : (n : ℕ) (old new : Subsystem) (event : Event) (seen : Seen) (d : Device)
+    → IsLaidOut old.world old.device.content → DifferIn n old.world old.device d
     → OfItsController (λ k. may_read old.world k n ≡ false) event → Step true old event seen new
     → MirrorsStep n old new (λ x. Step true (over d old) event seen (over x new))
 unfolding controller_at
-step-over n old new (Store k address bytes) seen d laid differ fenced h = reacts (controller_at old k) n old new k _ seen d differ h
-step-over n old new (Write32 k offset v) seen d laid differ fenced h = reacts (controller_at old k) n old new k _ seen d differ h
-step-over n old new (Read32 k offset) seen d laid differ fenced h = reacts (controller_at old k) n old new k _ seen d differ h
+step-over n old new (Store k address bytes) seen d laid differ fenced h =
+    reacts (controller_at old k) n old new k _ seen d differ h
+step-over n old new (Write32 k offset v) seen d laid differ fenced h =
+    reacts (controller_at old k) n old new k _ seen d differ h
+step-over n old new (Read32 k offset) seen d laid differ fenced h =
+    reacts (controller_at old k) n old new k _ seen d differ h
 step-over n old new (Fetch k q) seen d laid differ fenced h = reacts (controller_at old k) n old new k _ seen d differ h
-step-over n old new (Execute k i) seen d laid differ fenced h = executes (controller_at old k) n old new k i seen d laid differ fenced h
+step-over n old new (Execute k i) seen d laid differ fenced h =
+    executes (controller_at old k) n old new k i seen d laid differ fenced h
 step-over n old new PowerCycle seen d laid differ fenced h = cycles n old new seen d differ h
 
 -- Runs.
 
-reserves-over : (n : ℕ) (s : Subsystem) (d : Device) (event : Event) → Allows reserving (over d s) event n → Allows reserving s event n
+reserves-over : (n : ℕ) (s : Subsystem) (d : Device) (event : Event) → Allows reserving (over d s) event n
+    → Allows reserving s event n
 unfolding controller_at
 reserves-over n s d (Store k address bytes) h = h
 reserves-over n s d (Write32 k offset v) h = h
 reserves-over n s d (Read32 k offset) h = h
 reserves-over n s d (Fetch k q) h = h
 reserves-over n s d (Execute k i) h =
-    record { controller = h.controller; command = h.command; at = h.at; found = h.found; named = h.named; allowed = h.allowed }
+    record {
+      controller = h.controller;
+      command = h.command;
+      at = h.at;
+      found = h.found;
+      named = h.named;
+      allowed = h.allowed;
+    }
 reserves-over n s d PowerCycle h = h
 
 forgets-over : (n : ℕ) (s : Subsystem) (d : Device) (event : Event) → Forgets (over d s) event n → Forgets s event n
@@ -105,20 +177,24 @@ forgets-over n s d (Fetch k q) h = h
 forgets-over n s d (Execute k i) h = h
 forgets-over n s d PowerCycle h = h
 
-leaves-over : (n : ℕ) (s : Subsystem) (d : Device) (event : Event) → LeavesReservation n s event → LeavesReservation n (over d s) event
+leaves-over : (n : ℕ) (s : Subsystem) (d : Device) (event : Event)
+    → LeavesReservation n s event → LeavesReservation n (over d s) event
 leaves-over n s d event quiet = (λ h. quiet.0 (reserves-over n s d event h), λ h. quiet.1 (forgets-over n s d event h))
 
--- the extents are the same after a step
+-- `DifferIn` depends only on the extents of the world
 pub differ-still : (n : ℕ) (v w : World) (d e : Device) → HasSameExtents v w → DifferIn n v d e → DifferIn n w d e
 differ-still n v w d e same differ = record {
   failures = differ.failures;
   size = differ.size;
   others = λ m other.
-      ap (λ x. bytes_at e.content x) (same.extents m) ∙ differ.others m other ∙ sym (ap (λ x. bytes_at d.content x) (same.extents m));
+      ap (λ x. bytes_at e.content x) (same.extents m) ∙ differ.others m other
+      ∙ sym (ap (λ x. bytes_at d.content x) (same.extents m));
 }
 
-still : (old new : World) (n : ℕ) (events : List Event) → ((k : ℕ) → may_read new k n ≡ may_read old k n) → MayNotRead old n events → MayNotRead new n events
-still old new n events same h = of-each (λ k. may_read old k n ≡ false) (λ k. may_read new k n ≡ false) (λ k fenced. same k ∙ fenced) events h
+still : (old new : World) (n : ℕ) (events : List Event) → ((k : ℕ) → may_read new k n ≡ may_read old k n)
+    → MayNotRead old n events → MayNotRead new n events
+still old new n events same h =
+    of-each (λ k. may_read old k n ≡ false) (λ k. may_read new k n ≡ false) (λ k fenced. same k ∙ fenced) events h
 
 pub fenced_reading : FencedReading
 fenced_reading old new d [] [] n laid differ run fenced =
@@ -129,12 +205,14 @@ fenced_reading old new d (event ∷ events) (x ∷ later) n laid differ run fenc
     let mid : Subsystem = run.0 in
     let one = step-over n old mid event x d laid differ fenced.0 run.2 in
     let same = step-extents true old mid event x run.2 in
-    let rest = fenced_reading mid new one.0 events later n (layout_stays old mid event x laid run.2) (differ-still n old.world mid.world mid.device one.0 same one.2) run.3
+    let rest = fenced_reading mid new one.0 events later n (layout_stays old mid event x laid run.2)
+    (differ-still n old.world mid.world mid.device one.0 same one.2) run.3
     (still old.world mid.world n events (reading-stays true old mid event x n run.2 run.1) fenced.1) in
     (rest.0, (over one.0 mid, leaves-over n old d event run.1, one.1, rest.1), rest.2)
 
--- A run where something else holds too is a run.
-plain : (P : Subsystem → Event → Type 0) (old new : Subsystem) (events : List Event) (seen : List Seen) → RunWhere P old events seen new → Run true old events seen new
+-- each `RunWhere` is a `Run`
+plain : (P : Subsystem → Event → Type 0) (old new : Subsystem) (events : List Event) (seen : List Seen)
+    → RunWhere P old events seen new → Run true old events seen new
 plain P old new [] [] run = run
 plain P old new [] (x ∷ later) run = run
 plain P old new (event ∷ events) [] run = run
@@ -147,7 +225,9 @@ fenced_reading_is_same old new other d events seen others n laid differ run fenc
     let r-differ = r.2 in
     let start : d.failures ≡ old.device.failures = differ.failures in
     let low : d.failures < 2 ^ 64 - 1 = subst (λ m. m < 2 ^ 64 - 1) (sym start) below in
-    let one = run_is_unique (over d old) (over last new) events seen (plain (LeavesReservation n) (over d old) (over last new) events seen r.1) (r-differ.failures ∙ calm ∙ sym start) low in
+    let one = run_is_unique
+    (over d old) (over last new) events seen (plain (LeavesReservation n) (over d old) (over last new) events seen r.1)
+    (r-differ.failures ∙ calm ∙ sym start) low in
     let two = run_is_unique (over d old) other events others second (quiet ∙ sym start) low in
     let same : other ≡ over last new = two.1 ∙ sym one.1 in
     let device : other.device ≡ last = ap (λ (s : Subsystem). s.device) same in (

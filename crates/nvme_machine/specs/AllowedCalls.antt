@@ -1,6 +1,28 @@
--- What holds of the calls that events make of the medium, whatever the medium does and whether or not it tells: each
--- call is that of a command that all rules let pass, on blocks of its namespace; and what is fenced calls nothing.
-use Rattle.std.specs.Prelude.{◌≡◌, ◌≢◌, ◌⊎◌, ◌<◌, ◌≤◌, ℕ, ◌+◌, ◌*◌, ◌==◌, Bool, true, false, List, [], ◌∷◌, ◌++◌, Some, Ok, replicate, slice_get}
+-- Statements of laws on the calls that events make of the medium, for any behaviour of the medium and whether or not it
+-- reveals its content: each call is made for a command that all rules let pass, on blocks of its namespace; and fenced
+-- commands make no calls.
+use Rattle.std.specs.Prelude.{
+  ◌≡◌,
+  ◌≢◌,
+  ◌⊎◌,
+  ◌<◌,
+  ◌≤◌,
+  ℕ,
+  ◌+◌,
+  ◌*◌,
+  ◌==◌,
+  Bool,
+  true,
+  false,
+  List,
+  [],
+  ◌∷◌,
+  ◌++◌,
+  Some,
+  Ok,
+  replicate,
+  slice_get,
+}
 use Rattle.std.specs.List.{AllByRecursion}
 use Rattle.nvme_spec.specs.declared.command.Command.{Command}
 use Rattle.nvme_spec.specs.declared.command.Command.TheVariants.{Flush, Write, WriteZeroes}
@@ -33,8 +55,8 @@ written_by Write memory e = data_of memory e
 written_by WriteZeroes memory e = replicate (512 * block_count e) 0
 written_by command memory e = []
 
--- The i-th command of controller k is an I/O command on namespace n, one of these, that all rules let pass now; and
--- block b of the medium is one of those that it names, and belongs to that namespace.
+-- The i-th command of controller k is one of these I/O commands on namespace n, and all rules let it pass now; and
+-- block b of the medium is one that it names, and belongs to that namespace.
 pub record NamesBlock (commands : List Command) (s : Subsystem) (k i n b : ℕ) : Type 0 where
   pub is : IsAllowedAt commands s k i n
   pub space : Namespace
@@ -61,7 +83,7 @@ pub record FlushesFor (s : Subsystem) (k i n : ℕ) : Type 0 where
   pub is : IsAllowedAt (Flush ∷ []) s k i n
   pub permitted : may_write s.world k n ≡ true
 
--- what a call is to be, where the i-th command of controller k makes it
+-- what a call must be, if the i-th command of controller k makes it
 abbrev pub IsCallOf : Subsystem → ℕ → ℕ → MediumCall → Type 0
 IsCallOf s k i (Writes b bytes answer) = (n : ℕ) × WritesBlock s k i n b bytes
 IsCallOf s k i (Reads b answer) = (n : ℕ) × ReadsBlock s k i n b
@@ -76,15 +98,15 @@ MayCall s (Read32 k offset) call = ⊥
 MayCall s (Fetch k q) call = ⊥
 MayCall s PowerCycle call = ⊥
 
--- A block is written only by a Write or Write Zeroes that all rules let pass, on a namespace that the block belongs to
--- and that the reservation lets its host write, with that command's bytes; it is read only by such a Read or Compare,
+-- A block is written only by a Write or Write Zeroes that all rules let pass, on a namespace that has the block and
+-- that the reservation lets its host write, with that command's bytes. A block is read only by such a Read or Compare,
 -- and the medium is flushed only by such a Flush.
 abbrev pub CallsAreAllowed : Type 0
 CallsAreAllowed =
     (tells : Bool) → (old new : Subsystem) → (event : Event) → (seen : Seen) → (calls : List MediumCall)
     → AreCallsOfStep tells old event seen new calls → AllByRecursion (MayCall old event) calls
 
--- A call comes from one of the events, and is what it may call in the state that it finds.
+-- A call is made by one of the events, and is allowed in the state before that event.
 pub record ComesFrom (tells : Bool) (old : Subsystem) (events : List Event) (call : MediumCall) : Type 0 where
   pub front : List Event
   pub event : Event
@@ -95,7 +117,7 @@ pub record ComesFrom (tells : Bool) (old : Subsystem) (events : List Event) (cal
   pub reached : Run tells old front given now
   pub may : MayCall now event call
 
--- So it is over every run.
+-- Each call in every run is allowed.
 abbrev pub CallsOfRunsAreAllowed : Type 0
 CallsOfRunsAreAllowed =
     (tells : Bool) → (old new : Subsystem) → (events : List Event) → (seen : List Seen) → (calls : List MediumCall)
@@ -107,8 +129,8 @@ IsReading (Reads b answer) = Unit {0}
 IsReading (Writes b bytes answer) = ⊥
 IsReading (Flushes answer) = ⊥
 
--- A command on a namespace that its reservation does not let the host write makes no write call and no flush call; and
--- where it does not let it read either, no call.
+-- If the reservation of a namespace does not let a host write, the host's commands on it make no write or flush call.
+-- If it does not let the host read either, they make no call.
 abbrev pub FencedCommandsCallNothing : Type 0
 FencedCommandsCallNothing =
     (tells : Bool) → (old new : Subsystem) → (k i n : ℕ) → (c : Controller) → (t : FetchedCommand) → (seen : Seen)
@@ -128,7 +150,7 @@ KeepsOff x (Writes b bytes answer) = (b < x.first) ⊎ (x.first + x.blocks ≤ b
 KeepsOff x (Reads b answer) = Unit {0}
 KeepsOff x (Flushes answer) = Unit {0}
 
--- a run with its calls, in which each event is so in the state that it finds
+-- a run with its calls, in which each event has a property in the state before it
 abbrev pub CallsWhere : (Subsystem → Event → Type 0) → Bool → Subsystem → List Event → List Seen → Subsystem
     → List MediumCall → Type 0
 CallsWhere P tells old [] [] new calls = (new ≡ old) × (calls ≡ [])
@@ -139,9 +161,9 @@ CallsWhere P tells old (event ∷ events) (seen ∷ later) new calls =
 CallsWhere P tells old [] (seen ∷ later) new calls = ⊥
 CallsWhere P tells old (event ∷ events) [] new calls = ⊥
 
--- Fencing holds of the calls: while no reservation command on a namespace is executed but denied ones, and power is not
--- lost or the reservation persists, no call of hosts that may not write it writes any of its blocks, whatever they
--- store, write, fetch, execute and reset, in any order.
+-- Fencing holds for calls. Suppose that every reservation command on a namespace is denied, and power is not lost or
+-- the reservation persists. Then in any list of events of hosts that may not write the namespace, no call writes any of
+-- its blocks.
 abbrev pub FencedHostsWriteNoBlock : Type 0
 FencedHostsWriteNoBlock =
     (tells : Bool) → (old new : Subsystem) → (events : List Event) → (seen : List Seen) → (calls : List MediumCall)
@@ -150,7 +172,7 @@ FencedHostsWriteNoBlock =
     → AllByRecursion (OfItsController (λ k. may_write old.world k n ≡ false)) events
     → AllByRecursion (KeepsOff x) calls
 
--- A Flush that all rules let pass is one flush call, and its answer is that of the call: success where it passed.
+-- A Flush that all rules let pass is one flush call, and its status is that of the call.
 pub record IsOneFlush (outcome : Outcome) (calls : List MediumCall) : Type 0 where
   pub answer : MediumAnswer
   pub alone : calls ≡ Flushes answer ∷ []
@@ -165,7 +187,7 @@ FlushReachesTheMedium =
     → (t.queue == 0) ≡ false → io_verdict old.world k t.entry t.marked c.window ≡ Allowed plan → plan.kind ≡ Flush
     → IsOneFlush outcome calls
 
--- The calls of the events before some event come before its own, and those of the events behind it behind them.
+-- The calls of the events before an event come before its own, and those of the later events after them.
 pub record IsCutAt (tells : Bool) (old : Subsystem) (front : List Event) (event : Event) (later : List Event)
     (seen : List Seen) (new : Subsystem) (calls : List MediumCall) : Type 0 where
   pub given : List Seen

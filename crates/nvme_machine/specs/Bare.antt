@@ -1,4 +1,4 @@
--- What events give, and what they give but for what an execution marks.
+-- The results of events, with and without the marks of an execution, for contracts that write marks to a caller's list.
 use Rattle.nvme_spec.specs.declared.outcome.Marks.{Marks}
 use Rattle.nvme_spec.specs.declared.outcome.Outcome.{Outcome}
 use Rattle.nvme_spec.specs.Execution.{no_marks}
@@ -12,17 +12,17 @@ use Rattle.nvme_machine.specs.declared.seen.Executed.TheVariants as whole_execut
 use Rattle.nvme_machine.specs.declared.seen.Seen.{Seen}
 use Rattle.nvme_machine.specs.declared.seen.Seen.TheVariants as whole
 
--- what an execution answers, with what it marks
+-- the outcome of an execution with its marks
 abbrev pub outcome_with : Marks → BareOutcome → Outcome
 outcome_with m o = record { status = o.status; dw0 = o.dw0; rule = o.rule; marks = m }
 
--- what came of an execution, with what it marks
+-- the result of an execution with its marks
 abbrev pub executed_with : Marks → BareExecuted → Executed
 executed_with m (executed.Posted o) = whole_executed.Posted (outcome_with m o)
 executed_with m executed.NoSuch = whole_executed.NoSuch
 executed_with m executed.CqFull = whole_executed.CqFull
 
--- what an event gave, with what it marks
+-- the result of an event with its marks
 abbrev pub seen_with : Marks → BareSeen → Seen
 seen_with m seen.Stored = whole.Stored
 seen_with m seen.Outside = whole.Outside
@@ -33,17 +33,17 @@ seen_with m (seen.Executed x) = whole.Executed (executed_with m x)
 seen_with m seen.Cycled = whole.Cycled
 seen_with m seen.NoController = whole.NoController
 
--- what is marked: what an execution that posted says, and nothing by any other
+-- the marks after an execution: its own if it posted a completion, else none
 abbrev pub marks_by_executed : BareExecuted → Marks → Marks
 marks_by_executed (executed.Posted o) m = m
 marks_by_executed other m = no_marks
 
--- the same of an event: none marks that is no execution
+-- the marks of an event: only an execution has some
 abbrev pub marks_by : BareSeen → Marks → Marks
 marks_by (seen.Executed x) m = marks_by_executed x m
 marks_by other m = no_marks
 
--- what an execution came to, or an event gave, that marks nothing
+-- the result of an execution, or of an event, that marks nothing
 abbrev pub executed_of : BareExecuted → Executed
 executed_of x = executed_with no_marks x
 

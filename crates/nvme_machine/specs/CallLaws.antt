@@ -1,7 +1,25 @@
--- What holds of the calls of every event and every run: there are some; over a medium that tells its content and none
--- of whose calls fails they are one list, which leaves the content that the run leaves; and a Flush that is answered
+-- Statements of the law `calls_leave_the_content`: every event and every run has calls; over a medium that reveals its
+-- content, without faults, they are one list, which leaves the content of the run; and a Flush that is answered
 -- Successful Completion was one flush.
-use Rattle.std.specs.Prelude.{◌≡◌, ◌≢◌, ◌<◌, ◌-◌, ◌^◌, ◌==◌, ℕ, Bool, true, false, List, [], ◌∷◌, Some, Ok, Err, slice_get}
+use Rattle.std.specs.Prelude.{
+  ◌≡◌,
+  ◌≢◌,
+  ◌<◌,
+  ◌-◌,
+  ◌^◌,
+  ◌==◌,
+  ℕ,
+  Bool,
+  true,
+  false,
+  List,
+  [],
+  ◌∷◌,
+  Some,
+  Ok,
+  Err,
+  slice_get,
+}
 use Rattle.nvme_wire.specs.Submission.{opcode}
 use Rattle.nvme_spec.specs.declared.command.Command.TheVariants.{Flush}
 use Rattle.nvme_spec.specs.declared.outcome.Outcome.{Outcome}
@@ -25,7 +43,7 @@ use Rattle.nvme_machine.specs.FaultFreeCalls.{event_calls, fault_free_calls}
 use Rattle.nvme_machine.specs.Runs.{Waits}
 use Rattle.nvme_machine.specs.Subsystems.{Subsystem, Step, Run, controller_at, scene_of}
 
--- Whatever the medium does, and whether or not it tells: each step has calls, and so has each run.
+-- For any behaviour of the medium, and whether or not it reveals its content, each step and each run has calls.
 abbrev pub StepsHaveCalls : Type 0
 StepsHaveCalls =
     (tells : Bool) → (old new : Subsystem) → (event : Event) → (seen : Seen) → Step tells old event seen new
@@ -36,8 +54,7 @@ RunsHaveCalls =
     (tells : Bool) → (old new : Subsystem) → (events : List Event) → (seen : List Seen)
     → Run tells old events seen new → (calls : List MediumCall) × AreCallsOfRun tells old events seen new calls
 
--- Over a medium that tells its content and none of whose calls fails, whatever its content is, there is one list of
--- calls of a step alone.
+-- Over a medium that reveals its content and has no faults, a step has only one list of calls, for any content.
 abbrev pub StepCallsAreUnique : Type 0
 StepCallsAreUnique =
     (tells : Bool) → (old new other : Subsystem) → (event : Event) → (seen others : Seen)
@@ -45,7 +62,7 @@ StepCallsAreUnique =
     → AreCallsOfStep tells old event seen new calls → AreCallsOfStep tells old event others other these
     → Calls content_step content calls left → Calls content_step content these right → these ≡ calls
 
--- So there is of a run without a fault.
+-- So has a run without a fault.
 abbrev pub RunCallsAreUnique : Type 0
 RunCallsAreUnique =
     (old new other : Subsystem) → (events : List Event) → (seen others : List Seen) → (calls these : List MediumCall)
@@ -55,7 +72,7 @@ RunCallsAreUnique =
     → new.device.failures ≡ old.device.failures → other.device.failures ≡ old.device.failures
     → old.device.failures < 2 ^ 64 - 1 → these ≡ calls
 
--- Over the content of the subsystem they are what the functions compute, and leave the content that the run leaves.
+-- Over the content of the subsystem they are those that the functions compute, and leave the content of the run.
 abbrev pub StepCallsAreComputed : Type 0
 StepCallsAreComputed =
     (tells : Bool) → (old new : Subsystem) → (event : Event) → (seen : Seen) → (calls : List MediumCall)
@@ -70,7 +87,7 @@ RunCallsAreComputed =
     → new.device.failures ≡ old.device.failures → old.device.failures < 2 ^ 64 - 1
     → (calls ≡ fault_free_calls old events) × (left ≡ new.device.content)
 
--- And there they are: the calls of the one run without a fault, which such a medium passes.
+-- And they exist: the calls of the one run without a fault, which are possible on such a medium.
 abbrev pub RunCallsExist : Type 0
 RunCallsExist =
     (old : Subsystem) → (events : List Event) → IsLaidOut old.world old.device.content
@@ -95,7 +112,7 @@ pub record IsFlushAt (s : Subsystem) (k i : ℕ) : Type 0 where
   pub io : (command.queue == 0) ≡ false
   pub is : opcode command.entry ≡ opcode_of Flush
 
--- A Flush that is answered Successful Completion has made one flush of the medium, which passed, and no other call.
+-- A Flush that is answered Successful Completion has made one flush of the medium, which succeeded, and no other call.
 abbrev pub FlushedIsOneFlush : Type 0
 FlushedIsOneFlush =
     (tells : Bool) → (old new : Subsystem) → (k i : ℕ) → (outcome : Outcome) → (calls : List MediumCall)

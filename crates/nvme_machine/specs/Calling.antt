@@ -1,5 +1,5 @@
--- The calls that a fetched command makes of the medium when it is executed: those of the very answer that it finishes
--- with. They say what a command does on a medium that tells nothing too.
+-- The calls of the medium that a fetched command makes when it is executed, by its answer. They also describe a command
+-- on a medium that does not reveal its content.
 use Rattle.std.specs.Prelude.{◌≡◌, ◌==◌, ℕ, Bool, true, false, List, [], Option, None, Some, Err, slice_get}
 use Rattle.nvme_spec.specs.declared.verdict.Denial.{Denial}
 use Rattle.nvme_spec.specs.MediumCalls.{MediumCall}
@@ -24,13 +24,13 @@ AreCallsAs false cntlid t s a calls =
 unfoldable pub AreCallsOfExecution : ℕ → FetchedCommand → Scene → CommandExecution → List MediumCall → Type 0
 AreCallsOfExecution cntlid t s a calls = AreCallsAs (t.queue == 0) cntlid t s a calls
 
--- The i-th command has an answer, all is as that says, and it has made the calls of that answer.
+-- The i-th command has an answer, which determines the new state, and has made the calls of this answer.
 pub record FinishesCalling (tells : Bool) (i : ℕ) (t : FetchedCommand) (p : QueuePair) (old : Setting)
     (executed : Executed) (new : Setting) (calls : List MediumCall) : Type 0 where
   pub finishes : Finishes tells i t p old executed new
   pub are : AreCallsOfExecution old.controller.cntlid t (scene_in old) finishes.execution calls
 
--- its completion queue may be full; then all stays, and no call is made
+-- if its completion queue is full, nothing changes, and no call is made
 abbrev pub AreCallsOver : Option QueuePair → Bool → ℕ → FetchedCommand → Setting → Executed → Setting
     → List MediumCall → Type 0
 AreCallsOver None tells i t old executed new calls = (executed ≡ CqFull) × (new ≡ old) × (calls ≡ [])
@@ -41,12 +41,12 @@ AreCallsOne None tells i old executed new calls = (executed ≡ NoSuch) × (new 
 AreCallsOne (Some t) tells i old executed new calls =
     AreCallsOver (open_pair old.controller t) tells i t old executed new calls
 
--- a controller executes the i-th of its fetched commands, and these are the calls that it makes of the medium
+-- the calls of the medium that a controller makes when it executes the i-th of its fetched commands
 abbrev pub AreCallsNth : Bool → ℕ → Setting → Executed → Setting → List MediumCall → Type 0
 AreCallsNth tells i old executed new calls =
     AreCallsOne (slice_get old.controller.fetched i) tells i old executed new calls
 
--- What makes these calls is an execution.
+-- These calls are those of an execution.
 abbrev pub CallsAreOfAnExecution : Type 0
 CallsAreOfAnExecution =
     (tells : Bool) → (i : ℕ) → (old new : Setting) → (executed : Executed) → (calls : List MediumCall)

@@ -1,5 +1,5 @@
--- What the execution of a fetched command comes to at its controller, in the world as it is then. An admin command and
--- a denied one come to one thing; of an allowed I/O command a fault of the medium may choose.
+-- The answer of a fetched command at its controller, in the world as it is then. It is determined for an admin command
+-- and a denied one; for an allowed I/O command it depends on faults of the medium.
 use Rattle.std.specs.Prelude.{◌≡◌, ◌==◌, ℕ, Bool, true, false, if◌then◌else◌}
 use Rattle.nvme_spec.specs.declared.outcome.Outcome.{Outcome}
 use Rattle.nvme_spec.specs.declared.queues.Queues.{Queues}
@@ -13,13 +13,13 @@ use Rattle.nvme_spec.specs.AdminRules.{admin_judgement}
 use Rattle.nvme_spec.specs.AdminEffects.{AdminExecution, admin_execution}
 use Rattle.nvme_machine.specs.declared.fetched.FetchedCommand.{FetchedCommand}
 
--- What a command that was executed comes to: what it is answered, what becomes of the queues, and what is left.
+-- The answer of an executed command: its outcome, the change of the queues, and the state that it leaves.
 pub record CommandExecution : Type 0 where
   pub outcome : Outcome
   pub change : QueueChange
   pub left : Scene
 
--- of an admin command
+-- the answer of an admin command
 abbrev pub admin_command_execution : Scene → AdminExecution → CommandExecution
 admin_command_execution s x = record {
   outcome = record { status = x.status; dw0 = x.dw0; rule = x.rule; marks = no_marks };
@@ -37,17 +37,17 @@ CommandComesToAs true tells queues cntlid t s a =
     a ≡ admin_command_execution s (admin_execution s.world queues cntlid t.entry s.window)
 CommandComesToAs false tells queues cntlid t s a = IoCommandComesTo tells cntlid t s a
 
--- a fetched command of a controller, executed now, comes to this
+-- the answer of a fetched command of a controller that is executed now
 unfoldable pub CommandComesTo : Bool → Queues → ℕ → FetchedCommand → Scene → CommandExecution → Type 0
 CommandComesTo tells queues cntlid t s a = CommandComesToAs (t.queue == 0) tells queues cntlid t s a
 
--- what the rules say to it now
+-- the verdict of the rules on it now
 unfoldable pub judgement : Queues → ℕ → FetchedCommand → Scene → Judgement
 judgement queues cntlid t s =
     if t.queue == 0
     then admin_judgement s.world queues cntlid t.entry s.window
     else io_judgement s.world cntlid t.entry t.marked s.window
 
--- what a command comes to that the rules deny
+-- the answer of a denied command
 abbrev pub denied_command_execution : Scene → Denial → CommandExecution
 denied_command_execution s d = record { outcome = denial_outcome d.rule d.status; change = Keep; left = s }

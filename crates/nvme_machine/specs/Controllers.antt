@@ -1,7 +1,35 @@
--- A controller as its host and the subsystem know it: registers, queues, fetched commands and the memory that it shares
--- with its host; and what stores, register writes and fetches make of it (Base Specification: Controller Registers,
+-- A controller as its host and the subsystem see it: registers, queues, fetched commands and the memory that it shares
+-- with its host; and the effects of stores, register writes and fetches (Base Specification: Controller Registers,
 -- Submission Queue, Completion Queue, Command Fetching, Controller Reset).
-use Rattle.std.specs.Prelude.{ℕ, ◌+◌, ◌==◌, nat_lt, nat_le, Bool, true, false, not, ◌&&◌, if◌then◌else◌, List, [], ◌∷◌, ◌++◌, length, map, filter, remove, Option, None, Some, is_some, option_map, slice_index_or, slice_set, slice_range}
+use Rattle.std.specs.Prelude.{
+  ℕ,
+  ◌+◌,
+  ◌==◌,
+  nat_lt,
+  nat_le,
+  Bool,
+  true,
+  false,
+  not,
+  ◌&&◌,
+  if◌then◌else◌,
+  List,
+  [],
+  ◌∷◌,
+  ◌++◌,
+  length,
+  map,
+  filter,
+  remove,
+  Option,
+  None,
+  Some,
+  is_some,
+  option_map,
+  slice_index_or,
+  slice_set,
+  slice_range,
+}
 use Rattle.nvme_wire.specs.Submission.{cid, nsid}
 use Rattle.nvme_wire.specs.declared.status.Status.{Status}
 use Rattle.nvme_spec.specs.declared.queues.Queues.{Queues}
@@ -22,7 +50,7 @@ use Rattle.nvme_machine.specs.declared.seen.Fetched.TheVariants.{Took, Idle}
 use Rattle.nvme_machine.specs.declared.seen.Seen.{Seen}
 use Rattle.nvme_machine.specs.declared.seen.Seen.TheVariants.{Stored, Outside, Wrote, Value, Fetched}
 
--- A submission queue at its controller: its address, the completion queue that its completions go to, its counts.
+-- A submission queue at its controller: its address, its completion queue, and its counts.
 pub record SubmissionQueue : Type 0 where
   pub base : ℕ
   pub cqid : ℕ
@@ -32,7 +60,7 @@ pub record CompletionQueue : Type 0 where
   pub base : ℕ
   pub tail : ring.CompletionTail
 
--- Queues stand at the places of their identifiers, 0 to 4; the window is the memory that the controller reaches.
+-- A queue is at the place of its identifier, 0 to 4; the window is the memory that the controller can address.
 pub record Controller : Type 0 where
   pub cntlid : ℕ
   pub registers : register.Registers
@@ -58,7 +86,7 @@ new_controller k = record {
   window = zeros;
 }
 
--- Power is lost, and comes back: the controller is as one that was never enabled, and its host's memory stays.
+-- Power is lost, and returns: the controller is as new, and its host's memory stays.
 abbrev pub power_cycled : Controller → Controller
 power_cycled c = record (new_controller c.cntlid) { window = c.window }
 
@@ -75,7 +103,7 @@ queues_of c = record {
   sq = map (λ (o : Option SubmissionQueue). option_map (λ (q : SubmissionQueue). q.cqid) o) c.submission;
 }
 
--- A controller after an event, and what the event gave.
+-- A controller after an event, and the result of the event.
 pub record Reaction : Type 0 where
   pub controller : Controller
   pub seen : Seen
@@ -83,7 +111,7 @@ pub record Reaction : Type 0 where
 abbrev pub reaction : Controller → Seen → Reaction
 reaction c what = record { controller = c; seen = what }
 
--- Its host stores bytes: where they fit into the window, no other byte changes.
+-- Its host stores bytes: if they fit into the window, no other byte changes.
 unfoldable pub after_store : ℕ → List ℕ → Controller → Reaction
 after_store address bytes c =
     if nat_le (address + length bytes) window_size
@@ -102,7 +130,7 @@ admin_submission_queue q = record { base = q.sq_base; cqid = 0; head = ring.empt
 abbrev pub admin_completion_queue : AdminQueues → CompletionQueue
 admin_completion_queue q = record { base = q.cq_base; tail = ring.empty_completion_tail q.cq_size }
 
--- an enabled controller has the admin queues alone, empty
+-- an enabled controller has only the admin queues, empty
 abbrev pub with_admin_queues : Option AdminQueues → Controller → Controller
 with_admin_queues None c = without_queues c
 with_admin_queues (Some q) c = record c {
@@ -117,7 +145,7 @@ with_tail v q = record q { head = ring.after_tail_doorbell q.head v }
 abbrev pub with_head : ℕ → CompletionQueue → CompletionQueue
 with_head v q = record q { tail = ring.after_head_doorbell q.tail v }
 
--- what a write asks of the controller, done. The doorbell of a queue that does not exist rings in vain
+-- the effect of a write on the controller. The doorbell of a queue that does not exist has no effect
 unfoldable pub taking_effect : RegEffect → Controller → Controller
 taking_effect Nothing c = c
 taking_effect Enable c = with_admin_queues (register.admin_queues c.registers) c
@@ -136,13 +164,13 @@ after_write32 offset v c =
 abbrev pub wrote : ℕ → ℕ → Controller → Reaction
 wrote offset v c = reaction (after_write32 offset v c) Wrote
 
--- Its host reads one.
+-- Its host reads a register.
 abbrev pub has_read : ℕ → Controller → Reaction
 has_read offset c = reaction c (Value (register.value_at c.registers offset))
 
--- A fetch: the controller runs and is not shut down, has room for the command, and one waits.
+-- A fetch: the controller runs and is not shut down, has room for the command, and a command waits.
 
--- how many commands a controller keeps, over all its queues
+-- the most fetched commands of a controller, over all its queues
 abbrev pub most_fetched : ℕ
 most_fetched = 64
 
@@ -181,7 +209,7 @@ after_fetch q c = fetched_from q c (fetchable c q)
 
 -- The end of an execution.
 
--- The queues of a command: its submission queue, and the completion queue that its completion goes to.
+-- The queues of a command: its submission queue, and the completion queue for its completion.
 pub record QueuePair : Type 0 where
   pub submission : SubmissionQueue
   pub completion : CompletionQueue
@@ -197,7 +225,7 @@ abbrev pub if_room : Option QueuePair → Option QueuePair
 if_room None = None
 if_room (Some p) = if nat_lt 0 (ring.completion_room p.completion.tail) then Some p else None
 
--- the queues of a fetched command, where its completion can be posted
+-- the queues of a fetched command, if its completion can be posted
 unfoldable pub open_pair : Controller → FetchedCommand → Option QueuePair
 open_pair c t = if_room (pair_of c (submission_at c t.queue))
 
@@ -225,11 +253,11 @@ after_posting i t p why first c = record c {
   window = with_bytes c.window (completion_slot p.completion) (completion_of t p why first);
 }
 
--- a submission queue that is deleted takes its fetched commands with it
+-- deleting a submission queue drops its fetched commands
 abbrev pub without_queue : ℕ → List FetchedCommand → List FetchedCommand
 without_queue qid fetched = filter (λ (t : FetchedCommand). not (t.queue == qid)) fetched
 
--- what an admin command does to the queues
+-- the effect of an admin command on the queues
 unfoldable pub after_queue_change : QueueChange → Controller → Controller
 after_queue_change Keep c = c
 after_queue_change (MakeCq qid size at) c =
@@ -255,6 +283,6 @@ names n t = not (t.queue == 0) && (nsid t.entry == n)
 abbrev pub with_mark : ℕ → FetchedCommand → FetchedCommand
 with_mark n t = if names n t then record t { marked = true } else t
 
--- a controller, where its fetched commands on a namespace are marked
+-- a controller after its fetched commands on a namespace are marked
 abbrev pub with_marks : ℕ → Controller → Controller
 with_marks n c = record c { fetched = map (with_mark n) c.fetched }

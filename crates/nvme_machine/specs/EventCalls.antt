@@ -1,5 +1,5 @@
--- The calls that events make of the medium: those of the executions among them, in their order, and no other. They say
--- what events do on a medium that tells nothing too.
+-- The calls that events make of the medium: those of the executions among them, in order, and no others. They also
+-- describe events on a medium that does not reveal its content.
 use Rattle.std.specs.Prelude.{◌≡◌, ℕ, Bool, List, [], ◌∷◌, ◌++◌, Option, None, Some, slice_get}
 use Rattle.nvme_spec.specs.MediumCalls.{MediumCall}
 use Rattle.nvme_machine.specs.declared.event.Event.{Event}
@@ -9,16 +9,25 @@ use Rattle.nvme_machine.specs.declared.seen.Executed.TheVariants.{NoSuch, CqFull
 use Rattle.nvme_machine.specs.declared.seen.Seen.{Seen}
 use Rattle.nvme_machine.specs.declared.seen.Seen.TheVariants.{Executed, Cycled, NoController}
 use Rattle.nvme_machine.specs.Controllers.{Controller, QueuePair, after_store, wrote, has_read, after_fetch, open_pair}
-use Rattle.nvme_machine.specs.Subsystems.{Subsystem, Completes, Reacts, Step, Run, controller_at, scene_of, after_power_cycle}
+use Rattle.nvme_machine.specs.Subsystems.{
+  Subsystem,
+  Completes,
+  Reacts,
+  Step,
+  Run,
+  controller_at,
+  scene_of,
+  after_power_cycle,
+}
 use Rattle.nvme_machine.specs.Calling.{AreCallsOfExecution}
 
--- A command is executed: it has an answer, all is as that says, and it has made the calls of that very answer.
+-- A command is executed: it has an answer, which determines the new state, and has made the calls of this answer.
 pub record CompletesCalling (tells : Bool) (old : Subsystem) (k : ℕ) (c : Controller) (i : ℕ) (t : FetchedCommand)
     (p : QueuePair) (seen : Seen) (new : Subsystem) (calls : List MediumCall) : Type 0 where
   pub completes : Completes tells old k c i t p seen new
   pub are : AreCallsOfExecution k t (scene_of old c) completes.execution calls
 
--- Its completion queue may be full; then all stays, and no call is made.
+-- If its completion queue is full, nothing changes, and no call is made.
 abbrev pub CallingOver : Option QueuePair → Bool → Subsystem → ℕ → Controller → ℕ → FetchedCommand → Seen → Subsystem
     → List MediumCall → Type 0
 CallingOver None tells old k c i t seen new calls = (seen ≡ Executed CqFull) × (new ≡ old) × (calls ≡ [])
@@ -33,7 +42,7 @@ abbrev pub CallingAt : Option Controller → Bool → Subsystem → ℕ → ℕ 
 CallingAt None tells old k i seen new calls = (seen ≡ NoController) × (new ≡ old) × (calls ≡ [])
 CallingAt (Some c) tells old k i seen new calls = CallingOne (slice_get c.fetched i) tells old k c i seen new calls
 
--- One event, and the calls that it makes: those of an execution, and none else.
+-- One event, and the calls that it makes: those of an execution, otherwise none.
 abbrev pub AreCallsOfStep : Bool → Subsystem → Event → Seen → Subsystem → List MediumCall → Type 0
 AreCallsOfStep tells old (Store k address bytes) seen new calls =
     Reacts old k (after_store address bytes.now) seen new × (calls ≡ [])
@@ -44,7 +53,7 @@ AreCallsOfStep tells old (Execute k i) seen new calls = CallingAt (controller_at
 AreCallsOfStep tells old PowerCycle seen new calls =
     (seen ≡ Cycled) × (new ≡ after_power_cycle old) × (calls ≡ [])
 
--- an event that is no execution
+-- an event other than an execution
 abbrev pub ExecutesNothing : Event → Type 0
 ExecutesNothing (Store k address bytes) = Unit {0}
 ExecutesNothing (Write32 k offset v) = Unit {0}
@@ -53,8 +62,8 @@ ExecutesNothing (Fetch k q) = Unit {0}
 ExecutesNothing (Execute k i) = ⊥
 ExecutesNothing PowerCycle = Unit {0}
 
--- Events, one after the other, and the calls that they make, one after the other. Between two events there is one
--- state, and the calls of the first come before those of the second.
+-- A list of events with their calls. There is one state between two events, and the calls of the first come before
+-- those of the second.
 abbrev pub AreCallsOfRun : Bool → Subsystem → List Event → List Seen → Subsystem → List MediumCall → Type 0
 AreCallsOfRun tells old [] [] new calls = (new ≡ old) × (calls ≡ [])
 AreCallsOfRun tells old (event ∷ events) (seen ∷ later) new calls =
@@ -64,7 +73,7 @@ AreCallsOfRun tells old (event ∷ events) (seen ∷ later) new calls =
 AreCallsOfRun tells old [] (seen ∷ later) new calls = ⊥
 AreCallsOfRun tells old (event ∷ events) [] new calls = ⊥
 
--- What makes these calls is a step, and a run.
+-- These calls are those of a step, and of a run.
 abbrev pub CallsAreOfAStep : Type 0
 CallsAreOfAStep =
     (tells : Bool) → (old new : Subsystem) → (event : Event) → (seen : Seen) → (calls : List MediumCall)

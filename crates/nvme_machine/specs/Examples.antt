@@ -1,4 +1,4 @@
--- What the worked examples speak of.
+-- Subsystems, commands and statements of the worked examples.
 use Rattle.std.specs.Prelude.{ℕ, true, false, List, [], ◌∷◌, ◌++◌, None, Some, Ok, replicate}
 use Rattle.nvme_spec.specs.declared.access.Protection.TheVariants.{Protected}
 use Rattle.nvme_spec.specs.Configuration.{Configuration}
@@ -50,15 +50,15 @@ a_report = of_queue_1 (command_entry 0x0e 1 15 1 0)
 abbrev pub past_the_end : FetchedCommand
 past_the_end = of_queue_1 (transfer_entry 2 1 1 2)
 
--- the same command, if a Preempt and Abort has caught it, and if the admin queue brought it
+-- the same command, marked by a Preempt and Abort, or from the admin queue
 abbrev pub marked : FetchedCommand → FetchedCommand
 marked command = record command { marked = true }
 
 abbrev pub of_admin_queue : FetchedCommand → FetchedCommand
 of_admin_queue command = record command { queue = 0 }
 
--- a controller with I/O queue 1, both ends of which have four entries, that has fetched these commands. Of its window
--- the front is told, in which the data lie
+-- a controller with I/O queue 1, of four entries each, that has fetched these commands. Only the front of its window
+-- matters, which has the data
 abbrev pub has_fetched : List FetchedCommand → Controller
 has_fetched commands = record (new_controller 1) {
   submission = None ∷ Some (record { base = 8192; cqid = 1; head = ring.empty_submission_head 4 }) ∷ None ∷ None ∷ None
@@ -76,11 +76,11 @@ having commands = record {
   controllers = has_fetched commands ∷ [];
 }
 
--- the same, where the namespace is write protected
+-- `having` with a write protected namespace
 abbrev pub protected_having : List FetchedCommand → Subsystem
 protected_having commands = record (having commands) { world = with_protection (opening_world small) 1 Protected }
 
--- the same, where another namespace, of three blocks, comes before it on the medium
+-- the namespace follows another one, of three blocks, on the medium
 abbrev pub behind_another : Configuration
 behind_another = record {
   controllers = controller 1 0xa1 ∷ [];
@@ -91,11 +91,11 @@ behind_another = record {
 abbrev pub behind_another_having : List FetchedCommand → Subsystem
 behind_another_having commands = record (having commands) { world = opening_world behind_another }
 
--- its host stores at the front of the window
+-- the host of controller 1 stores bytes at the start of its window
 abbrev pub stores : List ℕ → Event
 stores bytes = Store 1 0 (record { ref_ptr = (0, 0); now = bytes })
 
--- Calls that are not needed: of a block before or behind, of another kind, and any if nothing is needed.
+-- Calls that are not needed: of a block before or after, of another kind, and any if nothing is needed.
 abbrev pub OtherCallsAreNotNeeded : Type 0
 OtherCallsAreNotNeeded =
     (IsNeeded (need.Read 3 2) (Reads 2 (Ok [])) → ⊥)

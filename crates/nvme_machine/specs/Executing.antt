@@ -1,5 +1,5 @@
--- The execution of a fetched command as its controller sees it, with the access state and the medium of its subsystem
--- at hand.
+-- The execution of a fetched command at its controller, with the access state and the medium, for the contracts of
+-- `nvme_ctrl`.
 use Rattle.std.specs.Prelude.{◌≡◌, ℕ, Bool, Option, None, Some, slice_get}
 use Rattle.nvme_spec.specs.Blocks.{Device}
 use Rattle.nvme_spec.specs.World.{World}
@@ -11,7 +11,7 @@ use Rattle.nvme_machine.specs.Controllers.{Controller, QueuePair, queues_of, ope
 use Rattle.nvme_machine.specs.CommandExecutions.{CommandExecution, CommandComesTo}
 use Rattle.nvme_machine.specs.Subsystems.{after_completion}
 
--- a controller, with what its commands may change besides
+-- a controller, and the other state that its commands may change
 pub record Setting : Type 0 where
   pub controller : Controller
   pub world : World
@@ -23,7 +23,7 @@ setting c w d = record { controller = c; world = w; device = d }
 abbrev pub scene_in : Setting → Scene
 scene_in s = record { world = s.world; window = s.controller.window; device = s.device }
 
--- the i-th command has an answer, and all is as that says
+-- the i-th command has an answer, and the new state is by that answer
 pub record Finishes (tells : Bool) (i : ℕ) (t : FetchedCommand) (p : QueuePair) (old : Setting) (executed : Executed)
     (new : Setting) : Type 0 where
   pub execution : CommandExecution
@@ -33,7 +33,7 @@ pub record Finishes (tells : Bool) (i : ℕ) (t : FetchedCommand) (p : QueuePair
   pub world : new.world ≡ execution.left.world
   pub device : new.device ≡ execution.left.device
 
--- its completion queue may be full; then all stays
+-- if its completion queue is full, nothing changes
 abbrev pub FinishesOver : Option QueuePair → Bool → ℕ → FetchedCommand → Setting → Executed → Setting → Type 0
 FinishesOver None tells i t old executed new = (executed ≡ CqFull) × (new ≡ old)
 FinishesOver (Some p) tells i t old executed new = Finishes tells i t p old executed new

@@ -1,4 +1,4 @@
--- Steps and runs over a medium none of whose calls fails, as functions.
+-- Steps and runs without faults of the medium, as functions.
 use Rattle.std.specs.Prelude.{◌==◌, ℕ, if◌then◌else◌, List, [], ◌∷◌, Option, None, Some, slice_get}
 use Rattle.nvme_spec.specs.declared.queues.Queues.{Queues}
 use Rattle.nvme_spec.specs.declared.queues.QueueChange.TheVariants.{Keep}
@@ -11,9 +11,26 @@ use Rattle.nvme_machine.specs.declared.fetched.FetchedCommand.{FetchedCommand}
 use Rattle.nvme_machine.specs.declared.seen.Executed.TheVariants.{Posted, NoSuch, CqFull}
 use Rattle.nvme_machine.specs.declared.seen.Seen.{Seen}
 use Rattle.nvme_machine.specs.declared.seen.Seen.TheVariants.{Executed, Cycled, NoController}
-use Rattle.nvme_machine.specs.Controllers.{Controller, QueuePair, Reaction, queues_of, after_store, wrote, has_read, after_fetch, open_pair}
+use Rattle.nvme_machine.specs.Controllers.{
+  Controller,
+  QueuePair,
+  Reaction,
+  queues_of,
+  after_store,
+  wrote,
+  has_read,
+  after_fetch,
+  open_pair,
+}
 use Rattle.nvme_machine.specs.CommandExecutions.{CommandExecution, admin_command_execution}
-use Rattle.nvme_machine.specs.Subsystems.{Subsystem, controller_at, with_controller, scene_of, after_execution, after_power_cycle}
+use Rattle.nvme_machine.specs.Subsystems.{
+  Subsystem,
+  controller_at,
+  with_controller,
+  scene_of,
+  after_execution,
+  after_power_cycle,
+}
 
 abbrev pub io_command_execution : Execution → CommandExecution
 io_command_execution x = record { outcome = x.outcome; change = Keep; left = x.left }
@@ -24,7 +41,7 @@ fault_free_command_execution queues cntlid t s =
     then admin_command_execution s (admin_execution s.world queues cntlid t.entry s.window)
     else io_command_execution (fault_free_execution cntlid t.entry t.marked s)
 
--- What an event gives, and the subsystem after it.
+-- The result of an event, and the subsystem after it.
 pub record Aftermath : Type 0 where
   pub seen : Seen
   pub left : Subsystem
@@ -59,7 +76,7 @@ fault_free_step s (Fetch k q) = reacting (controller_at s k) s k (after_fetch q)
 fault_free_step s (Execute k i) = executing (controller_at s k) s k i
 fault_free_step s PowerCycle = aftermath Cycled (after_power_cycle s)
 
--- what the events give, one after the other
+-- the results of the events, in order
 abbrev pub fault_free_seen : Subsystem → List Event → List Seen
 fault_free_seen s [] = []
 fault_free_seen s (event ∷ events) = (fault_free_step s event).seen ∷ fault_free_seen

@@ -1,5 +1,5 @@
--- The calls that events make of a medium that tells its content and none of whose calls fails, as functions: those of
--- the executions among them, in their order.
+-- The calls that events make without faults of a medium that reveals its content, as functions: those of the executions
+-- among them, in order.
 use Rattle.std.specs.Prelude.{◌==◌, ℕ, Bool, true, false, List, [], ◌∷◌, ◌++◌, Option, None, Some, slice_get}
 use Rattle.nvme_spec.specs.Execution.{Scene}
 use Rattle.nvme_spec.specs.FaultFreeCalls.{command_calls}
@@ -34,7 +34,7 @@ abbrev pub event_calls : Subsystem → Event → List MediumCall
 event_calls s (Execute k i) = calls_at (controller_at s k) s k i
 event_calls s event = []
 
--- events, one after the other
+-- for a list of events
 abbrev pub fault_free_calls : Subsystem → List Event → List MediumCall
 fault_free_calls s [] = []
 fault_free_calls s (event ∷ events) = event_calls s event ++ fault_free_calls (fault_free_step s event).left events

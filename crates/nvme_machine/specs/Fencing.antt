@@ -1,4 +1,5 @@
--- Who may write the bytes of a namespace, over events and over runs: fencing.
+-- Statements of the laws about fencing: which events may change the bytes and the reservation of a namespace, over
+-- events and over runs.
 use Rattle.std.specs.Prelude.{◌≡◌, ◌⊎◌, ℕ, Bool, true, false, List, [], ◌∷◌, Option, None, Some, slice_get}
 use Rattle.std.specs.List.{AllByRecursion}
 use Rattle.nvme_spec.specs.declared.command.Command.{Command}
@@ -17,7 +18,7 @@ use Rattle.nvme_machine.specs.Subsystems.{Subsystem, Step, controller_at, OfItsC
 abbrev pub namespace_bytes : Subsystem → ℕ → List ℕ
 namespace_bytes s n = bytes_of s.world s.device.content n
 
--- The i-th command of controller k is an I/O command on the namespace, one of these, and all rules let it pass now.
+-- The i-th command of controller k is one of these I/O commands on the namespace, and all rules let it pass now.
 pub record IsAllowedAt (commands : List Command) (s : Subsystem) (k i n : ℕ) : Type 0 where
   pub controller : Controller
   pub command : FetchedCommand
@@ -49,15 +50,15 @@ Forgets s (Fetch k q) n = ⊥
 Forgets s (Execute k i) n = ⊥
 Forgets s PowerCycle n = IsFleeting (reservation_of s.world n)
 
--- The bytes of a namespace change only where a Write or Write Zeroes on it is executed that all rules let pass then.
+-- The bytes of a namespace change only if a Write or Write Zeroes on it is executed that all rules let pass then.
 abbrev pub OnlyAllowedWritesWrite : Type 0
 OnlyAllowedWritesWrite =
     (old new : Subsystem) → (event : Event) → (seen : Seen) → (n : ℕ) → IsLaidOut old.world old.device.content
     → Step true old event seen new
     → (namespace_bytes new n ≡ namespace_bytes old n) ⊎ Allows altering old event n
 
--- Its reservation changes only where a Reservation Register, Acquire or Release on it is executed that all rules let
--- pass, or where it does not persist and power is lost.
+-- Its reservation changes only if a Reservation Register, Acquire or Release on it is executed that all rules let pass,
+-- or if it does not persist and power is lost.
 abbrev pub OnlyAllowedActionsReserve : Type 0
 OnlyAllowedActionsReserve =
     (tells : Bool) → (old new : Subsystem) → (event : Event) → (seen : Seen) → (n : ℕ) → Step tells old event seen new
@@ -76,7 +77,7 @@ FencedEventsWriteNothing =
     → Step true old event seen new → OfItsController (λ k. may_write old.world k n ≡ false) event
     → namespace_bytes new n ≡ namespace_bytes old n
 
--- a run in which each event is so in the state that it finds
+-- a run in which each event has a property in the state before it
 abbrev pub RunWhere : (Subsystem → Event → Type 0) → Subsystem → List Event → List Seen → Subsystem → Type 0
 RunWhere P old [] [] new = new ≡ old
 RunWhere P old (event ∷ events) (seen ∷ later) new =
@@ -88,19 +89,19 @@ RunWhere P old (event ∷ events) [] new = ⊥
 abbrev pub ReservesNothing : ℕ → Subsystem → Event → Type 0
 ReservesNothing n s event = Allows reserving s event n → ⊥
 
--- nor is it a power cycle that the reservation does not outlast
+-- and it is not a power cycle that ends the reservation
 abbrev pub LeavesReservation : ℕ → Subsystem → Event → Type 0
 LeavesReservation n s event = ReservesNothing n s event × (Forgets s event n → ⊥)
 
--- Where an event leaves the reservation, every host may write and not write as before.
+-- If an event leaves the reservation, every host's permission to write is unchanged.
 abbrev pub PermissionsStay : Type 0
 PermissionsStay =
     (tells : Bool) → (old new : Subsystem) → (event : Event) → (seen : Seen) → (n : ℕ) → Step tells old event seen new
     → LeavesReservation n old event → (k : ℕ) → may_write new.world k n ≡ may_write old.world k n
 
--- Fencing holds: while no reservation command on a namespace is executed but denied ones, and power is not lost or the
--- reservation persists, hosts that may not write it change none of its bytes, whatever they store, write, fetch,
--- execute and reset, in any order; and they still may not write it.
+-- Fencing holds. Suppose that every reservation command on a namespace is denied, and power is not lost or the
+-- reservation persists. Then no list of events of hosts that may not write the namespace changes any of its bytes, and
+-- these hosts still may not write it.
 abbrev pub FencingHolds : Type 0
 FencingHolds =
     (old new : Subsystem) → (events : List Event) → (seen : List Seen) → (n : ℕ)

@@ -1,5 +1,5 @@
--- What becomes of the commands of a host that is preempted (Base Specification: Reservation Acquire command, Preempt
--- and Abort).
+-- Statements of the laws about the fetched commands of a preempted host (Base Specification: Reservation Acquire
+-- command, Preempt and Abort).
 use Rattle.std.specs.Prelude.{◌≡◌, ℕ, ◌==◌, Bool, true, false, Some, Ok, slice_get}
 use Rattle.nvme_wire.specs.Submission.{opcode}
 use Rattle.nvme_spec.specs.declared.command.Command.TheVariants.{ReservationAcquire}
@@ -18,8 +18,8 @@ use Rattle.nvme_machine.specs.CommandExecutions.{judgement}
 use Rattle.nvme_machine.specs.Subsystems.{Subsystem, Step, controller_at, with_controller, scene_of, is_host_among}
 use Rattle.nvme_machine.specs.Runs.{Waits}
 
--- A marked I/O command is answered Command Aborted due to Preempt and Abort, by the first rule, whatever it asks for;
--- and it changes its completion entry, the counts of its completion queue and its list, and nothing else.
+-- Any marked I/O command is answered Command Aborted due to Preempt and Abort, by the first rule. It changes only its
+-- completion entry, the counts of its completion queue and its list.
 abbrev pub MarkedIsAborted : Type 0
 MarkedIsAborted =
     (tells : Bool) → (old new : Subsystem) → (k i : ℕ) → (c : Controller) → (t : FetchedCommand) → (p : QueuePair)
@@ -33,8 +33,8 @@ MarkedIsAborted =
 abbrev pub AllMarked : ℕ → Controller → Type 0
 AllMarked n c = (i : ℕ) → (t : FetchedCommand) → slice_get c.fetched i ≡ Some t → names n t ≡ true → t.marked ≡ true
 
--- A Preempt and Abort that is not denied marks what every controller of the hosts that it removes has fetched on the
--- namespace.
+-- A Preempt and Abort that is not denied marks all commands on the namespace that a controller of a removed host has
+-- fetched.
 abbrev pub PreemptedCommandsAreMarked : Type 0
 PreemptedCommandsAreMarked =
     (tells : Bool) → (old new : Subsystem) → (k i n : ℕ) → (c : Controller) → (t : FetchedCommand) → (p : QueuePair)

@@ -1,5 +1,6 @@
--- Fencing of each single event, whoever does what before and behind it: of the events of a run nothing is asked but that
--- the host of this one may not write, or not read, the namespace in the state that it finds.
+-- Statements of the law `fencing_holds_of_each_event`: fencing at each single event of a run, with any events of any
+-- hosts before and after it. The only premise is that the host of this event may not write, or not read, the namespace
+-- in the state before it.
 use Rattle.std.specs.Prelude.{◌≡◌, ◌<◌, ◌-◌, ◌^◌, ℕ, Bool, IsTrue, true, false, List, [], Some, slice_get}
 use Rattle.std.specs.List.{AllByRecursion}
 use Rattle.nvme_spec.specs.Blocks.{Device}
@@ -26,8 +27,8 @@ pub record ExecutesOn (n : ℕ) (now : Subsystem) (event : Event) : Type 0 where
   pub found : slice_get controller.fetched index ≡ Some command
   pub named : names n command ≡ true
 
--- An event leaves every byte of a namespace, and none of its calls writes a block of it. Where it executes a command on
--- the namespace, its calls only read; and where the host may not read either, there are none.
+-- An event leaves every byte of a namespace, and none of its calls writes a block of it. If it executes a command on
+-- the namespace, its calls only read; if the host may not read either, there are none.
 pub record WritesNothing (tells : Bool) (n : ℕ) (old now : Subsystem) (event : Event) (next : Subsystem)
     (own : List MediumCall) : Type 0 where
   pub bytes : IsTrue tells → IsLaidOut old.world old.device.content
@@ -37,8 +38,8 @@ pub record WritesNothing (tells : Bool) (n : ℕ) (old now : Subsystem) (event :
   pub reads : ExecutesOn n now event → AllByRecursion IsReading own
   pub silent : (run : ExecutesOn n now event) → may_read now.world run.cntlid n ≡ false → own ≡ []
 
--- Whatever the events before and behind it are, and whoever does them: an event of a host that may not write a namespace
--- when it happens writes nothing there. So it is of a power cycle.
+-- With any events of any hosts before and after it, an event of a host that may not write a namespace at that moment
+-- writes nothing there. The same holds for a power cycle.
 abbrev pub FencingHoldsOfEachEvent : Type 0
 FencingHoldsOfEachEvent =
     (tells : Bool) → (old new : Subsystem) → (front later : List Event) → (event : Event) → (seen : List Seen)
@@ -46,13 +47,13 @@ FencingHoldsOfEachEvent =
     → OfItsController (λ k. may_write cut.now.world k n ≡ false) event
     → WritesNothing tells n old cut.now event cut.next cut.own
 
--- Over another medium, whose blocks differ in this namespace alone, an event can be answered as it is, and leaves the
--- same but the medium: every controller with its window, its lists and its marks, and the access state.
+-- Over another medium, whose blocks differ only in this namespace, an event can have the same result, and leave the
+-- same state except for the medium: every controller with its window, its lists and its marks, and the access state.
 abbrev pub CanBeSame : ℕ → Subsystem → Event → Seen → Subsystem → Device → Type 0
 CanBeSame n now event gives next medium =
     (left : Device) × Step true (over medium now) event gives (over left next) × DifferIn n next.world next.device left
 
--- And without a fault of the medium it is answered so, and leaves that.
+-- And without a fault of the medium it has that result and leaves that state.
 abbrev pub IsSame : ℕ → Subsystem → Event → Seen → Subsystem → Device → Type 0
 IsSame n now event gives next medium =
     (other : Subsystem) → (others : Seen) → Step true (over medium now) event others other
@@ -60,8 +61,8 @@ IsSame n now event gives next medium =
     → now.device.failures < 2 ^ 64 - 1
     → (others ≡ gives) × (other ≡ over other.device next) × DifferIn n next.world next.device other.device
 
--- Whatever the events before and behind it are, and whoever does them: an event of a host that may not read a namespace
--- when it happens is the same whatever the bytes of the namespace are then.
+-- With any events of any hosts before and after it, an event of a host that may not read a namespace at that moment is
+-- the same for any bytes of the namespace.
 abbrev pub SecrecyHoldsOfEachEvent : Type 0
 SecrecyHoldsOfEachEvent =
     (old new : Subsystem) → (front later : List Event) → (event : Event) → (seen : List Seen)

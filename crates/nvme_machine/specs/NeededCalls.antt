@@ -1,6 +1,24 @@
--- Which of the needed calls an execution has made, by what its command is answered. Who knows the need, the data that
--- the command sends and the answer knows each block that was written, zeroed or flushed.
-use Rattle.std.specs.Prelude.{◌≡◌, ◌≢◌, ◌<◌, ◌≤◌, ℕ, ◌*◌, Bool, List, [], ◌∷◌, Option, None, Some, Ok, Err, replicate, slice_get}
+-- Statements of laws in `laws.rt`: which of the needed calls an execution has made, by its answer. The need, the data
+-- of the command and the answer together determine each block that was written, zeroed or flushed.
+use Rattle.std.specs.Prelude.{
+  ◌≡◌,
+  ◌≢◌,
+  ◌<◌,
+  ◌≤◌,
+  ℕ,
+  ◌*◌,
+  Bool,
+  List,
+  [],
+  ◌∷◌,
+  Option,
+  None,
+  Some,
+  Ok,
+  Err,
+  replicate,
+  slice_get,
+}
 use Rattle.nvme_spec.specs.declared.medium.MediumFault.{MediumFault}
 use Rattle.nvme_spec.specs.declared.outcome.Outcome.{Outcome}
 use Rattle.nvme_spec.specs.IoData.{data_of}
@@ -17,7 +35,7 @@ use Rattle.nvme_machine.specs.EventCalls.{AreCallsOfStep}
 use Rattle.nvme_machine.specs.Needs.{need_at}
 use Rattle.nvme_machine.specs.Subsystems.{Subsystem, controller_at}
 
--- the data that the i-th fetched command of a controller names in its host's memory
+-- the data of a controller's i-th fetched command in its host's memory
 abbrev pub sent_of_one : List ℕ → Option FetchedCommand → List ℕ
 sent_of_one window None = []
 sent_of_one window (Some t) = data_of window t.entry
@@ -33,8 +51,8 @@ sent_at s cntlid i = sent_of_its i (controller_at s cntlid)
 abbrev pub zero_blocks : ℕ → List ℕ
 zero_blocks blocks = replicate (512 * blocks) 0
 
--- All that was needed was done: each block was read or written once, in rising order, each call passed, and there was
--- no other call.
+-- All that was needed was done: each block was read or written once, in rising order, each call succeeded, and there
+-- was no other call.
 abbrev pub AreWhole : Need → List ℕ → List MediumCall → Type 0
 AreWhole need.Nothing sent calls = calls ≡ []
 AreWhole (need.Read first blocks) sent calls = (read : List ℕ) × (calls ≡ passing (reads_from first read) blocks)
@@ -42,7 +60,7 @@ AreWhole (need.Write first blocks) sent calls = calls ≡ passing (writes_from f
 AreWhole (need.Zero first blocks) sent calls = calls ≡ passing (writes_from first (zero_blocks blocks)) blocks
 AreWhole need.Flush sent calls = calls ≡ Flushes (Ok tt) ∷ []
 
--- The first blocks passed, in rising order, the one after them failed, and there was no other call.
+-- The calls for the first blocks succeeded, in rising order, the next one failed, and there was no other call.
 pub record StopsAtFault (call : ℕ → MediumAnswer → MediumCall) (blocks : ℕ) (calls : List MediumCall) : Type 0 where
   pub passed : ℕ
   pub below : passed < blocks
@@ -65,7 +83,7 @@ StopReading (need.Write first blocks) calls = ⊥
 StopReading (need.Zero first blocks) calls = ⊥
 StopReading need.Flush calls = ⊥
 
--- the blocks up to one that differs were read, each call passed, and there was no other call
+-- the blocks up to one that differs were read, each call succeeded, and there was no other call
 pub record ReadsFront (first blocks : ℕ) (calls : List MediumCall) : Type 0 where
   pub read : List ℕ
   pub passed : ℕ
@@ -80,18 +98,18 @@ StopComparing (need.Write first blocks) calls = ⊥
 StopComparing (need.Zero first blocks) calls = ⊥
 StopComparing need.Flush calls = ⊥
 
--- P holds of each execution whose completion is posted: of what its command needed, of the data that it sent, of the
--- answer and of the calls that were made
+-- P holds of each execution whose completion is posted: of its command's need and data, of the answer and of the calls
 abbrev pub OfEachAnswer : (Need → List ℕ → Outcome → List MediumCall → Type 0) → Type 0
 OfEachAnswer P =
     (tells : Bool) → (old new : Subsystem) → (k i : ℕ) → (outcome : Outcome) → (calls : List MediumCall)
     → AreCallsOfStep tells old (Execute k i) (Executed (Posted outcome)) new calls
     → P (need_at old k i) (sent_at old k i) outcome calls
 
--- Successful Completion (0:00): the command has done all that it needed, once, and nothing else.
+-- Successful Completion (0:00): the command has made exactly the calls that it needed.
 abbrev pub SuccessIsWhole : Type 0
 SuccessIsWhole =
-    OfEachAnswer (λ needed sent outcome calls. outcome.status ≡ status.successful_completion → AreWhole needed sent calls)
+    OfEachAnswer
+    (λ needed sent outcome calls. outcome.status ≡ status.successful_completion → AreWhole needed sent calls)
 
 -- Write Fault (2:80): a write or a flush failed, and the blocks before it are written.
 abbrev pub WriteFaultNamesTheFront : Type 0
@@ -101,20 +119,21 @@ WriteFaultNamesTheFront =
 -- Unrecovered Read Error (2:81): a read failed, and the blocks before it were read.
 abbrev pub ReadErrorNamesTheFront : Type 0
 ReadErrorNamesTheFront =
-    OfEachAnswer (λ needed sent outcome calls. outcome.status ≡ status.unrecovered_read_error → StopReading needed calls)
+    OfEachAnswer
+    (λ needed sent outcome calls. outcome.status ≡ status.unrecovered_read_error → StopReading needed calls)
 
 -- Compare Failure (2:85): the blocks up to the first that differs were read.
 abbrev pub CompareFailureNamesTheFront : Type 0
 CompareFailureNamesTheFront =
     OfEachAnswer (λ needed sent outcome calls. outcome.status ≡ status.compare_failure → StopComparing needed calls)
 
--- No other status is that of a call: whatever was needed, none was made.
+-- With any other status, no call was made.
 abbrev pub OtherAnswersCallNothing : Type 0
 OtherAnswersCallNothing =
     OfEachAnswer (λ needed sent outcome calls. outcome.status ≢ status.successful_completion
     → outcome.status ≢ status.write_fault → outcome.status ≢ status.unrecovered_read_error
     → outcome.status ≢ status.compare_failure → calls ≡ [])
 
--- A command that a rule denies, as its answer says, has made no call.
+-- A command that a rule denied, according to its answer, has made no call.
 abbrev pub DenialCallsNothing : Type 0
 DenialCallsNothing = OfEachAnswer (λ needed sent outcome calls. outcome.rule ≢ 0 → calls ≡ [])

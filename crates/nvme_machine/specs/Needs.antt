@@ -1,10 +1,20 @@
--- Which calls of the medium the execution of a fetched command may make. The rules on access decide it before the
--- execution: neither the data of the command nor its data pointer are looked at.
+-- The calls of the medium that the execution of a fetched command may make. They follow from the rules on access,
+-- before the execution, without the command's data or data pointer.
 use Rattle.std.specs.Prelude.{◌<◌, ◌≤◌, ℕ, ◌+◌, ◌==◌, Bool, if◌then◌else◌, List, Option, None, Some, slice_get}
 use Rattle.std.specs.List.{AllByRecursion}
 use Rattle.nvme_wire.specs.Submission.{nsid}
 use Rattle.nvme_spec.specs.declared.command.Command.{Command}
-use Rattle.nvme_spec.specs.declared.command.Command.TheVariants.{Flush, Write, Read, Compare, WriteZeroes, ReservationRegister, ReservationReport, ReservationAcquire, ReservationRelease}
+use Rattle.nvme_spec.specs.declared.command.Command.TheVariants.{
+  Flush,
+  Write,
+  Read,
+  Compare,
+  WriteZeroes,
+  ReservationRegister,
+  ReservationReport,
+  ReservationAcquire,
+  ReservationRelease,
+}
 use Rattle.nvme_spec.specs.declared.verdict.Verdict.{Verdict}
 use Rattle.nvme_spec.specs.declared.verdict.Verdict.TheVariants.{Allowed, Denied}
 use Rattle.nvme_spec.specs.Execution.{start_of}
@@ -32,12 +42,12 @@ need_by ReservationReport first blocks = need.Nothing
 need_by ReservationAcquire first blocks = need.Nothing
 need_by ReservationRelease first blocks = need.Nothing
 
--- by what the rules on access answer: a denied command needs nothing
+-- by the verdict of the rules on access: a denied command needs nothing
 abbrev pub need_in : Verdict → Option Namespace → Need
 need_in (Denied number why) space = need.Nothing
 need_in (Allowed plan) space = need_by plan.kind (start_of space + plan.first) plan.blocks
 
--- what a command needs that this controller has fetched; one of the admin queue needs nothing
+-- what a fetched command of this controller needs; one of the admin queue needs nothing
 unfoldable pub need_of : World → ℕ → FetchedCommand → Need
 need_of w cntlid t =
     if t.queue == 0 then need.Nothing
@@ -51,7 +61,7 @@ abbrev pub need_of_its : World → ℕ → ℕ → Option Controller → Need
 need_of_its w cntlid i None = need.Nothing
 need_of_its w cntlid i (Some c) = need_of_one w cntlid (slice_get c.fetched i)
 
--- what the i-th of the commands needs that a controller has fetched; if there is none, nothing
+-- what the i-th fetched command of a controller needs; nothing if it does not exist
 abbrev pub need_at : Subsystem → ℕ → ℕ → Need
 need_at s cntlid i = need_of_its s.world cntlid i (controller_at s cntlid)
 
@@ -63,8 +73,8 @@ IsNeeded (need.Zero first blocks) (Writes b bytes answer) = (first ≤ b) × (b 
 IsNeeded need.Flush (Flushes answer) = Unit {0}
 IsNeeded other call = ⊥
 
--- An execution makes no call outside what its command needed: it reads and writes no other block, and flushes only for a
--- Flush.
+-- An execution makes no call outside what its command needed: it reads and writes no other block, and flushes only for
+-- a Flush.
 abbrev pub CallsAreNeeded : Type 0
 CallsAreNeeded =
     (tells : Bool) → (old new : Subsystem) → (k i : ℕ) → (seen : Seen) → (calls : List MediumCall)

@@ -1,6 +1,29 @@
--- A completion that was posted stands in its queue until its host's doorbell says that it has consumed it (Base
--- Specification: Completion Queue Head Doorbell, Completion Queue, Full Queue).
-use Rattle.std.specs.Prelude.{◌≡◌, ◌≢◌, ◌⊎◌, ◌<◌, ◌≤◌, ◌+◌, ◌*◌, ◌==◌, ◌&&◌, nat_lt, nat_le, ℕ, Bool, true, if◌then◌else◌, List, [], ◌∷◌, length, Some, slice_get, slice_range}
+-- Statements of the law `completions_stand`: a completion that was posted stays in its queue until its host's doorbell
+-- shows that it has consumed it (Base Specification: Completion Queue Head Doorbell, Completion Queue, Full Queue).
+use Rattle.std.specs.Prelude.{
+  ◌≡◌,
+  ◌≢◌,
+  ◌⊎◌,
+  ◌<◌,
+  ◌≤◌,
+  ◌+◌,
+  ◌*◌,
+  ◌==◌,
+  ◌&&◌,
+  nat_lt,
+  nat_le,
+  ℕ,
+  Bool,
+  true,
+  if◌then◌else◌,
+  List,
+  [],
+  ◌∷◌,
+  length,
+  Some,
+  slice_get,
+  slice_range,
+}
 use Rattle.std.specs.List.{list_any}
 use Rattle.nvme_wire.specs.Submission.{opcode}
 use Rattle.nvme_spec.specs.declared.outcome.Outcome.{Outcome}
@@ -18,23 +41,31 @@ use Rattle.nvme_machine.specs.declared.fetched.FetchedCommand.{FetchedCommand}
 use Rattle.nvme_machine.specs.declared.seen.Executed.TheVariants.{Posted}
 use Rattle.nvme_machine.specs.declared.seen.Seen.{Seen}
 use Rattle.nvme_machine.specs.declared.seen.Seen.TheVariants.{Executed}
-use Rattle.nvme_machine.specs.Controllers.{Controller, CompletionQueue, QueuePair, completion_at, open_pair, completion_slot, completion_of}
+use Rattle.nvme_machine.specs.Controllers.{
+  Controller,
+  CompletionQueue,
+  QueuePair,
+  completion_at,
+  open_pair,
+  completion_slot,
+  completion_of,
+}
 use Rattle.nvme_machine.specs.Subsystems.{Subsystem, Step, controller_at}
 use Rattle.nvme_machine.specs.Runs.{Waits}
 use Rattle.nvme_machine.specs.Windows.{AllHaveTheirWindows}
 use Rattle.nvme_machine.specs.Preempted.{change_of}
 
--- how far a slot lies behind the tail of its queue
+-- the distance from a slot to the tail of its queue
 abbrev pub behind : CompletionTail → ℕ → ℕ
 behind q slot = ahead q.size (slot_of q.size q.posted) slot
 
--- a slot whose completion the host has not consumed: it lies from the head that the host has told up to the tail
+-- a slot whose completion the host has not consumed: it is between the head, by the doorbell, and the tail
 pub record IsUnread (q : CompletionTail) (slot : ℕ) : Type 0 where
   pub inside : slot < q.size
   pub posted : 0 < behind q slot
   pub unread : behind q slot ≤ q.unread
 
--- An entry of a completion queue: the identifier of the queue, its address, the slot, and the bytes that stand there.
+-- An entry of a completion queue: the identifier of the queue, its address, the slot, and the entry's bytes.
 pub record PostedEntry : Type 0 where
   pub queue : ℕ
   pub base : ℕ
@@ -44,7 +75,7 @@ pub record PostedEntry : Type 0 where
 abbrev pub entry_address : PostedEntry → ℕ
 entry_address e = e.base + 16 * e.slot
 
--- it stands in the window of a controller, in its queue there, and is unread
+-- it is in the window of a controller, in its queue, and unread
 pub record StandsUnread (e : PostedEntry) (c : Controller) : Type 0 where
   pub found_in : CompletionQueue
   pub at : completion_at c e.queue ≡ Some found_in
@@ -52,7 +83,7 @@ pub record StandsUnread (e : PostedEntry) (c : Controller) : Type 0 where
   pub unread : IsUnread found_in.tail e.slot
   pub stands : slice_range c.window (entry_address e) (entry_address e + 16) ≡ e.bytes
 
--- A command that is executed has its completion stand unread in the queue that it was posted to.
+-- The completion of an executed command is unread in the queue that it was posted to.
 abbrev pub PostedIsUnread : Type 0
 PostedIsUnread =
     (tells : Bool) → (old new : Subsystem) → (k i : ℕ) → (c : Controller) → (t : FetchedCommand) → (p : QueuePair)
@@ -66,13 +97,13 @@ PostedIsUnread =
       bytes = completion_of t p outcome.status outcome.dw0;
     }) d
 
--- What takes an unread entry from its queue, or its bytes.
+-- Events that take an unread entry from its queue, or change its bytes.
 
--- so many bytes from an address on share one with the entry
+-- some of these bytes are bytes of the entry
 abbrev pub Overlaps : ℕ → ℕ → PostedEntry → Type 0
 Overlaps start len e = (start < entry_address e + 16) × (entry_address e < start + len)
 
--- some address of these is one of the entry's
+-- one of these addresses is one of the entry's
 abbrev pub is_touched : List ℕ → PostedEntry → Bool
 is_touched places e = list_any (λ a. nat_le (entry_address e) a && nat_lt a (entry_address e + 16)) places
 
@@ -83,8 +114,8 @@ addresses_of c t =
     then data_addresses (admin.data_length_of (admin.command_of (opcode t.entry)) t.entry) c.window t.entry
     else data_addresses (io.data_length_of (io.command_of (opcode t.entry)) t.entry) c.window t.entry
 
--- The i-th command of its controller is executed, and takes it: its data may go there, its completion may go to another
--- queue that lies over this one, or it deletes the queue.
+-- The execution of the i-th command of its controller may take it: the command's data may overwrite it, its completion
+-- may be posted to another queue that overlaps this one, or it deletes the queue.
 pub record TakesByExecution (s : Subsystem) (k : ℕ) (c : Controller) (i : ℕ) (e : PostedEntry) : Type 0 where
   pub command : FetchedCommand
   pub pair : QueuePair
@@ -94,13 +125,13 @@ pub record TakesByExecution (s : Subsystem) (k : ℕ) (c : Controller) (i : ℕ)
       ⊎ ((pair.submission.cqid ≢ e.queue) × Overlaps (completion_slot pair.completion) 16 e)
       ⊎ (change_of s k c command ≡ DropCq e.queue)
 
--- its host's doorbell tells a head behind which it lies no more
+-- its host's doorbell writes a head after it
 pub record Consumes (c : Controller) (e : PostedEntry) (v : ℕ) : Type 0 where
   pub found_in : CompletionQueue
   pub at : completion_at c e.queue ≡ Some found_in
   pub consumed : IsUnread (after_head_doorbell found_in.tail v) e.slot → ⊥
 
--- a register write takes it: a reset, an enabling, or the doorbell
+-- a register write takes it: a reset, an enabling write, or the doorbell
 abbrev pub TakesByWrite : Controller → PostedEntry → RegEffect → Type 0
 TakesByWrite c e Nothing = ⊥
 TakesByWrite c e Enable = Unit {0}
@@ -118,8 +149,8 @@ TakesEntry s j c e (Fetch k q) = ⊥
 TakesEntry s j c e PowerCycle = Unit {0}
 TakesEntry s j c e (Execute k i) = (k ≡ j) × TakesByExecution s k c i e
 
--- An unread entry stands, whatever any controller does, and no later completion takes its slot, until an event of its
--- own host takes it, or power is lost.
+-- An unread entry stays, and no later completion takes its slot, until an event of its own host takes it, or power is
+-- lost. Other events leave it unread.
 abbrev pub UnreadStands : Type 0
 UnreadStands =
     (tells : Bool) → (old new : Subsystem) → (event : Event) → (seen : Seen) → Step tells old event seen new
@@ -137,7 +168,7 @@ RunSparing tells j e old (event ∷ events) (seen ∷ later) new =
 RunSparing tells j e old [] (seen ∷ later) new = ⊥
 RunSparing tells j e old (event ∷ events) [] new = ⊥
 
--- so over runs
+-- an unread entry stays in any run without an event that takes it
 abbrev pub UnreadStandsOverRuns : Type 0
 UnreadStandsOverRuns =
     (tells : Bool) → (old new : Subsystem) → (events : List Event) → (seen : List Seen) → (j : ℕ) → (e : PostedEntry)

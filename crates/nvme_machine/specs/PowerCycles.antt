@@ -1,5 +1,5 @@
--- What a power cycle takes and leaves, and what outlasts it (Base Specification: Persist Through Power Loss of
--- Reservations; Namespace Write Protection).
+-- Statements of the laws about power cycles: what one removes and leaves, and what persists (Base Specification:
+-- Persist Through Power Loss of Reservations; Namespace Write Protection).
 use Rattle.std.specs.Prelude.{◌≡◌, ◌≢◌, ℕ, Bool, true, false, List, [], None, Some, option_map}
 use Rattle.std.specs.List.{AllByRecursion}
 use Rattle.nvme_spec.specs.declared.access.Protection.TheVariants.{Open, Protected, UntilCycle}
@@ -23,17 +23,17 @@ pub record Persists (w : World) (n : ℕ) : Type 0 where
   pub there : reservation_of w n ≡ Some reservation
   pub set : reservation.ptpl ≡ true
 
--- a controller that was not enabled since it has power: its registers are as they begin, and it has no queue and no
--- fetched command
+-- a controller that was not enabled since power returned: its registers are initial, and it has no queue and no fetched
+-- command
 pub record IsUnused (c : Controller) : Type 0 where
   pub registers : c.registers ≡ initial_registers
   pub submission : (q : ℕ) → submission_at c q ≡ None
   pub completion : (q : ℕ) → completion_at c q ≡ None
   pub fetched : c.fetched ≡ []
 
--- What power takes: no controller has a queue, a fetched command or is enabled, and write protection until a power
--- cycle has ended. What it leaves: every window, every block, who is attached to what, the other protections, and the
--- reservations that persist; of the others nothing is left.
+-- A power cycle removes all queues, fetched commands and enabled states, and write protection until a power cycle. It
+-- leaves every window, block and attachment, other protections, and the reservations that persist; other reservations
+-- are gone.
 pub record IsCycled (old new : Subsystem) : Type 0 where
   pub places : KeepsPlaces old.world new.world
   pub device : new.device ≡ old.device
@@ -52,7 +52,7 @@ abbrev pub PowerTakes : Type 0
 PowerTakes =
     (tells : Bool) → (old new : Subsystem) → (seen : Seen) → Step tells old PowerCycle seen new → IsCycled old new
 
--- What persists outlasts every run in which no reservation command on the namespace is executed but denied ones.
+-- A persistent reservation stays persistent in every run in which each reservation command on the namespace is denied.
 abbrev pub PersistenceLasts : Type 0
 PersistenceLasts =
     (old new : Subsystem) → (events : List Event) → (seen : List Seen) → (n : ℕ) → Persists old.world n
@@ -60,8 +60,8 @@ PersistenceLasts =
     → RunWhere (LeavesReservation n) old events seen new
     × (reservation_of new.world n ≡ reservation_of old.world n)
 
--- Fencing outlasts power: while the reservation of a namespace persists, and no reservation command on it is executed
--- but denied ones, hosts that may not write it change none of its bytes over any run, with any number of power cycles
+-- Fencing outlasts power. Suppose that the reservation of a namespace persists, and that every reservation command on
+-- it is denied. Then hosts that may not write it change none of its bytes in any run, with any number of power cycles
 -- at any moment; and they still may not write it.
 abbrev pub FencingOutlastsPower : Type 0
 FencingOutlastsPower =
@@ -71,7 +71,8 @@ FencingOutlastsPower =
     → AllByRecursion (OfItsController (λ k. may_write old.world k n ≡ false)) events
     → (namespace_bytes new n ≡ namespace_bytes old n) × ((k : ℕ) → may_write new.world k n ≡ may_write old.world k n)
 
--- The same for hosts that may not read it: what they see and find, they can see and find where its bytes are others.
+-- Hosts that may not read the namespace get results, and find memory, that are possible with any other bytes of the
+-- namespace too.
 abbrev pub SecrecyOutlastsPower : Type 0
 SecrecyOutlastsPower =
     (old new : Subsystem) → (medium : Device) → (events : List Event) → (seen : List Seen) → (n : ℕ)
@@ -81,7 +82,7 @@ SecrecyOutlastsPower =
     × DifferIn n new.world new.device left
 
 -- Protected until power: while power is not lost, no event changes a byte of a namespace that is write protected until
--- then, and none takes the protection off.
+-- then, and none removes the protection.
 abbrev pub ProtectedUntilPower : Type 0
 ProtectedUntilPower =
     (old new : Subsystem) → (events : List Event) → (seen : List Seen) → (n : ℕ)

@@ -1,5 +1,24 @@
--- What holds of every step and of every run.
-use Rattle.std.specs.Prelude.{◌≡◌, ◌≢◌, ◌⊎◌, ◌<◌, ◌≤◌, ◌-◌, ◌^◌, ◌==◌, ℕ, Bool, true, false, List, Option, Some, Err, option_map, slice_get}
+-- Statements of laws about every step and every run.
+use Rattle.std.specs.Prelude.{
+  ◌≡◌,
+  ◌≢◌,
+  ◌⊎◌,
+  ◌<◌,
+  ◌≤◌,
+  ◌-◌,
+  ◌^◌,
+  ◌==◌,
+  ℕ,
+  Bool,
+  true,
+  false,
+  List,
+  Option,
+  Some,
+  Err,
+  option_map,
+  slice_get,
+}
 use Rattle.nvme_spec.specs.declared.outcome.Outcome.{Outcome}
 use Rattle.nvme_spec.specs.declared.queues.QueueChange.TheVariants.{Keep, DropSq}
 use Rattle.nvme_spec.specs.declared.registers.RegEffect.{RegEffect}
@@ -19,25 +38,43 @@ use Rattle.nvme_machine.specs.declared.fetched.FetchedCommand.{FetchedCommand}
 use Rattle.nvme_machine.specs.declared.seen.Executed.TheVariants.{Posted}
 use Rattle.nvme_machine.specs.declared.seen.Seen.{Seen}
 use Rattle.nvme_machine.specs.declared.seen.Seen.TheVariants.{Executed}
-use Rattle.nvme_machine.specs.Controllers.{Controller, QueuePair, queues_of, open_pair, after_posting, with_marks, power_cycled}
+use Rattle.nvme_machine.specs.Controllers.{
+  Controller,
+  QueuePair,
+  queues_of,
+  open_pair,
+  after_posting,
+  with_marks,
+  power_cycled,
+}
 use Rattle.nvme_machine.specs.CommandExecutions.{judgement}
-use Rattle.nvme_machine.specs.Subsystems.{Subsystem, Step, Run, controller_at, controller_of, with_controller, scene_of, is_host_among, after_execution}
+use Rattle.nvme_machine.specs.Subsystems.{
+  Subsystem,
+  Step,
+  Run,
+  controller_at,
+  controller_of,
+  with_controller,
+  scene_of,
+  is_host_among,
+  after_execution,
+}
 use Rattle.nvme_machine.specs.FaultFree.{fault_free_seen, fault_free_left}
 
--- the count of failures never falls
+-- the failure count never falls
 abbrev pub FailuresNeverFall : Type 0
 FailuresNeverFall =
     (tells : Bool) → (old new : Subsystem) → (events : List Event) → (seen : List Seen)
     → Run tells old events seen new → old.device.failures ≤ new.device.failures
 
--- From each state whose namespaces lie on its medium there is a run over each list of events without a fault.
+-- From each state whose namespaces are on its medium, each list of events has a run without a fault.
 abbrev pub RunExists : Type 0
 RunExists =
     (old : Subsystem) → (events : List Event) → IsLaidOut old.world old.device.content
     → Run true old events (fault_free_seen old events) (fault_free_left old events)
     × ((fault_free_left old events).device.failures ≡ old.device.failures)
 
--- And that is the one run without a fault: what is seen and what is left are determined.
+-- And that is the only run without a fault: its results and its last state are determined.
 abbrev pub RunIsUnique : Type 0
 RunIsUnique =
     (old new : Subsystem) → (events : List Event) → (seen : List Seen) → Run true old events seen new
@@ -50,8 +87,8 @@ pub record Waits (s : Subsystem) (k i : ℕ) (c : Controller) (t : FetchedComman
   pub found : slice_get c.fetched i ≡ Some t
   pub room : open_pair c t ≡ Some p
 
--- A command that a rule denies is answered with the status of the first such rule, and changes its completion entry,
--- the counts of its completion queue and its list, and nothing else.
+-- A command that a rule denies is answered with the status of the first such rule, and changes only its completion
+-- entry, the counts of its completion queue and its list.
 abbrev pub DeniedChangesItsEntryAlone : Type 0
 DeniedChangesItsEntryAlone =
     (tells : Bool) → (old new : Subsystem) → (k i : ℕ) → (c : Controller) → (t : FetchedCommand) → (p : QueuePair)
@@ -61,7 +98,7 @@ DeniedChangesItsEntryAlone =
     → (seen ≡ Executed (Posted (denial_outcome denial.rule denial.status)))
     × (new ≡ with_controller old k (after_posting i t p denial.status 0 c))
 
--- An I/O command that all rules let pass, in the world of its execution, does its effect there, and only then is its
+-- An I/O command that all rules let pass, in the world of its execution, has its effect there, and only then is its
 -- completion posted.
 pub record DoesItsEffect (tells : Bool) (plan : Plan) (old new : Subsystem) (k i : ℕ) (c : Controller)
     (t : FetchedCommand) (p : QueuePair) (seen : Seen) : Type 0 where
@@ -86,8 +123,8 @@ pub record IsMarkedBy (w : World) (seen : Seen) (other : ℕ) (old new : Option 
   pub removed : is_host_among outcome.marks.hosts.items (host_of w other) ≡ true
   pub marked : new ≡ option_map (with_marks outcome.marks.nsid) old
 
--- An event on one controller changes of the others at most marks, and a power cycle resets them all; so no event
--- changes a window but its own.
+-- An event on one controller changes nothing of the others except marks, and a power cycle resets them all. So no event
+-- changes another controller's window.
 abbrev pub OthersChangeInMarksAlone : Type 0
 OthersChangeInMarksAlone =
     (tells : Bool) → (old new : Subsystem) → (event : Event) → (seen : Seen) → Step tells old event seen new
@@ -96,13 +133,13 @@ OthersChangeInMarksAlone =
     ⊎ IsMarkedBy new.world seen other (controller_at old other) (controller_at new other)
     ⊎ ((event ≡ PowerCycle) × (controller_at new other ≡ option_map power_cycled (controller_at old other)))
 
--- the same command, marked where it was, and perhaps now
+-- the same command, which keeps its mark, or gets one
 pub record IsStill (t u : FetchedCommand) : Type 0 where
   pub entry : u.entry ≡ t.entry
   pub queue : u.queue ≡ t.queue
   pub marked : t.marked ≡ true → u.marked ≡ true
 
--- a command stands somewhere in the list of a controller
+-- a command is somewhere in the list of a controller
 pub record StandsIn (t : FetchedCommand) (d : Controller) : Type 0 where
   pub place : ℕ
   pub found_as : FetchedCommand
@@ -125,7 +162,7 @@ IsReset Shutdown = ⊥
 IsReset (SqTail q v) = ⊥
 IsReset (CqHead q v) = ⊥
 
--- an event takes the m-th command of controller j out of its list: the command is executed, its queue is deleted, the
+-- an event removes the m-th command of controller j from its list: the command is executed, its queue is deleted, the
 -- controller is reset, or power is lost
 abbrev pub TakesOut : Subsystem → Controller → ℕ → ℕ → FetchedCommand → Event → Type 0
 TakesOut old c j m t (Execute k i) = (k ≡ j) × ((i ≡ m) ⊎ Deletes (scene_of old c) c k i t.queue)

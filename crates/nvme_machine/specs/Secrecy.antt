@@ -1,4 +1,5 @@
--- What hosts that may not read a namespace learn of its bytes, over runs: nothing.
+-- Statements of the law `fenced_hosts_read_nothing`: hosts that may not read a namespace learn nothing of its bytes
+-- over runs.
 use Rattle.std.specs.Prelude.{◌≡◌, ◌≢◌, ◌<◌, ◌-◌, ◌^◌, ℕ, true, false, List, length}
 use Rattle.std.specs.List.{AllByRecursion}
 use Rattle.nvme_spec.specs.Blocks.{Device}
@@ -13,8 +14,7 @@ use Rattle.nvme_machine.specs.Fencing.{RunWhere, LeavesReservation}
 abbrev pub over : Device → Subsystem → Subsystem
 over d s = record s { device = d }
 
--- two media have as many bytes and have counted as many failures, and the bytes of every namespace but this one are the
--- same
+-- two media have the same length and failure count, and differ only in the bytes of this namespace
 pub record DifferIn (n : ℕ) (w : World) (d e : Device) : Type 0 where
   pub failures : e.failures ≡ d.failures
   pub size : length e.content ≡ length d.content
@@ -24,9 +24,9 @@ pub record DifferIn (n : ℕ) (w : World) (d e : Device) : Type 0 where
 abbrev pub MayNotRead : World → ℕ → List Event → Type 0
 MayNotRead w n events = AllByRecursion (OfItsController (λ k. may_read w k n ≡ false)) events
 
--- Fenced reading: while no reservation command on a namespace is executed but denied ones, and power is not lost or the
--- reservation persists, whatever hosts that may not read it see and find in their memory, they can see and find as well
--- where its bytes are others.
+-- Fenced reading. Suppose that every reservation command on a namespace is denied, and power is not lost or the
+-- reservation persists. Then hosts that may not read it get results, and find memory, that are possible with any other
+-- bytes of the namespace too.
 abbrev pub FencedReading : Type 0
 FencedReading =
     (old new : Subsystem) → (medium : Device) → (events : List Event) → (seen : List Seen) → (n : ℕ)
@@ -36,7 +36,7 @@ FencedReading =
     → (left : Device) × RunWhere (LeavesReservation n) (over medium old) events seen (over left new)
     × DifferIn n new.world new.device left
 
--- And without a fault of the medium they do see and find the same: all answers, windows and controllers are equal.
+-- And without a fault of the medium they are the same: all results, windows and controllers are equal.
 abbrev pub FencedReadingIsSame : Type 0
 FencedReadingIsSame =
     (old new other : Subsystem) → (medium : Device) → (events : List Event) → (seen others : List Seen) → (n : ℕ)

@@ -1,4 +1,4 @@
--- Windows keep their bytes, and queues lie in them.
+-- Statements of the law `windows_keep_their_bytes`: windows keep their length, and queues are inside.
 use Rattle.std.specs.Prelude.{◌≡◌, ℕ, Bool, List, length, Some}
 use Rattle.nvme_spec.specs.Blocks.{Device}
 use Rattle.nvme_spec.specs.Configuration.{Configuration}
@@ -10,11 +10,11 @@ use Rattle.nvme_machine.specs.declared.seen.Seen.{Seen}
 use Rattle.nvme_machine.specs.Controllers.{Controller, SubmissionQueue, CompletionQueue, submission_at, completion_at}
 use Rattle.nvme_machine.specs.Subsystems.{Subsystem, Run, controller_at, opening}
 
--- a submission queue lies in the window, and its counts are within its size
+-- a submission queue is in the window, and its counts are within its size
 abbrev pub SubmitsInside : SubmissionQueue → Type 0
 SubmitsInside s = IsQueuePlace s.base s.head.size 64 × FitsSubmissionHead s.head
 
--- so does a completion queue
+-- so is a completion queue
 abbrev pub LiesInside : CompletionQueue → Type 0
 LiesInside x = IsQueuePlace x.base x.tail.size 16 × FitsCompletionTail x.tail
 

@@ -1,4 +1,4 @@
-//! What events give, but for what an execution marks: that has room for sixteen hosts, and each move of it costs.
+//! The results of events without the marks of an execution, whose list of sixteen hosts is costly to move.
 
 ghost use Rattle.std.specs.Prelude.{◌≡◌};
 ghost use Rattle.nvme_machine.specs.Bare.{outcome_with, executed_with, seen_with};
@@ -7,19 +7,19 @@ use crate::seen::{Executed, Fetched, Seen};
 use nvme_spec::{Marks, Outcome};
 use nvme_wire::Status;
 
-/// What the execution of a command answers, but for what it marks.
+/// The outcome of an executed command, without its marks.
 #[derive(Clone, Copy, Debug, PartialEq, Eq)]
 pub struct BareOutcome {
     /// The status of the completion queue entry.
     pub status: Status,
     /// Double word 0 of the completion queue entry.
     pub dw0: u32,
-    /// The number of the rule that denied the command, or 0 where it was allowed.
+    /// The number of the rule that denied the command, or 0 if it was allowed.
     pub rule: u8,
 }
 
 impl BareOutcome {
-    /// The same, with what is marked.
+    /// The outcome with these marks.
     #[inline(always)]
     pub fn with(self, marks: Marks) -> Outcome
         ensures { result ≡ outcome_with marks self }
@@ -33,19 +33,19 @@ impl BareOutcome {
     }
 }
 
-/// What came of an execution, but for what it marks.
+/// The result of an execution, without its marks.
 #[derive(Clone, Copy, Debug, PartialEq, Eq)]
 pub enum BareExecuted {
     /// The command was executed, and its completion posted.
     Posted(BareOutcome),
     /// There is no such command.
     NoSuch,
-    /// The completion queue has no room; the command waits.
+    /// The completion queue is full; the command waits.
     CqFull,
 }
 
 impl BareExecuted {
-    /// The same, with what is marked.
+    /// The result with these marks.
     #[inline(always)]
     pub fn with(self, marks: Marks) -> Executed
         ensures { result ≡ executed_with marks self }
@@ -58,29 +58,29 @@ impl BareExecuted {
     }
 }
 
-/// What an event gave, but for what an execution marks.
+/// The result of an event, without the marks of an execution.
 #[derive(Clone, Copy, Debug, PartialEq, Eq)]
 pub enum BareSeen {
     /// The bytes are stored.
     Stored,
-    /// They do not all lie in the memory; nothing is stored.
+    /// Some of the bytes are outside the memory; nothing is stored.
     Outside,
     /// The register is written.
     Wrote,
     /// The value of the register.
     Value(u32),
-    /// What came of the fetch.
+    /// The result of a fetch.
     Fetched(Fetched),
-    /// What came of the execution.
+    /// The result of an execution.
     Executed(BareExecuted),
-    /// Power was lost, and came back.
+    /// Power was lost, and has returned.
     Cycled,
     /// There is no such controller.
     NoController,
 }
 
 impl BareSeen {
-    /// The same, with what is marked.
+    /// The result with these marks.
     #[inline(always)]
     pub fn with(self, marks: Marks) -> Seen
         ensures { result ≡ seen_with marks self }

@@ -1,7 +1,7 @@
-//! The machine, in a crate of its own so that its laws are proved before the code that keeps to them: what controllers
-//! and their subsystem are, and what each event makes of them. `specs` has the definitions (NVM Express Base
-//! Specification 2.0: Controller Registers, Queues, Command Fetching, Controller Reset), `laws` what follows from them
-//! over every run of events; beside them stand the plain types that both speak of.
+//! The machine: the state of controllers and their subsystem, and the effect of each event. `specs` has the definitions
+//! (NVM Express Base Specification 2.0: Controller Registers, Queues, Command Fetching, Controller Reset), `laws` has
+//! what follows from them for every run, and `src` has the types of both. The code depends on this crate, so the laws
+//! are proved before the code.
 #![tactic(auto)]
 
 mod bare;

@@ -1,11 +1,11 @@
-//! What the execution of a command may ask of the medium.
+//! What the execution of a command may need of the medium.
 
-/// The calls of the medium that the execution of a command may make. Blocks are counted from the first of the medium.
+/// The calls of the medium that the execution of a command may make. Blocks are numbered from the first of the medium.
 #[derive(Clone, Copy, Debug, PartialEq, Eq)]
 pub enum Need {
     /// None: an admin command, a reservation command, or one that a rule on access denies.
     Nothing,
-    /// Reads of `blocks` blocks, from `first` on: Read and Compare.
+    /// Reads of `blocks` blocks from `first`: Read and Compare.
     Read { first: u64, blocks: u32 },
     /// Writes of these blocks: Write.
     Write { first: u64, blocks: u32 },

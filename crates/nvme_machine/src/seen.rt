@@ -1,44 +1,44 @@
-//! What an event gives to see.
+//! The results of events.
 
 use nvme_spec::Outcome;
 
-/// What came of a fetch.
+/// The result of a fetch.
 #[derive(Clone, Copy, Debug, PartialEq, Eq)]
 pub enum Fetched {
-    /// A command was taken.
+    /// A command was fetched.
     Took,
-    /// None was: the controller does not run, has fetched as many as it can keep, has no such queue, or none waits
-    /// there.
+    /// No command was fetched: the controller does not run, holds as many fetched commands as it can, has no such
+    /// queue, or no command waits there.
     Idle,
 }
 
-/// What came of an execution.
+/// The result of an execution.
 #[derive(Drop)]
 pub enum Executed {
     /// The command was executed, and its completion posted.
     Posted(Outcome),
     /// There is no such command.
     NoSuch,
-    /// The completion queue has no room; the command waits.
+    /// The completion queue is full; the command waits.
     CqFull,
 }
 
-/// What an event gave.
+/// The result of an event.
 #[derive(Drop)]
 pub enum Seen {
     /// The bytes are stored.
     Stored,
-    /// They do not all lie in the memory; nothing is stored.
+    /// Some of the bytes are outside the memory; nothing is stored.
     Outside,
     /// The register is written.
     Wrote,
     /// The value of the register.
     Value(u32),
-    /// What came of the fetch.
+    /// The result of the fetch.
     Fetched(Fetched),
-    /// What came of the execution.
+    /// The result of the execution.
     Executed(Executed),
-    /// Power was lost, and came back.
+    /// Power was lost, and has returned.
     Cycled,
     /// There is no such controller.
     NoController,

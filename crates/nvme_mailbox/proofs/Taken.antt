@@ -1,5 +1,54 @@
--- Each request that waits in a mailbox was taken by its driver.
-use Rattle.nvme_mailbox.proofs.Words.{all-joined, ◌≡◌, ℕ, ◌++◌, Bool, true, false, not, List, [], ◌∷◌, map, Option, None, Some, refl, sym, subst, if◌then◌else◌, slice_get, AllByRecursion, Device, Configuration, PlaceRefusal, NotReady, BadRequest, Request, is_bad, FleetEvent, Reply, FetchedItem, Item, LaneBox, Mailbox, PostedAnswer, refusal, Fleet, Raw, Step, WithDriver, host_at, marked, opening, HoldsTaken, WasTaken, posted_answers, requests_in, waiting}
+-- For `Regular` and `Secrecy`: each request that waits in a mailbox was placed by its driver.
+use Rattle.nvme_mailbox.proofs.Words.{
+  all-joined,
+  ◌≡◌,
+  ℕ,
+  ◌++◌,
+  Bool,
+  true,
+  false,
+  not,
+  List,
+  [],
+  ◌∷◌,
+  map,
+  Option,
+  None,
+  Some,
+  refl,
+  sym,
+  subst,
+  if◌then◌else◌,
+  slice_get,
+  AllByRecursion,
+  Device,
+  Configuration,
+  PlaceRefusal,
+  NotReady,
+  BadRequest,
+  Request,
+  is_bad,
+  FleetEvent,
+  Reply,
+  FetchedItem,
+  Item,
+  LaneBox,
+  Mailbox,
+  PostedAnswer,
+  refusal,
+  Fleet,
+  Raw,
+  Step,
+  WithDriver,
+  host_at,
+  marked,
+  opening,
+  HoldsTaken,
+  WasTaken,
+  posted_answers,
+  requests_in,
+  waiting,
+}
 use Rattle.nvme_mailbox.proofs.Lists.{all-get}
 use Rattle.nvme_mailbox.specs.Fleets.{Host}
 use Rattle.nvme_mailbox.proofs.Answered.{Brings, Known, KnownIn, OfItem, all-marked, known-of, moves-known}
@@ -22,7 +71,8 @@ all-any (x ∷ xs) = (tt, all-any xs)
 takes : (m : Mailbox) → AllByRecursion WasTaken (waiting m) → Takes m
 takes m h = known-of WasTaken Any m h (all-any (posted_answers m))
 
-all-items : (P : Item → Type 0) (xs : List FetchedItem) → AllByRecursion (OfItem P) xs → AllByRecursion P (map (λ (f : FetchedItem). f.item) xs)
+all-items : (P : Item → Type 0) (xs : List FetchedItem)
+    → AllByRecursion (OfItem P) xs → AllByRecursion P (map (λ (f : FetchedItem). f.item) xs)
 all-items P [] h = tt
 all-items P (x ∷ xs) h = (h.0, all-items P xs h.1)
 
@@ -40,7 +90,8 @@ waits m h =
 not-refused : (m : Mailbox) (request : Request) → refusal m request ≡ None → is_bad request ≡ false
 not-refused m request h = by m.up (is_bad request) _ h
   where
-    by : (up bad : Bool) (rest : Option PlaceRefusal) → (if not up then Some NotReady else (if bad then Some BadRequest else rest)) ≡ None → bad ≡ false
+    by : (up bad : Bool) (rest : Option PlaceRefusal)
+        → (if not up then Some NotReady else (if bad then Some BadRequest else rest)) ≡ None → bad ≡ false
     by false bad rest h = absurd (cc)
     by true true rest h = absurd (cc)
     by true false rest h = refl
@@ -67,11 +118,17 @@ listed f all k (Raw c) at = tt
 pub holds-taken : (f : Fleet) → Each Holds f → HoldsTaken f
 holds-taken f all k m at = waits m (all k (WithDriver m) at)
 
-pub step : (tells : Bool) (old new : Fleet) (event : FleetEvent) (reply : Reply) → Step tells old event reply new → Each Holds old → Each Holds new
-step = step-keeps Holds (record { move = λ k v m may h. moves-known WasTaken Any v m may (brings v m may) h; marks = marked-holds; raw = λ k c d same h. h })
+pub step : (tells : Bool) (old new : Fleet) (event : FleetEvent) (reply : Reply)
+    → Step tells old event reply new → Each Holds old → Each Holds new
+step = step-keeps Holds (record {
+  move = λ k v m may h. moves-known WasTaken Any v m may (brings v m may) h;
+  marks = marked-holds;
+  raw = λ k c d same h. h;
+})
 
--- the request at a place of what was fetched
-pub at-place : (f : Fleet) (k i : ℕ) (m : Mailbox) (x : FetchedItem) → HoldsTaken f → host_at f k ≡ Some (WithDriver m) → slice_get m.fetched i ≡ Some x → WasTaken x.item
+-- the request at a place of the fetched ones
+pub at-place : (f : Fleet) (k i : ℕ) (m : Mailbox) (x : FetchedItem) → HoldsTaken f → host_at f k ≡ Some (WithDriver m)
+    → slice_get m.fetched i ≡ Some x → WasTaken x.item
 at-place f k i m x h at found = all-get (OfItem WasTaken) m.fetched i x found (takes m (h k m at)).2
 
 -- The opening.

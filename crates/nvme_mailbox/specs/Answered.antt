@@ -1,5 +1,5 @@
--- What is handed up as done is what an execution of its own request answered, and that request was placed: both in the
--- run since the mailbox was clear, as each reset leaves it.
+-- Statements of the law `done_is_its_execution`: an answer that is delivered as done is that of an execution of its own
+-- request, which was placed; both in the run since the mailbox was clear, as each reset leaves it.
 use Rattle.std.specs.Prelude.{◌≡◌, ◌⊎◌, ℕ, Bool, List, [], ◌∷◌, length, Some, Ok, slice_get}
 use Rattle.nvme_wire.specs.declared.status.Status.{Status}
 use Rattle.nvme_machine.specs.declared.seen.Executed.TheVariants.{Posted}
@@ -17,14 +17,14 @@ use Rattle.nvme_mailbox.specs.Fleets.{Fleet, Step, Run}
 use Rattle.nvme_mailbox.specs.Apart.{HasMailbox}
 use Rattle.nvme_mailbox.specs.Tickets.{waiting, posted_answers}
 
--- host k places a request, which takes this ticket and asks for this
+-- host k places a request, which gets this ticket and has these fields
 pub record Places (k : ℕ) (item : Item) (old : Fleet) (event : FleetEvent) (reply : Reply) (new : Fleet) : Type 0 where
   pub request : Request
   pub event_is : event ≡ Place k request
   pub asked : item.asked ≡ asked_of request
   pub gives : reply ≡ plain (Placed (Ok (record { 0 = item.ticket })))
 
--- What a request came to: the status, double word 0, and the data that came with them.
+-- The answer to a request: the status, double word 0, and the data.
 pub record Conclusion : Type 0 where
   pub status : Status
   pub dw0 : ℕ
@@ -33,7 +33,7 @@ pub record Conclusion : Type 0 where
 abbrev pub conclusion_of : RequestExecution → Conclusion
 conclusion_of r = record { status = r.outcome.status; dw0 = r.outcome.dw0; bytes = r.bytes }
 
--- controller k executes the request, in the site of that moment, and it comes to this
+-- controller k executes the request, in the site of that moment, with this answer
 pub record Executes (tells : Bool) (k : ℕ) (item : Item) (conclusion : Conclusion) (old : Fleet) (event : FleetEvent)
     (reply : Reply) (new : Fleet) : Type 0 where
   pub place : ℕ
@@ -49,12 +49,13 @@ pub record Executes (tells : Bool) (k : ℕ) (item : Item) (conclusion : Conclus
   pub leaves : new.site ≡ execution.left
   pub conclusion_is : conclusion ≡ conclusion_of execution
 
--- What happens in one event.
-abbrev pub Happening : Type 1
-Happening = Fleet → FleetEvent → Reply → Fleet → Type 0
+-- A property of one event.
+abbrev pub EventProperty : Type 1
+EventProperty = Fleet → FleetEvent → Reply → Fleet → Type 0
 
--- it happens in an event of the run
-abbrev pub Happens : Happening → (tells : Bool) → (old : Fleet) → (events : List FleetEvent) → (replies : List Reply)
+-- some event of the run has it
+abbrev pub Happens : EventProperty → (tells : Bool) → (old : Fleet) → (events : List FleetEvent)
+    → (replies : List Reply)
     → (new : Fleet) → Run tells old events replies new → Type 0
 Happens what tells old [] [] new run = ⊥
 Happens what tells old (event ∷ events) (reply ∷ later) new run =
@@ -62,8 +63,8 @@ Happens what tells old (event ∷ events) (reply ∷ later) new run =
 Happens what tells old [] (reply ∷ later) new run = ⊥
 Happens what tells old (event ∷ events) [] new run = ⊥
 
--- one happens in an event of the run, and the other in a later one
-abbrev pub HappensThen : Happening → Happening → (tells : Bool) → (old : Fleet) → (events : List FleetEvent)
+-- some event of the run has the first property, and a later one the second
+abbrev pub HappensThen : EventProperty → EventProperty → (tells : Bool) → (old : Fleet) → (events : List FleetEvent)
     → (replies : List Reply) → (new : Fleet) → Run tells old events replies new → Type 0
 HappensThen first then tells old [] [] new run = ⊥
 HappensThen first then tells old (event ∷ events) (reply ∷ later) new run =
@@ -83,7 +84,7 @@ ResetClears = (m : Mailbox) → IsClear (reset m).mailbox
 abbrev pub NewIsClear : Type 0
 NewIsClear = (first : ℕ) → IsClear (new_mailbox first)
 
--- The request with this ticket was placed in the run, was executed in a later event of it, and came to this.
+-- The request with this ticket was placed in the run, was executed in a later event of it, and got this answer.
 pub record WasPlacedAndExecuted (tells : Bool) (k ticket : ℕ) (conclusion : Conclusion) (old : Fleet)
     (events : List FleetEvent) (replies : List Reply) (new : Fleet)
     (run : Run tells old events replies new) : Type 0 where
@@ -91,7 +92,7 @@ pub record WasPlacedAndExecuted (tells : Bool) (k ticket : ℕ) (conclusion : Co
   pub ticket_is : item.ticket ≡ ticket
   pub happened : HappensThen (Places k item) (Executes tells k item conclusion) tells old events replies new run
 
--- What a Poll hands up as done after a run from there is what the execution of its own request came to.
+-- An answer that a Poll delivers as done after a run from there is that of the execution of its own request.
 abbrev pub DoneIsItsExecution : Type 0
 DoneIsItsExecution =
     (tells : Bool) → (old mid new : Fleet) → (events : List FleetEvent) → (replies : List Reply)
@@ -104,7 +105,7 @@ DoneIsItsExecution =
     × WasPlacedAndExecuted tells k ticket (record { status = status; dw0 = dw0; bytes = reply.bytes }) old events
     replies mid run
 
--- A ticket is given for one request: those that are placed in a run under the same ticket are the same.
+-- A ticket is issued for one request: those that are placed in a run with the same ticket are the same.
 abbrev pub TicketNamesItsRequest : Type 0
 TicketNamesItsRequest =
     (tells : Bool) → (old new : Fleet) → (events : List FleetEvent) → (replies : List Reply)
@@ -113,8 +114,8 @@ TicketNamesItsRequest =
     → Happens (Places k x) tells old events replies new run → Happens (Places k y) tells old events replies new run
     → x.ticket ≡ y.ticket → x ≡ y
 
--- So what is handed up as done under the ticket of a request that was placed in such a run is what the execution of
--- that very request came to, after it was placed.
+-- So an answer that is delivered as done with the ticket of a request that was placed in such a run is that of this
+-- request's execution, after it was placed.
 abbrev pub DoneAnswersItsRequest : Type 0
 DoneAnswersItsRequest =
     (tells : Bool) → (old mid new : Fleet) → (events : List FleetEvent) → (replies : List Reply)

@@ -1,5 +1,4 @@
--- What an event makes of the mailbox of one host: an event of its own all that is made of it, one of another host
--- nothing, but the marks that an execution says.
+-- Statements that an event changes the mailbox of its own host only, apart from the marks of an execution.
 use Rattle.std.specs.Prelude.{◌≡◌, ℕ, Bool, true, false, if◌then◌else◌, Option, None, Some, slice_get}
 use Rattle.nvme_spec.specs.declared.outcome.Marks.{Marks}
 use Rattle.nvme_spec.specs.World.{World, host_of}
@@ -7,7 +6,18 @@ use Rattle.nvme_spec.specs.Execution.{no_marks}
 use Rattle.nvme_machine.specs.Subsystems.{is_host_among}
 use Rattle.nvme_machine.specs.declared.seen.Executed.TheVariants.{Posted, NoSuch}
 use Rattle.nvme_event.specs.declared.event.FleetEvent.{FleetEvent}
-use Rattle.nvme_event.specs.declared.event.FleetEvent.TheVariants.{BringUp, Place, Ring, Fetch, Execute, Poll, Reset, RawStore, RawWrite32, PowerCycle}
+use Rattle.nvme_event.specs.declared.event.FleetEvent.TheVariants.{
+  BringUp,
+  Place,
+  Ring,
+  Fetch,
+  Execute,
+  Poll,
+  Reset,
+  RawStore,
+  RawWrite32,
+  PowerCycle,
+}
 use Rattle.nvme_event.specs.declared.seen.FleetSeen.{FleetSeen}
 use Rattle.nvme_event.specs.declared.seen.FleetSeen.TheVariants.{Executed as ExecutedSeen, NotRaw, Cycled}
 use Rattle.nvme_event.specs.Events.{concerns}
@@ -17,17 +27,16 @@ use Rattle.nvme_mailbox.specs.Deliveries.{plain, MailboxReaction, brought_up, pl
 use Rattle.nvme_mailbox.specs.Executions.{Site, RequestExecution, RequestComesTo}
 use Rattle.nvme_mailbox.specs.Fleets.{WithDriver, Fleet, Step, host_at, after_answer, marks_in}
 
--- controller k's host has a driver, whose mailbox this is
+-- controller k's host has a driver with this mailbox
 abbrev pub HasMailbox : Fleet → ℕ → Mailbox → Type 0
 HasMailbox f k m = host_at f k ≡ Some (WithDriver m)
 
--- what an event that gave this marks: nothing, unless it is an execution whose outcome says so
+-- the marks of an event with this result: those of an execution with such an outcome, else none
 abbrev pub marks_seen : FleetSeen → Marks
 marks_seen (ExecutedSeen executed) = marks_in executed
 marks_seen other = no_marks
 
--- the mailbox of controller k's host, where that host is among those that are marked: what it has fetched on the
--- namespace is marked
+-- the mailbox of controller k's host after marking: if that host is marked, its fetched requests on the namespace are
 abbrev pub marked_by : Marks → World → ℕ → Mailbox → Mailbox
 marked_by marks w k m = if is_host_among marks.hosts.items (host_of w k) then with_marks marks.nsid m else m
 
@@ -69,8 +78,8 @@ abbrev pub MailboxStep : Bool → FleetEvent → Bool → ℕ → Site → Mailb
 MailboxStep true event tells k s m reply left n = OwnStep event tells k s m reply left n
 MailboxStep false event tells k s m reply left n = OthersStep event k m reply left n
 
--- Whatever event it is, of whichever host: a host that has a driver goes on having one, and its mailbox becomes what
--- its own events make of it; another's leave it as it is, but for the marks that an execution says.
+-- After any event of any host, a host that has a driver still has one. Its own events change its mailbox. Another
+-- host's event leaves it unchanged, except for the marks of an execution.
 pub record MovesOn (tells : Bool) (old : Fleet) (event : FleetEvent) (reply : Reply) (new : Fleet) (k : ℕ)
     (m : Mailbox) : Type 0 where
   pub mailbox : Mailbox

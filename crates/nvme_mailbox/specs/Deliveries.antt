@@ -1,12 +1,39 @@
--- What a driver's calls and its controller's fetches make of its mailbox. An execution is in `Executions`.
-use Rattle.std.specs.Prelude.{ℕ, ◌+◌, ◌-◌, ◌==◌, nat_lt, true, false, not, if◌then◌else◌, List, [], ◌∷◌, ◌++◌, length, Option, None, Some, Ok, Err}
+-- The effect of a driver's calls and of its controller's fetches on its mailbox. The effect of an execution is in
+-- `Executions`.
+use Rattle.std.specs.Prelude.{
+  ℕ,
+  ◌+◌,
+  ◌-◌,
+  ◌==◌,
+  nat_lt,
+  true,
+  false,
+  not,
+  if◌then◌else◌,
+  List,
+  [],
+  ◌∷◌,
+  ◌++◌,
+  length,
+  Option,
+  None,
+  Some,
+  Ok,
+  Err,
+}
 use Rattle.nvme_driver.specs.declared.lane.Lane.{Lane}
 use Rattle.nvme_driver.specs.declared.lane.Lane.TheVariants.{Admin, Io}
 use Rattle.nvme_driver.specs.declared.request.Request.{Request}
 use Rattle.nvme_driver.specs.declared.answer.Answer.TheVariants.{Done, Aborted}
 use Rattle.nvme_driver.specs.declared.faults.UpFault.TheVariants.{AlreadyUp}
 use Rattle.nvme_driver.specs.declared.faults.PlaceRefusal.{PlaceRefusal}
-use Rattle.nvme_driver.specs.declared.faults.PlaceRefusal.TheVariants.{NotReady, BadRequest, NoSlot, RingFull, TicketsExhausted}
+use Rattle.nvme_driver.specs.declared.faults.PlaceRefusal.TheVariants.{
+  NotReady,
+  BadRequest,
+  NoSlot,
+  RingFull,
+  TicketsExhausted,
+}
 use Rattle.nvme_driver.specs.declared.faults.PollFault.TheVariants as poll_fault
 use Rattle.nvme_driver.specs.Requests.{asked_of, is_bad}
 use Rattle.nvme_driver.specs.Drivers.{ticket_count}
@@ -14,12 +41,22 @@ use Rattle.nvme_machine.specs.declared.seen.Fetched.TheVariants.{Took, Idle}
 use Rattle.nvme_event.specs.declared.seen.FleetSeen.{FleetSeen}
 use Rattle.nvme_event.specs.declared.seen.FleetSeen.TheVariants.{Up, Placed, Rung, Fetched, Polled, Reset}
 use Rattle.nvme_event.specs.Replies.{Reply}
-use Rattle.nvme_mailbox.specs.Mailboxes.{Item, PostedAnswer, LaneBox, Mailbox, empty_box, box_at, with_box, held, open_tickets}
+use Rattle.nvme_mailbox.specs.Mailboxes.{
+  Item,
+  PostedAnswer,
+  LaneBox,
+  Mailbox,
+  empty_box,
+  box_at,
+  with_box,
+  held,
+  open_tickets,
+}
 
 abbrev pub plain : FleetSeen → Reply
 plain what = record { seen = what; bytes = [] }
 
--- A mailbox after an event, and what the event gave.
+-- A mailbox after an event, and the result of the event.
 pub record MailboxReaction : Type 0 where
   pub mailbox : Mailbox
   pub reply : Reply
@@ -27,7 +64,7 @@ pub record MailboxReaction : Type 0 where
 abbrev pub mailbox_reaction : Mailbox → FleetSeen → MailboxReaction
 mailbox_reaction m what = record { mailbox = m; reply = plain what }
 
--- The driver brings its controller up: that fails only where it is up already.
+-- The driver brings its controller up: that fails only if it is up already.
 abbrev pub recounted : LaneBox → LaneBox
 recounted b = record b { unheard = 0; since = 0 }
 
@@ -36,10 +73,10 @@ brought_up m =
     if m.up then mailbox_reaction m (Up (Err AlreadyUp))
     else mailbox_reaction (record m { up = true; admin = recounted m.admin; io = recounted m.io }) (Up (Ok tt))
 
--- A request is placed: the last of its lane, with the next ticket.
+-- A request is placed: the last of its lane (queue pair), with the next ticket.
 
--- how many requests a driver keeps until they are handed up, and how many of a lane it places without having heard that
--- one of them was fetched
+-- the number of requests that a driver keeps until they are delivered, and the number that it places in a lane before
+-- the head of a completion shows that one was fetched
 abbrev pub most_held : ℕ
 most_held = 24
 
@@ -73,7 +110,7 @@ placed_by None m request = mailbox_reaction (with_request m request) (Placed (Ok
 abbrev pub placed : Mailbox → Request → MailboxReaction
 placed m request = placed_by (refusal m request) m request
 
--- The controller is told: what was placed stands behind what was rung, in both lanes.
+-- The driver writes the doorbells: in both lanes, the placed requests follow those that were rung.
 abbrev pub ring_lane : LaneBox → LaneBox
 ring_lane b = record b { rung = b.rung ++ b.placed; placed = [] }
 
@@ -82,7 +119,7 @@ rung m =
     if m.up then mailbox_reaction (record m { admin = ring_lane m.admin; io = ring_lane m.io }) (Rung (Ok tt))
     else mailbox_reaction m (Rung (Err (record {})))
 
--- The controller fetches the first request that was rung in a lane, where there is one.
+-- The controller fetches the first request that was rung in a lane, if there is one.
 abbrev pub with_rest : LaneBox → List Item → LaneBox
 with_rest b rest = record b { rung = rest; since = b.since + 1 }
 
@@ -105,8 +142,8 @@ fetched_of (Some lane) m = fetched_first lane (box_at lane m).rung m
 abbrev pub fetched : ℕ → Mailbox → MailboxReaction
 fetched q m = fetched_of (lane_at q) m
 
--- The driver hands up the first aborted request; else, where it is up, the first answer of the admin lane, and then of
--- the I/O lane.
+-- The driver delivers the first aborted request; otherwise, if it is up, the first answer of the admin lane, and then
+-- of the I/O lane.
 abbrev pub without_first : LaneBox → PostedAnswer → List PostedAnswer → LaneBox
 without_first b first rest = record b { posted = rest; unheard = b.unheard - first.step }
 
@@ -137,7 +174,7 @@ polled_aborted (first ∷ rest) m =
 abbrev pub polled : Mailbox → MailboxReaction
 polled m = polled_aborted m.aborted m
 
--- The driver resets its controller: all that was not handed up is aborted, in the order of the tickets, behind what was
+-- The driver resets its controller: all that was not delivered is aborted, in the order of tickets, after what was
 -- aborted before.
 abbrev pub reset : Mailbox → MailboxReaction
 reset m =

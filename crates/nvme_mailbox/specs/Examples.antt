@@ -1,4 +1,4 @@
--- What the worked examples speak of.
+-- Fleets, lists of events and results of the worked examples.
 use Rattle.std.specs.Prelude.{ℕ, zero, suc, true, false, List, [], ◌∷◌, ◌++◌, replicate, map, Some, Ok}
 use Rattle.std.specs.List.{flat_map}
 use Rattle.nvme_wire.specs.declared.status.Status.{Status}
@@ -21,8 +21,8 @@ use Rattle.nvme_mailbox.specs.Executions.{RequestExecution}
 use Rattle.nvme_mailbox.specs.Fleets.{Fleet, opening, after_answer}
 use Rattle.nvme_mailbox.specs.FaultFree.{fault_free_replies, fault_free_left}
 
--- Four controllers of three hosts; a shared namespace of two blocks that all are attached to, and a private one of one
--- block that controller 1 alone is attached to; no host is raw.
+-- Four controllers of three hosts; a shared namespace of two blocks, attached to all, and a private one of one block,
+-- attached to controller 1; no host is raw.
 abbrev pub cluster : Configuration
 cluster = record {
   controllers = controller 1 0xa1 ∷ controller 2 0xb2 ∷ controller 3 0xa1 ∷ controller 4 0xc3 ∷ [];
@@ -30,7 +30,7 @@ cluster = record {
   attached = (1, 1) ∷ (2, 1) ∷ (3, 1) ∷ (4, 1) ∷ (1, 2) ∷ [];
 }
 
--- the same, where the host of controller 2 is raw
+-- `cluster`, except that the host of controller 2 is raw
 abbrev pub raw_cluster : Configuration
 raw_cluster = record cluster {
   controllers = controller 1 0xa1 ∷ raw_controller 2 0xb2 ∷ controller 3 0xa1 ∷ controller 4 0xc3 ∷ [];
@@ -43,14 +43,14 @@ opened c = opening c (record { content = replicate 1536 0; failures = 0 })
 abbrev pub new_fleet : Fleet
 new_fleet = opened cluster
 
--- the same once all drivers are up
+-- `new_fleet` after all drivers have come up
 abbrev pub all_up : List FleetEvent
 all_up = BringUp 1 ∷ BringUp 2 ∷ BringUp 3 ∷ BringUp 4 ∷ []
 
 unfoldable pub fleet : Fleet
 fleet = fault_free_left new_fleet all_up
 
--- a request of host k is placed, rung, fetched, executed and handed up, when nothing else is under way
+-- a request of host k is placed, rung, fetched, executed and delivered, with no other request in progress
 abbrev pub carried : ℕ → Request → List FleetEvent
 carried k what = Place k what ∷ Ring k ∷ Fetch k 1 ∷ Execute k 0 ∷ Poll k ∷ []
 
@@ -65,15 +65,15 @@ times (suc n) events = events ++ times n events
 abbrev pub a_read : Request
 a_read = request.Read 1 0 1
 
--- so many Reads of host 1 are placed, rung and fetched
+-- n Reads of host 1 are placed, rung and fetched
 abbrev pub fetched_reads : ℕ → List FleetEvent
 fetched_reads n = times n (Place 1 a_read ∷ []) ++ Ring 1 ∷ times n (Fetch 1 1 ∷ [])
 
--- seven of them, of which the first is executed and handed up
+-- seven of them; the first is executed and delivered
 abbrev pub seven_reads : List FleetEvent
 seven_reads = fetched_reads 7 ++ Execute 1 0 ∷ Poll 1 ∷ []
 
--- host 2 has registered and reads twice, one read is fetched, when host 1 acquires Exclusive Access and preempts it
+-- host 2 has registered and reads twice; one read is fetched when host 1 acquires Exclusive Access and preempts host 2
 abbrev pub caught_read : List FleetEvent
 caught_read =
     carried 1 (request.Register 1 0 false 0 0 0x11)
@@ -83,7 +83,7 @@ caught_read =
     ++ carried 1 (request.Acquire 1 2 2 0x11 0x22)
     ++ Execute 2 0 ∷ Fetch 2 1 ∷ Execute 2 0 ∷ []
 
--- what each execution of a list of events answers: the status, and the rule that denied it
+-- the answer of each execution in a list of events: the status, and the rule that denied it
 abbrev pub executed_in : Reply → List (Status × ℕ)
 executed_in r = by r.seen
   where
@@ -97,7 +97,7 @@ outcomes events = flat_map executed_in (fault_free_replies fleet events)
 abbrev pub done : Status × ℕ
 done = (status.successful_completion, 0)
 
--- the answer of a request that succeeded, with so many bytes
+-- the answer of a request that succeeded, with data of this length
 abbrev pub done_with : ℕ → ℕ → FleetSeen
 done_with ticket len =
     seen.Polled (Ok (Some (Done (record { 0 = ticket }) status.successful_completion 0 len)))
@@ -108,18 +108,18 @@ aborted ticket = seen.Polled (Ok (Some (Aborted (record { 0 = ticket }))))
 abbrev pub placed : ℕ → FleetSeen
 placed ticket = seen.Placed (Ok (record { 0 = ticket }))
 
--- what each event gives to see, and the bytes
+-- the results of the events
 abbrev pub seen_in : List FleetEvent → List FleetSeen
 seen_in events = map (λ (r : Reply). r.seen) (fault_free_replies fleet events)
 
--- the same, of the last events, behind those that lead there
+-- the results of `events`, after the events `before`
 abbrev pub seen_after : List FleetEvent → List FleetEvent → List FleetSeen
 seen_after before events = map (λ (r : Reply). r.seen) (fault_free_replies (fault_free_left fleet before) events)
 
 abbrev pub bytes_after : List FleetEvent → List FleetEvent → List (List ℕ)
 bytes_after before events = map (λ (r : Reply). r.bytes) (fault_free_replies (fault_free_left fleet before) events)
 
--- the same, from the opening where host 2 is raw
+-- the results of the events, from the opening in which host 2 is raw
 abbrev pub raw_seen_in : List FleetEvent → List FleetSeen
 raw_seen_in events = map (λ (r : Reply). r.seen) (fault_free_replies (opened raw_cluster) events)
 
@@ -131,7 +131,7 @@ all_registrants =
     ++ carried 4 (request.Register 1 0 false 0 0 0x33)
     ++ carried 1 (request.Acquire 1 0 5 0x11 0)
 
--- the mailbox of a driver that came up and placed two Reads; the first was fetched, and came to this
+-- the mailbox of a driver that came up and placed two Reads, the first of which was fetched and answered
 abbrev pub two_placed : Mailbox
 two_placed = (mail.placed (mail.placed (mail.brought_up (new_mailbox 1)).mailbox a_read).mailbox a_read).mailbox
 

@@ -1,7 +1,23 @@
--- The execution of a request that was fetched, in the world as it is then. It is judged by all rules but that of the
--- data pointer, which passes: the data that go in are the request's. Of an allowed I/O command a fault of the medium
--- may choose the answer; of every other request the answer is a function.
-use Rattle.std.specs.Prelude.{◌≡◌, ℕ, Bool, true, false, if◌then◌else◌, List, [], ◌∷◌, ◌++◌, Option, None, Some, Ok, Err}
+-- The execution of a fetched request, in the world as it is then. All rules judge it except that of the data pointer,
+-- which passes: the data for the controller are the request's. The answer to an allowed I/O command depends on faults
+-- of the medium; every other answer is a function.
+use Rattle.std.specs.Prelude.{
+  ◌≡◌,
+  ℕ,
+  Bool,
+  true,
+  false,
+  if◌then◌else◌,
+  List,
+  [],
+  ◌∷◌,
+  ◌++◌,
+  Option,
+  None,
+  Some,
+  Ok,
+  Err,
+}
 use Rattle.nvme_wire.specs.Submission.{submission_entry, opcode}
 use Rattle.nvme_wire.specs.declared.sqe.fields.SqeFields.{SqeFields}
 use Rattle.nvme_wire.specs.declared.status.Status.{Status}
@@ -34,17 +50,18 @@ pub record Site : Type 0 where
   pub world : World
   pub device : Device
 
--- the same as a scene of the definitions, whose host memory plays no part
+-- a `Site` as a scene of the definitions, without host memory
 abbrev pub scene_at : Site → Scene
 scene_at s = scene s.world [] s.device
 
--- What a request comes to: what its command is answered, the data that come with the answer, and what is left.
+-- The execution of a request: the outcome of its command, the data of the answer, and the state that is left.
 pub record RequestExecution : Type 0 where
   pub outcome : Outcome
   pub bytes : List ℕ
   pub left : Site
 
--- the command of a request as its rules and its effect read it. Its identifier and its data pointer play no part
+-- the fields of a request's command that its rules and its effect read; its identifier and its data pointer do not
+-- matter
 abbrev pub command_fields : Asked → SqeFields
 command_fields a = record {
   opcode = a.command.opcode;
@@ -67,13 +84,13 @@ command_entry a = submission_entry (command_fields a)
 abbrev pub denied_request_execution : Site → ℕ → Status → RequestExecution
 denied_request_execution s number why = record { outcome = denial_outcome number why; bytes = []; left = s }
 
--- data come with the answer where the command succeeded
+-- an answer has data if the command succeeded
 abbrev pub bytes_with : Status → List ℕ → List ℕ
 bytes_with why returned = if is_success why then returned else []
 
 -- Of the I/O lane.
 
--- what the command makes of the reservation of its namespace, if it acts on one
+-- the outcome of the command for the reservation of its namespace, if it acts on one
 abbrev pub action_of : World → ℕ → Asked → Option resv.ActionOutcome
 action_of w cntlid a = reservation_outcome w cntlid (command_entry a) a.sent
 
@@ -85,7 +102,7 @@ abbrev pub io_verdict : World → ℕ → Asked → Bool → Verdict
 io_verdict w cntlid a marked =
     conclusion (io_judgement w cntlid a marked) (io_commands.command_of (opcode (command_entry a))) (command_entry a)
 
--- an allowed command has done its effect in the world, by its own data
+-- an allowed command has had its effect in the world, by its own data
 pub record IsServed (tells : Bool) (command : Command) (cntlid : ℕ) (a : Asked) (s : Site) (r : RequestExecution)
     : Type 0 where
   pub returned : List ℕ
@@ -138,7 +155,7 @@ admin_request_execution s cntlid a =
     admin_request_execution_by (admin_judgement s.world cntlid a)
     (admin_commands.command_of (opcode (command_entry a))) s cntlid a
 
--- a request of a controller that was fetched, executed now, comes to this
+-- the execution of a controller's fetched request, now
 abbrev pub RequestComesToAs : Lane → Bool → ℕ → Asked → Bool → Site → RequestExecution → Type 0
 RequestComesToAs Admin tells cntlid a marked s r = r ≡ admin_request_execution s cntlid a
 RequestComesToAs Io tells cntlid a marked s r = IoRequestComesTo (io_verdict s.world cntlid a marked) tells cntlid a s r

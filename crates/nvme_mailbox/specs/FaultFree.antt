@@ -1,5 +1,4 @@
--- Steps and runs over a medium none of whose calls fails, as functions: what a list of events gives, and what it
--- leaves.
+-- Steps and runs without faults of the medium, as functions: the replies to a list of events, and the fleet after it.
 use Rattle.std.specs.Prelude.{ℕ, Bool, List, [], ◌∷◌, Option, None, Some, slice_get}
 use Rattle.nvme_spec.specs.declared.command.Command.{Command}
 use Rattle.nvme_spec.specs.declared.verdict.Verdict.{Verdict}
@@ -19,15 +18,52 @@ use Rattle.nvme_machine.specs.Executing.{Setting, setting, scene_in}
 use Rattle.nvme_machine.specs.CommandExecutions.{CommandExecution}
 use Rattle.nvme_machine.specs.FaultFree.{fault_free_command_execution}
 use Rattle.nvme_event.specs.declared.event.FleetEvent.{FleetEvent}
-use Rattle.nvme_event.specs.declared.event.FleetEvent.TheVariants.{BringUp, Place, Ring, Fetch, Execute, Poll, Reset, RawStore, RawWrite32, PowerCycle}
+use Rattle.nvme_event.specs.declared.event.FleetEvent.TheVariants.{
+  BringUp,
+  Place,
+  Ring,
+  Fetch,
+  Execute,
+  Poll,
+  Reset,
+  RawStore,
+  RawWrite32,
+  PowerCycle,
+}
 use Rattle.nvme_event.specs.declared.seen.FleetSeen.TheVariants.{Executed as ExecutedSeen, NoController, Cycled}
 use Rattle.nvme_event.specs.Replies.{Reply}
 use Rattle.nvme_mailbox.specs.Mailboxes.{FetchedItem, Mailbox, lane_of}
 use Rattle.nvme_mailbox.specs.Deliveries.{plain, brought_up, placed, rung, polled, reset}
-use Rattle.nvme_mailbox.specs.Executions.{Site, RequestExecution, scene_at, command_entry, denied_request_execution, bytes_with, action_of, io_verdict, admin_request_execution}
-use Rattle.nvme_mailbox.specs.Fleets.{Host, WithDriver, Raw, Fleet, Moment, moment, host_at, called, raw_stored, raw_wrote, fetched_at, after_execution, setting_of, after_raw, power_cycled}
+use Rattle.nvme_mailbox.specs.Executions.{
+  Site,
+  RequestExecution,
+  scene_at,
+  command_entry,
+  denied_request_execution,
+  bytes_with,
+  action_of,
+  io_verdict,
+  admin_request_execution,
+}
+use Rattle.nvme_mailbox.specs.Fleets.{
+  Host,
+  WithDriver,
+  Raw,
+  Fleet,
+  Moment,
+  moment,
+  host_at,
+  called,
+  raw_stored,
+  raw_wrote,
+  fetched_at,
+  after_execution,
+  setting_of,
+  after_raw,
+  power_cycled,
+}
 
--- an allowed I/O command, by what the definitions say of it
+-- an allowed I/O command, by its definitions
 abbrev pub served : Command → ℕ → Asked → Site → Performance → RequestExecution
 served command cntlid a s p = record {
   outcome = record {
@@ -63,7 +99,7 @@ abbrev pub executing_item : Option FetchedItem → Fleet → ℕ → Mailbox →
 executing_item None f k m i = moment f (ExecutedSeen NoSuch)
 executing_item (Some x) f k m i = answered f k m i x (request_execution k x f.site)
 
--- what an execution of a raw host's controller gives and leaves
+-- the result of an execution of a raw host's controller, and the state that it leaves
 pub record RawExecution : Type 0 where
   pub executed : Executed
   pub left : Setting
@@ -106,7 +142,7 @@ fault_free_step f (RawStore k address bytes) = raw_stored f k address bytes.now
 fault_free_step f (RawWrite32 k offset v) = raw_wrote f k offset v
 fault_free_step f PowerCycle = moment (power_cycled f) Cycled
 
--- what the events give, one after the other
+-- the replies to the events, in order
 abbrev pub fault_free_replies : Fleet → List FleetEvent → List Reply
 fault_free_replies f [] = []
 fault_free_replies f (event ∷ events) =

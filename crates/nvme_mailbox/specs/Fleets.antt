@@ -1,6 +1,28 @@
--- A fleet: the access state, the medium, and each controller's host. Most hosts have a driver and are known by its
--- mailbox; a raw one has none, and is known by its controller. What each event makes of them.
-use Rattle.std.specs.Prelude.{◌≡◌, ℕ, ◌+◌, zero, suc, nat_le, Bool, if◌then◌else◌, List, [], ◌∷◌, ◌++◌, length, map, remove, is_some, Option, None, Some, slice_get, slice_set}
+-- A fleet: the access state, the medium, and each controller's host; and the effect of each event. A host with a driver
+-- is represented by its mailbox; a raw host has no driver, and is represented by its controller.
+use Rattle.std.specs.Prelude.{
+  ◌≡◌,
+  ℕ,
+  ◌+◌,
+  zero,
+  suc,
+  nat_le,
+  Bool,
+  if◌then◌else◌,
+  List,
+  [],
+  ◌∷◌,
+  ◌++◌,
+  length,
+  map,
+  remove,
+  is_some,
+  Option,
+  None,
+  Some,
+  slice_get,
+  slice_set,
+}
 use Rattle.nvme_spec.specs.declared.config.ControllerConfig.{ControllerConfig}
 use Rattle.nvme_spec.specs.declared.outcome.Marks.{Marks}
 use Rattle.nvme_spec.specs.Blocks.{Device}
@@ -17,11 +39,42 @@ use Rattle.nvme_machine.specs.Controllers as machine
 use Rattle.nvme_machine.specs.Subsystems.{is_host_among}
 use Rattle.nvme_machine.specs.Executing.{Setting, setting, ExecutesNth}
 use Rattle.nvme_event.specs.declared.event.FleetEvent.{FleetEvent}
-use Rattle.nvme_event.specs.declared.event.FleetEvent.TheVariants.{BringUp, Place, Ring, Fetch, Execute, Poll, Reset, RawStore, RawWrite32, PowerCycle}
+use Rattle.nvme_event.specs.declared.event.FleetEvent.TheVariants.{
+  BringUp,
+  Place,
+  Ring,
+  Fetch,
+  Execute,
+  Poll,
+  Reset,
+  RawStore,
+  RawWrite32,
+  PowerCycle,
+}
 use Rattle.nvme_event.specs.declared.seen.FleetSeen.{FleetSeen}
-use Rattle.nvme_event.specs.declared.seen.FleetSeen.TheVariants.{Fetched as FetchedSeen, Executed as ExecutedSeen, Stored, Outside, Wrote, Cycled, NoController, NoDriver, NotRaw}
+use Rattle.nvme_event.specs.declared.seen.FleetSeen.TheVariants.{
+  Fetched as FetchedSeen,
+  Executed as ExecutedSeen,
+  Stored,
+  Outside,
+  Wrote,
+  Cycled,
+  NoController,
+  NoDriver,
+  NotRaw,
+}
 use Rattle.nvme_event.specs.Replies.{Reply}
-use Rattle.nvme_mailbox.specs.Mailboxes.{FetchedItem, PostedAnswer, LaneBox, Mailbox, new_mailbox, box_at, with_box, lane_of, with_marks}
+use Rattle.nvme_mailbox.specs.Mailboxes.{
+  FetchedItem,
+  PostedAnswer,
+  LaneBox,
+  Mailbox,
+  new_mailbox,
+  box_at,
+  with_box,
+  lane_of,
+  with_marks,
+}
 use Rattle.nvme_mailbox.specs.Deliveries.{plain, MailboxReaction, brought_up, placed, rung, fetched, polled, reset}
 use Rattle.nvme_mailbox.specs.Executions.{Site, RequestExecution, RequestComesTo}
 
@@ -30,12 +83,12 @@ pub data Host : Type 0 where
   WithDriver : Mailbox → Host
   Raw : machine.Controller → Host
 
--- The host of controller k stands at place k - 1.
+-- The host of controller k is at place k - 1.
 pub record Fleet : Type 0 where
   pub site : Site
   pub hosts : List Host
 
--- as a configuration opens over a medium: every driver is down, and its first ticket is 1
+-- the opening of a configuration over a medium: every driver is down, and its first ticket is 1
 abbrev pub new_host : ControllerConfig → Host
 new_host k = if k.raw then Raw (machine.new_controller k.cntlid) else WithDriver (new_mailbox 1)
 
@@ -60,7 +113,7 @@ host_at f k = numbered f.hosts k
 unfoldable pub with_host : Fleet → ℕ → Host → Fleet
 with_host f k h = record f { hosts = replaced f.hosts k h }
 
--- What one event leaves, and what it gives.
+-- The fleet after one event, and the reply to it.
 pub record Moment : Type 0 where
   pub fleet : Fleet
   pub reply : Reply
@@ -108,7 +161,7 @@ fetched_at (Some (Raw c)) f k q =
 
 -- Executions.
 
--- the hosts from controller k on, where those that are among the removed ones are marked
+-- the hosts from controller k, after the removed ones among them are marked
 abbrev pub marked : ℕ → Host → Host
 marked n (WithDriver m) = WithDriver (with_marks n m)
 marked n (Raw c) = Raw (machine.with_marks n c)
@@ -118,11 +171,11 @@ marked_from w m k [] = []
 marked_from w m k (h ∷ rest) =
     (if is_host_among m.hosts.items (host_of w k) then marked m.nsid h else h) ∷ marked_from w m (k + 1) rest
 
--- a host has become so, by an execution that leaves this and marks those
+-- the fleet after an execution: this host, this site and these marks
 unfoldable pub settled : Fleet → ℕ → Site → Host → Marks → Fleet
 settled f k left h marks = record { site = left; hosts = marked_from left.world marks 1 (replaced f.hosts k h) }
 
--- the mailbox once its i-th fetched request came to this: the answer is the last of its lane
+-- the mailbox after its i-th fetched request is answered: the answer is the last of its lane (queue pair)
 abbrev pub answer_for : FetchedItem → RequestExecution → ℕ → PostedAnswer
 answer_for x r since = record {
   ticket = x.item.ticket;
@@ -182,8 +235,8 @@ ExecutesAt (Some (WithDriver m)) tells old k i reply new =
     ExecutesItem (slice_get m.fetched i) tells old k m i reply new
 ExecutesAt (Some (Raw c)) tells old k i reply new = ExecutesRaw tells old k c i reply new
 
--- Power is lost, and comes back: of the world there stays what persists, each driver resets its controller, and each
--- raw host's controller is as one that was never enabled.
+-- Power is lost, and returns: what persists of the world stays, each driver resets its controller, and each raw host's
+-- controller is as new.
 abbrev pub host_cycled : Host → Host
 host_cycled (WithDriver m) = WithDriver (reset m).mailbox
 host_cycled (Raw c) = Raw (machine.power_cycled c)
@@ -194,7 +247,7 @@ power_cycled f = record {
   hosts = map host_cycled f.hosts;
 }
 
--- One event: the fleet before it, what it gave, and the fleet after it.
+-- One event: the fleet before it, its reply, and the fleet after it.
 abbrev pub Is : Moment → Reply → Fleet → Type 0
 Is m reply new = (reply ≡ m.reply) × (new ≡ m.fleet)
 
@@ -210,7 +263,7 @@ Step tells old (RawStore k address bytes) reply new = Is (raw_stored old k addre
 Step tells old (RawWrite32 k offset v) reply new = Is (raw_wrote old k offset v) reply new
 Step tells old PowerCycle reply new = Is (moment (power_cycled old) Cycled) reply new
 
--- Events, one after the other, and what each gave.
+-- A list of events, and their replies.
 abbrev pub Run : Bool → Fleet → List FleetEvent → List Reply → Fleet → Type 0
 Run tells old [] [] new = new ≡ old
 Run tells old (event ∷ events) (reply ∷ later) new =

@@ -1,12 +1,12 @@
--- The I/O commands that the controllers of a fleet have fetched, of hosts with a driver and of raw ones alike, as their
--- rules read them; and that each is executed as these say.
+-- Fetched I/O commands of a fleet, of hosts with a driver and of raw ones alike, as their rules read them; and the
+-- statement that each is executed by these rules.
 use Rattle.std.specs.Prelude.{◌≡◌, ℕ, ◌==◌, Bool, if◌then◌else◌, List, Option, None, Some, slice_get}
 use Rattle.nvme_wire.specs.Submission.{opcode}
 use Rattle.nvme_spec.specs.declared.command.Command.{Command}
 use Rattle.nvme_spec.specs.declared.outcome.Outcome.{Outcome}
 use Rattle.nvme_spec.specs.declared.verdict.Verdict.{Verdict}
 use Rattle.nvme_spec.specs.declared.verdict.Verdict.TheVariants.{Allowed, Denied}
-use Rattle.nvme_spec.specs.Configuration.{Configuration, first_config_fault}
+use Rattle.nvme_spec.specs.Configuration.{Configuration, Capacity, config_fault}
 use Rattle.nvme_spec.specs.Blocks.{Device}
 use Rattle.nvme_spec.specs.Commands.{command_of}
 use Rattle.nvme_spec.specs.Execution.{Performs, marks_of, denial_outcome}
@@ -28,8 +28,8 @@ use Rattle.nvme_mailbox.specs.Deliveries.{plain}
 use Rattle.nvme_mailbox.specs.Executions.{Site, scene_at, command_entry, io_judgement}
 use Rattle.nvme_mailbox.specs.Fleets.{Host, WithDriver, Raw, Fleet, Step, Run, host_at, opening}
 
--- An I/O command that a host's controller has fetched, as its rules read it: its entry, whether it is marked, the data
--- that its host sends with it, and what all rules say to it now.
+-- An I/O command that a host's controller has fetched, as its rules read it: its entry, its mark, the data from its
+-- host, and the verdict of all rules on it now.
 pub record IoCommand : Type 0 where
   pub entry : List ℕ
   pub marked : Bool
@@ -71,11 +71,11 @@ command_in None w k i = None
 command_in (Some (WithDriver m)) w k i = asked_by w k (slice_get m.fetched i)
 command_in (Some (Raw c)) w k i = sent_by w c (slice_get c.fetched i)
 
--- the i-th command that controller k has fetched, where that is an I/O command
+-- the i-th command that controller k has fetched, if it is an I/O command
 unfoldable pub command_at : Fleet → ℕ → ℕ → Option IoCommand
 command_at f k i = command_in (host_at f k) f.site.world k i
 
--- Each raw host's controller bears the number of its place: so it is at each opening, and stays.
+-- Each raw host's controller has the number of its place: at each opening, and in every run.
 abbrev pub BearsItsNumber : ℕ → Host → Type 0
 BearsItsNumber k (WithDriver m) = Unit {0}
 BearsItsNumber k (Raw c) = c.cntlid ≡ k
@@ -84,7 +84,7 @@ abbrev pub AreNumbered : Fleet → Type 0
 AreNumbered f = (k : ℕ) → (h : Host) → host_at f k ≡ Some h → BearsItsNumber k h
 
 abbrev pub OpeningIsNumbered : Type 0
-OpeningIsNumbered = (c : Configuration) → (d : Device) → (blocks : ℕ) → first_config_fault c blocks ≡ None
+OpeningIsNumbered = (c : Configuration) → (d : Device) → (size : Capacity) → config_fault c size ≡ None
     → AreNumbered (opening c d)
 
 abbrev pub NumbersStay : Type 0
@@ -92,7 +92,7 @@ NumbersStay =
     (tells : Bool) → (old new : Fleet) → (events : List FleetEvent) → (replies : List Reply)
     → Run tells old events replies new → AreNumbered old → AreNumbered new
 
--- An allowed command has done its effect on the namespaces as they were at that moment, by the data of its own host.
+-- An allowed command has had its effect on the namespaces as they were at that moment, by the data of its own host.
 pub record HasItsEffect (tells : Bool) (command : Command) (k : ℕ) (x : IoCommand) (old : Site) (outcome : Outcome)
     (new : Site) : Type 0 where
   pub returned : List ℕ
@@ -110,7 +110,7 @@ IsExecutedBy (Allowed plan) tells k x old outcome new = HasItsEffect tells plan.
 abbrev pub verdict_on : IoCommand → Verdict
 verdict_on x = conclusion x.judgement (command_of (opcode x.entry)) x.entry
 
--- Each I/O command that is executed, is executed as the rules say in the access state of that moment.
+-- Each I/O command is executed by the verdict of the rules on the access state of that moment.
 abbrev pub ExecutedAsThePolicyAllows : Type 0
 ExecutedAsThePolicyAllows =
     (tells : Bool) → (old new : Fleet) → (k i : ℕ) → (x : IoCommand) → (outcome : Outcome) → AreNumbered old

@@ -1,5 +1,5 @@
--- What a power cycle makes of each driver of a fleet, and what outlasts it (Base Specification: Persist Through Power
--- Loss of Reservations).
+-- Statements of laws about power cycles of a fleet: the effect on each driver, and what persists (Base Specification:
+-- Persist Through Power Loss of Reservations).
 use Rattle.std.specs.Prelude.{◌≡◌, ℕ, ◌-◌, ◌^◌, ◌<◌, Bool, true, false, List, ◌++◌, length, Some, Ok}
 use Rattle.nvme_wire.specs.declared.status.Status.{Status}
 use Rattle.nvme_spec.specs.declared.outcome.Outcome.{Outcome}
@@ -29,8 +29,8 @@ use Rattle.nvme_machine.specs.PowerCycles.{Persists}
 
 -- Drivers.
 
--- A driver is down, and waits for nothing. Exactly the requests that were not handed up are aborted: behind those that
--- were aborted before the others, in the order of their tickets. The tickets go on.
+-- The driver is down, without waiting requests and answers. All requests that were not delivered are aborted: first
+-- those that were aborted before, then the others in the order of their tickets. The numbering of tickets continues.
 pub record IsAborted (old new : Mailbox) : Type 0 where
   pub down : new.up ≡ false
   pub clear : IsClear new
@@ -38,13 +38,13 @@ pub record IsAborted (old new : Mailbox) : Type 0 where
   pub exactly : (t : ℕ) → times t new.aborted ≡ times t (held_tickets old)
   pub next : new.next ≡ old.next
 
--- So it is of every host with a driver.
+-- So is every host with a driver.
 abbrev pub PowerAborts : Type 0
 PowerAborts =
     (tells : Bool) → (old new : Fleet) → (reply : Reply) → Step tells old PowerCycle reply new
     → (k : ℕ) → (m : Mailbox) → HasMailbox old k m → (n : Mailbox) × HasMailbox new k n × IsAborted m n
 
--- What is handed up as done behind a power cycle was placed, and then executed, since then.
+-- A request that is delivered as done after a power cycle was placed, and then executed, since then.
 abbrev pub DoneSincePower : Type 0
 DoneSincePower =
     (tells : Bool) → (before old mid new : Fleet) → (cycle : Reply) → Step tells before PowerCycle cycle old
@@ -59,7 +59,7 @@ DoneSincePower =
 
 -- Reservations.
 
--- What persists outlasts every run in which no reservation command on the namespace is executed but denied ones.
+-- A persistent reservation stays persistent in every run in which each reservation command on the namespace is denied.
 abbrev pub PersistenceLasts : Type 0
 PersistenceLasts =
     (tells : Bool) → (old new : Fleet) → (events : List FleetEvent) → (replies : List Reply) → (n : ℕ)
@@ -67,9 +67,9 @@ PersistenceLasts =
     → RunWhere (LeavesReservation n) tells old events replies new
     × (reservation_of new.site.world n ≡ reservation_of old.site.world n)
 
--- Fencing outlasts power: while the reservation of a namespace persists, and no reservation command on it is executed
--- but denied ones, each write of a host that may not write it is answered Reservation Conflict, or with the denial of a
--- rule before, and changes neither access state nor medium, over any run, with any number of power cycles at any
+-- Fencing outlasts power. Suppose that the reservation of a namespace persists, and that every reservation command on
+-- it is denied. Then each write of a host that may not write it is answered Reservation Conflict, or with the denial of
+-- an earlier rule, and changes neither access state nor medium, in any run, with any number of power cycles at any
 -- moment.
 abbrev pub FencingOutlastsPower : Type 0
 FencingOutlastsPower =
@@ -82,8 +82,8 @@ FencingOutlastsPower =
     → (outcome ≡ denial_outcome (fenced mid.site.world k x).rule (fenced mid.site.world k x).status)
     × (new.site ≡ mid.site)
 
--- Secrecy outlasts power: what hosts that may not read the namespace are answered and find, they can be answered and
--- find where its bytes are others.
+-- Secrecy outlasts power loss: hosts that may not read the namespace get answers, and find memory, that are possible
+-- with any other bytes of the namespace too.
 abbrev pub SecrecyOutlastsPower : Type 0
 SecrecyOutlastsPower =
     (old new : Fleet) → (medium : Device) → (events : List FleetEvent) → (replies : List Reply) → (n : ℕ)
@@ -92,7 +92,7 @@ SecrecyOutlastsPower =
     → (left : Device) × RunWhere (LeavesReservation n) true (over medium old) events replies (over left new)
     × DifferIn n new.site.world new.site.device left
 
--- And without a fault of the medium they are answered the same, and find the same: replies and mailboxes,
+-- And without a fault of the medium they are the same: replies and mailboxes,
 abbrev pub RepliesOutlastPower : Type 0
 RepliesOutlastPower =
     (old new other : Fleet) → (medium : Device) → (events : List FleetEvent) → (replies others : List Reply) → (n : ℕ)

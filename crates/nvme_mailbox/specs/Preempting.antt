@@ -1,6 +1,6 @@
--- A host that is preempted writes the namespace no more, whoever holds it, until a Reservation Register of its own is
--- executed that all rules let pass (Base Specification: Reservations, Reservation Acquire command, Preempt, Preempt and
--- Abort).
+-- Statements of the law `preempted_hosts_stay_out`: a preempted host can't write the namespace, whoever holds it, until
+-- a Reservation Register of its own is allowed (Base Specification: Reservations, Reservation Acquire command, Preempt,
+-- Preempt and Abort).
 use Rattle.std.specs.Prelude.{◌≡◌, ℕ, ◌==◌, Bool, true, false, List, [], ◌∷◌, Some, Ok}
 use Rattle.nvme_spec.specs.declared.command.Command.TheVariants.{ReservationRegister, ReservationAcquire}
 use Rattle.nvme_spec.specs.declared.outcome.Outcome.{Outcome}
@@ -13,7 +13,18 @@ use Rattle.nvme_spec.specs.World.{World, host_of}
 use Rattle.nvme_machine.specs.declared.seen.Executed.TheVariants.{Posted}
 use Rattle.nvme_machine.specs.Subsystems.{is_host_among}
 use Rattle.nvme_event.specs.declared.event.FleetEvent.{FleetEvent}
-use Rattle.nvme_event.specs.declared.event.FleetEvent.TheVariants.{BringUp, Place, Ring, Fetch, Execute, Poll, Reset, RawStore, RawWrite32, PowerCycle}
+use Rattle.nvme_event.specs.declared.event.FleetEvent.TheVariants.{
+  BringUp,
+  Place,
+  Ring,
+  Fetch,
+  Execute,
+  Poll,
+  Reset,
+  RawStore,
+  RawWrite32,
+  PowerCycle,
+}
 use Rattle.nvme_event.specs.declared.seen.FleetSeen.TheVariants.{Executed as ExecutedSeen}
 use Rattle.nvme_event.specs.Replies.{Reply}
 use Rattle.nvme_mailbox.specs.Deliveries.{plain}
@@ -31,7 +42,7 @@ pub record IsHeld (w : World) (n : ℕ) : Type 0 where
   pub of : reservation_of w n ≡ Some reservation
   pub held : is_free reservation.hold ≡ false
 
--- Whatever type the reservation is of, a host without a key may not write.
+-- A host without a key may not write, for any type of the reservation.
 abbrev pub OutsidersMayNotWrite : Type 0
 OutsidersMayNotWrite =
     (w : World) → (n k host : ℕ) → host_of w k ≡ Some host → IsOutside w n host → IsHeld w n → may_write w k n ≡ false
@@ -53,7 +64,7 @@ Registers n host f PowerCycle = ⊥
 abbrev pub LeavesOutside : ℕ → ℕ → Fleet → FleetEvent → Type 0
 LeavesOutside n host f event = Registers n host f event → ⊥
 
--- Nobody gets a key but by its own command.
+-- A host gets a key only by its own command.
 abbrev pub OutsidersStayOutside : Type 0
 OutsidersStayOutside =
     (tells : Bool) → (old new : Fleet) → (events : List FleetEvent) → (replies : List Reply) → (n host : ℕ)
@@ -74,17 +85,16 @@ pub record Preempts (tells : Bool) (n : ℕ) (old : Fleet) (k i : ℕ) (x : IoCo
 abbrev pub removed_hosts : Fleet → ℕ → IoCommand → List ℕ
 removed_hosts f k x = removed_by (reservation_outcome f.site.world k x.entry x.sent)
 
--- They have no key then.
+-- They have no key after that.
 abbrev pub PreemptedIsOutside : Type 0
 PreemptedIsOutside =
     (tells : Bool) → (old new : Fleet) → (n k i host : ℕ) → (x : IoCommand) → AreNumbered old
     → Preempts tells n old k i x new
     → is_host_among (removed_hosts old k x) (Some host) ≡ true → IsOutside new.site.world n host
 
--- Preempted stays out: once a host was preempted, each of its writes that is executed while the namespace is held, by
--- whom it may be, is answered Reservation Conflict, or with the denial of a rule before, and changes neither access
--- state nor medium, until a Reservation Register of its own is executed that all rules let pass; whatever any host does
--- until then.
+-- A preempted host stays out until a Reservation Register of its own is allowed, after any events of other hosts. Until
+-- then, each of its writes that is executed while any host holds the reservation is answered Reservation Conflict, or
+-- with the denial of an earlier rule, and changes neither access state nor medium.
 abbrev pub PreemptedStaysOut : Type 0
 PreemptedStaysOut =
     (tells : Bool) → (old mid last new : Fleet) → (n k i host : ℕ) → (x : IoCommand) → AreNumbered old

@@ -1,10 +1,9 @@
--- What every opening of a fleet has, and every event keeps: the namespaces lie on the medium, a raw host's controller
--- bears the number of its place, and each request that waits was taken by its driver, so that its command says how long
--- its data are.
+-- The invariant of a fleet: the namespaces are on the medium, a raw host's controller has the number of its place, and
+-- each request that waits was placed by its driver, so that its command determines the length of its data.
 use Rattle.std.specs.Prelude.{◌≡◌, ℕ, ◌*◌, true, false, List, length, None}
 use Rattle.std.specs.List.{AllByRecursion}
 use Rattle.nvme_spec.specs.Blocks.{Device}
-use Rattle.nvme_spec.specs.Configuration.{Configuration, first_config_fault}
+use Rattle.nvme_spec.specs.Configuration.{Configuration, Capacity, config_fault}
 use Rattle.nvme_spec.specs.Layout.{IsLaidOut}
 use Rattle.nvme_driver.specs.declared.request.Request.{Request}
 use Rattle.nvme_driver.specs.Requests.{asked_of, is_bad}
@@ -16,7 +15,7 @@ use Rattle.nvme_mailbox.specs.IoCommands.{AreNumbered}
 use Rattle.nvme_mailbox.specs.Apart.{HasMailbox}
 use Rattle.nvme_mailbox.specs.Tickets.{waiting}
 
--- it asks what some request asks that is not bad
+-- its command and data are those of some valid request
 abbrev pub WasTaken : Item → Type 0
 WasTaken i = (request : Request) × (is_bad request ≡ false) × (i.asked ≡ asked_of request)
 
@@ -30,8 +29,8 @@ pub record IsRegular (f : Fleet) : Type 0 where
 
 abbrev pub OpeningIsRegular : Type 0
 OpeningIsRegular =
-    (c : Configuration) → (d : Device) → (blocks : ℕ) → length d.content ≡ 512 * blocks
-    → first_config_fault c blocks ≡ None → IsRegular (opening c d)
+    (c : Configuration) → (d : Device) → (size : Capacity) → length d.content ≡ 512 * size.medium
+    → config_fault c size ≡ None → IsRegular (opening c d)
 
 abbrev pub RegularityStays : Type 0
 RegularityStays =

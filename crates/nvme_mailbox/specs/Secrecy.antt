@@ -1,5 +1,5 @@
--- What hosts of a fleet that may not read a namespace learn of its bytes, over runs: nothing. Hosts with a driver and
--- raw ones alike.
+-- Statements of the law on secrecy, for hosts with a driver and raw ones alike: hosts of a fleet that may not read a
+-- namespace learn nothing of its bytes over runs.
 use Rattle.std.specs.Prelude.{◌≡◌, ◌<◌, ◌-◌, ◌^◌, ℕ, true, false, List}
 use Rattle.std.specs.List.{AllByRecursion}
 use Rattle.nvme_spec.specs.Blocks.{Device}
@@ -26,10 +26,10 @@ over d f = record { site = site_over d f.site; hosts = f.hosts }
 abbrev pub MayNotRead : World → ℕ → List FleetEvent → Type 0
 MayNotRead w n events = AllByRecursion (OfItsHost (λ k. may_read w k n ≡ false)) events
 
--- Fenced reading: while no reservation command on a namespace is executed but denied ones, and power is not lost or the
--- reservation persists, whatever hosts that may not read it are answered, with whatever data, they can be answered as
--- well where its bytes are others; and they find the same: each driver's mailbox, each raw host's controller with its
--- host memory.
+-- Fenced reading. Suppose that every reservation command on a namespace is denied, and power is not lost or the
+-- reservation persists. Then hosts that may not read it get answers and data that are possible with any other bytes of
+-- the namespace too. They also leave the same state: each driver's mailbox, and each raw host's controller with its
+-- memory.
 abbrev pub FencedReading : Type 0
 FencedReading =
     (old new : Fleet) → (medium : Device) → (events : List FleetEvent) → (replies : List Reply) → (n : ℕ)
@@ -38,7 +38,7 @@ FencedReading =
     → (left : Device) × RunWhere (LeavesReservation n) true (over medium old) events replies (over left new)
     × DifferIn n new.site.world new.site.device left
 
--- And without a fault of the medium they are answered the same: all replies, mailboxes and controllers are equal.
+-- And without a fault of the medium they are the same: all replies, mailboxes and controllers are equal.
 abbrev pub FencedReadingIsSame : Type 0
 FencedReadingIsSame =
     (old new other : Fleet) → (medium : Device) → (events : List FleetEvent) → (replies others : List Reply) → (n : ℕ)

@@ -1,5 +1,5 @@
--- A driver that is down waits for nothing: whatever it hands up as done later was placed, and executed, since it came
--- up.
+-- Statements of the law `done_since_it_came_up`: a driver that is down has no waiting request and no answer. So a
+-- request that it delivers as done later was placed, and then executed, since it came up.
 use Rattle.std.specs.Prelude.{◌≡◌, ℕ, ◌+◌, Bool, false, List, length, Some, Ok, slice_get}
 use Rattle.nvme_wire.specs.declared.status.Status.{Status}
 use Rattle.nvme_spec.specs.declared.config.ControllerConfig.{ControllerConfig}
@@ -15,18 +15,18 @@ use Rattle.nvme_mailbox.specs.Fleets.{Fleet, Step, Run, opening}
 use Rattle.nvme_mailbox.specs.Apart.{HasMailbox}
 use Rattle.nvme_mailbox.specs.Answered.{IsClear, WasPlacedAndExecuted}
 
--- the configuration gives the controller at place i a host that is not raw
+-- in the configuration, the host of the controller at place i is not raw
 abbrev pub HasDriver : Configuration → ℕ → Type 0
 HasDriver c i = (k : ControllerConfig) × (slice_get c.controllers i ≡ Some k) × (k.raw ≡ false)
 
--- From an opening on, over every run: where a driver is down, no request waits, and no answer.
+-- In every run from an opening: if a driver is down, neither a request nor an answer waits.
 abbrev pub DownIsClear : Type 0
 DownIsClear =
     (tells : Bool) → (c : Configuration) → (d : Device) → (f : Fleet) → (events : List FleetEvent)
     → (replies : List Reply) → Run tells (opening c d) events replies f
     → (i : ℕ) → HasDriver c i → (m : Mailbox) → HasMailbox f (i + 1) m → m.up ≡ false → IsClear m
 
--- So, whenever it was down, what a Poll hands up as done later was placed, and executed, since then.
+-- So a request that a Poll delivers as done after the driver was down was placed, and then executed, since then.
 abbrev pub DoneSinceItCameUp : Type 0
 DoneSinceItCameUp =
     (tells : Bool) → (c : Configuration) → (d : Device) → (old mid new : Fleet) → (before : List FleetEvent)

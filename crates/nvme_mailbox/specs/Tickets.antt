@@ -1,6 +1,29 @@
--- The tickets of a host with a driver: which requests its mailbox holds, which tickets a run gives it, executes for it
--- and hands up to it.
-use Rattle.std.specs.Prelude.{◌≡◌, ◌≤◌, ℕ, ◌+◌, ◌==◌, nat_lt, zero, suc, Bool, false, if◌then◌else◌, List, [], ◌∷◌, ◌++◌, length, map, Option, None, Some, Ok, slice_get}
+-- Statements of laws about the tickets of a host with a driver: the requests that its mailbox holds, and the tickets
+-- that a run issues, executes and delivers.
+use Rattle.std.specs.Prelude.{
+  ◌≡◌,
+  ◌≤◌,
+  ℕ,
+  ◌+◌,
+  ◌==◌,
+  nat_lt,
+  zero,
+  suc,
+  Bool,
+  false,
+  if◌then◌else◌,
+  List,
+  [],
+  ◌∷◌,
+  ◌++◌,
+  length,
+  map,
+  Option,
+  None,
+  Some,
+  Ok,
+  slice_get,
+}
 use Rattle.nvme_spec.specs.Blocks.{Device}
 use Rattle.nvme_spec.specs.Configuration.{Configuration}
 use Rattle.nvme_spec.specs.declared.config.ControllerConfig.{ControllerConfig}
@@ -21,9 +44,9 @@ abbrev pub total : {A : Type 0} → (A → ℕ) → List A → ℕ
 total f [] = 0
 total f (x ∷ xs) = f x + total f xs
 
--- What a mailbox holds.
+-- The requests of a mailbox.
 
--- the requests that were not executed, and the answers that were not handed up
+-- the requests that were not executed, and the answers that were not delivered
 abbrev pub requests_in : LaneBox → List Item
 requests_in b = b.placed ++ b.rung
 
@@ -33,7 +56,7 @@ waiting m = requests_in m.admin ++ requests_in m.io ++ map (λ (f : FetchedItem)
 unfoldable pub posted_answers : Mailbox → List PostedAnswer
 posted_answers m = m.admin.posted ++ m.io.posted
 
--- their tickets, and with those of the aborted requests the tickets of all that was not handed up
+-- their tickets; with those of the aborted requests, the tickets of all that was not delivered
 abbrev pub waiting_tickets : Mailbox → List ℕ
 waiting_tickets m = map (λ (i : Item). i.ticket) (waiting m)
 
@@ -43,12 +66,11 @@ answered_tickets m = map (λ (a : PostedAnswer). a.ticket) (posted_answers m)
 abbrev pub held_tickets : Mailbox → List ℕ
 held_tickets m = waiting_tickets m ++ answered_tickets m ++ m.aborted
 
--- They are as many as the mailbox counts where it refuses the 25th.
+-- Their number is the one that the mailbox counts when it refuses the 25th.
 abbrev pub HeldAreCounted : Type 0
 HeldAreCounted = (m : Mailbox) → length (held_tickets m) ≡ held m
 
--- What an event gives: the ticket of a request that was placed, that was executed, that came to an answer, or that was
--- aborted.
+-- The ticket of an event's result: of a request that was placed, executed, answered or aborted.
 
 abbrev pub given_in : FleetSeen → List ℕ
 given_in (Placed (Ok ticket)) = ticket.0 ∷ []
@@ -62,7 +84,7 @@ abbrev pub aborted_in : FleetSeen → List ℕ
 aborted_in (Polled (Ok (Some (Aborted ticket)))) = ticket.0 ∷ []
 aborted_in other = []
 
--- of an execution it is the ticket of the request that stood at its place
+-- for an execution, the ticket of the request at its place
 abbrev pub fetched_by : Option Host → ℕ → Option FetchedItem
 fetched_by None i = None
 fetched_by (Some (WithDriver m)) i = slice_get m.fetched i
@@ -80,7 +102,7 @@ abbrev pub where_posted : FleetSeen → List ℕ → List ℕ
 where_posted (Executed (Posted outcome)) tickets = tickets
 where_posted other tickets = []
 
--- the same, where the event is one of host k
+-- these tickets if the event is one of host k, else none
 abbrev pub own : ℕ → FleetEvent → List ℕ → List ℕ
 own k event tickets = if concerns event k then tickets else []
 
@@ -107,9 +129,9 @@ along each tells old (event ∷ events) [] new run = []
 
 -- Balances.
 
--- Tickets are given, executed, done and aborted while a mailbox goes from one state to another. Whatever each ticket
--- weighs (all alike, so that they are counted, or one ticket alone): what was held and what was given is held or handed
--- up, done or aborted; what is executed was waiting or given; what is done was answered or executed.
+-- Tickets are issued, executed, done and aborted while a mailbox changes. For any weight of each ticket (equal weights
+-- count them all, another weight only one): what was held and what was issued is still held, or was delivered as done
+-- or aborted; what is executed was waiting or issued; what is done was answered or executed.
 pub record Balance (weight : ℕ → ℕ) (old new : Mailbox) (given executed done aborted : List ℕ) : Type 0 where
   pub held : total weight (held_tickets new) + total weight done + total weight aborted
       ≡ total weight (held_tickets old) + total weight given
@@ -134,7 +156,7 @@ DriversStay =
     → Run tells old events replies new → (k : ℕ) → (m : Mailbox) → HasMailbox old k m
     → (n : Mailbox) × HasMailbox new k n
 
--- The tickets that a run gives are the next ones, in order.
+-- The tickets that a run issues are the next ones, in order.
 abbrev pub counting : ℕ → ℕ → List ℕ
 counting first zero = []
 counting first (suc count) = first ∷ counting (first + 1) count
@@ -147,16 +169,16 @@ TicketsAreConsecutive =
     → (count : ℕ) × (along (given k) tells old events replies new run ≡ counting m.next count)
     × (n.next ≡ m.next + count)
 
--- Once.
+-- Each once.
 
--- how often a ticket stands in a list
+-- the number of times a ticket is in a list
 abbrev pub is_ticket : ℕ → ℕ → ℕ
 is_ticket t u = if u == t then 1 else 0
 
 abbrev pub times : ℕ → List ℕ → ℕ
 times t tickets = total (is_ticket t) tickets
 
--- each ticket that is held was given before, and is held once: so it is in a new mailbox, which holds none
+-- each ticket that is held was issued before, and is held once; a new mailbox holds none
 abbrev pub below : ℕ → ℕ → ℕ
 below t next = if nat_lt t next then 1 else 0
 
@@ -171,22 +193,22 @@ abbrev pub OpeningIsNew : Type 0
 OpeningIsNew =
     (c : Configuration) → (d : Device) → (k : ℕ) → (m : Mailbox) → HasMailbox (opening c d) k m → m ≡ new_mailbox 1
 
--- and each host that its configuration does not call raw has one
+-- each host that the configuration does not make raw has a driver
 abbrev pub OpeningHasDrivers : Type 0
 OpeningHasDrivers =
     (c : Configuration) → (d : Device) → (i : ℕ) → (k : ControllerConfig) → slice_get c.controllers i ≡ Some k
     → k.raw ≡ false
     → HasMailbox (opening c d) (i + 1) (new_mailbox 1)
 
--- and so it stays
+-- and this holds in every run
 abbrev pub EachIsHeldOnce : Type 0
 EachIsHeldOnce =
     (tells : Bool) → (old new : Fleet) → (events : List FleetEvent) → (replies : List Reply)
     → Run tells old events replies new
     → (k : ℕ) → (m n : Mailbox) → HasMailbox old k m → HasMailbox new k n → HoldsEachOnce m → HoldsEachOnce n
 
--- A ticket is given at most once, executed at most once, and handed up at most once, be it done or aborted, and is held
--- no longer then; one that is given is held or was handed up.
+-- A ticket is issued at most once, executed at most once, and delivered at most once, as done or as aborted; then it is
+-- no longer held. One that is issued is held or was delivered.
 pub record GoesOnce (t : ℕ) (new : Mailbox) (given executed done aborted : List ℕ) : Type 0 where
   pub given_once : times t given ≤ 1
   pub executed_once : times t executed ≤ 1
@@ -202,7 +224,7 @@ EachTicketGoesOnce =
     (along (given k) tells old events replies new run) (along (executed k) tells old events replies new run)
     (along (done k) tells old events replies new run) (along (aborted k) tells old events replies new run)
 
--- So it is of each host with a driver, over every run from an opening.
+-- So is each ticket of each host with a driver, in every run from an opening.
 abbrev pub TicketsOfAnOpeningGoOnce : Type 0
 TicketsOfAnOpeningGoOnce =
     (c : Configuration) → (d : Device) → (i : ℕ) → (k : ControllerConfig) → slice_get c.controllers i ≡ Some k

@@ -1,5 +1,5 @@
--- What no event of a host with a driver gives: a completion queue that has no room, a completion that answers no
--- request, and a controller that does not come up.
+-- Statements of the law `trouble_never_comes`: no event of a host with a driver finds a completion queue full, a
+-- completion that answers no request, or a controller that does not come up.
 use Rattle.std.specs.Prelude.{◌≡◌, ℕ, Bool, true, List, Err}
 use Rattle.nvme_machine.specs.declared.seen.Executed.TheVariants.{CqFull}
 use Rattle.nvme_driver.specs.declared.faults.UpFault.TheVariants.{NotReady, NoAnswer, Refused}
@@ -22,7 +22,7 @@ IsUnseen (Up (Err NoAnswer)) = Unit {0}
 IsUnseen (Up (Err (Refused why))) = Unit {0}
 IsUnseen other = ⊥
 
--- an event of host k gives it
+-- an event of host k has such a result
 pub record GivesUnseen (k : ℕ) (old : Fleet) (event : FleetEvent) (reply : Reply) (new : Fleet) : Type 0 where
   pub host : concerns event k ≡ true
   pub seen : IsUnseen reply.seen

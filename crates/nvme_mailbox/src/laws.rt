@@ -1,16 +1,43 @@
-//! What follows from the definitions. Each law is the contract of a function that does nothing.
+//! Laws of mailboxes and fleets. Each law is the contract of an empty function.
 
-ghost use Rattle.nvme_mailbox.specs.Answered.{DoneAnswersItsRequest, DoneIsItsExecution, NewIsClear, ResetClears, TicketNamesItsRequest};
+ghost use Rattle.nvme_mailbox.specs.Answered.{
+  DoneAnswersItsRequest,
+  DoneIsItsExecution,
+  NewIsClear,
+  ResetClears,
+  TicketNamesItsRequest,
+};
 ghost use Rattle.nvme_mailbox.specs.Apart.{HostsAreApart};
 ghost use Rattle.nvme_mailbox.specs.Determined.{FailuresNeverFall, RunExists, RunIsUnique};
-ghost use Rattle.nvme_mailbox.specs.Fencing.{OnlyAllowedActionsReserve, PermissionsStay, FencedWritesAreDenied, FencingHolds};
+ghost use Rattle.nvme_mailbox.specs.Fencing.{
+  OnlyAllowedActionsReserve,
+  PermissionsStay,
+  FencedWritesAreDenied,
+  FencingHolds,
+};
 ghost use Rattle.nvme_mailbox.specs.IoCommands.{OpeningIsNumbered, NumbersStay, ExecutedAsThePolicyAllows};
-ghost use Rattle.nvme_mailbox.specs.Preempting.{OutsidersMayNotWrite, OutsidersStayOutside, PreemptedIsOutside, PreemptedStaysOut};
+ghost use Rattle.nvme_mailbox.specs.Preempting.{
+  OutsidersMayNotWrite,
+  OutsidersStayOutside,
+  PreemptedIsOutside,
+  PreemptedStaysOut,
+};
 ghost use Rattle.nvme_mailbox.specs.SinceUp.{DownIsClear, DoneSinceItCameUp};
-ghost use Rattle.nvme_mailbox.specs.Tickets.{DriversStay, EachIsHeldOnce, EachTicketGoesOnce, HeldAreCounted, NewHoldsEachOnce, OpeningHasDrivers, OpeningIsNew, TicketsAreConsecutive, TicketsBalance, TicketsOfAnOpeningGoOnce};
+ghost use Rattle.nvme_mailbox.specs.Tickets.{
+  DriversStay,
+  EachIsHeldOnce,
+  EachTicketGoesOnce,
+  HeldAreCounted,
+  NewHoldsEachOnce,
+  OpeningHasDrivers,
+  OpeningIsNew,
+  TicketsAreConsecutive,
+  TicketsBalance,
+  TicketsOfAnOpeningGoOnce,
+};
 ghost use Rattle.nvme_mailbox.specs.Unseen.{UnseenNeverComes};
 
-/// A list of events has one run without a fault of the medium, and one alone: each reply, and what is left, is what the
+/// Without a fault of the medium, a list of events has exactly one run: each reply, and the last state, is what the
 /// definitions compute.
 #[tactic(auto, using(crate::proofs::Determined::failures_never_fall, crate::proofs::Determined::run_is_unique))]
 pub fn run_is_determined()
@@ -19,16 +46,16 @@ pub fn run_is_determined()
     ensures unique { RunIsUnique }
 {}
 
-/// A host that has a driver goes on having one, and its mailbox becomes what its own events make of it, whatever all
-/// others do: their events leave it as it is, but for the marks of a Preempt and Abort. A power cycle is an event of
-/// all hosts.
+/// A host that has a driver always has one. Its mailbox is changed only by its own events and by the marks of another
+/// host's Preempt and Abort. A power cycle counts as an event of every host.
 #[tactic(auto, using(crate::proofs::Apart::hosts_are_apart))]
 pub fn hosts_are_apart()
     ensures apart { HostsAreApart }
 {}
 
-/// Over every run, whatever each ticket weighs: of a host with a driver, the tickets that were held or given are those
-/// that are held, done or aborted; what is executed was waiting or given, and what is done was answered or executed.
+/// For a host with a driver, over every run and for any weights of tickets: the tickets that were held or issued are
+/// those that are held, done or aborted at the end. Each executed ticket was waiting at the start or was issued; each
+/// done one was answered at the start or was executed.
 #[tactic(auto, using(crate::proofs::TicketCounts::held_are_counted, crate::proofs::TicketRuns::drivers_stay))]
 pub fn tickets_balance()
     ensures counted { HeldAreCounted }
@@ -36,8 +63,8 @@ pub fn tickets_balance()
     ensures balance { TicketsBalance }
 {}
 
-/// Of a host with a driver the tickets are given in order, each once. From an opening on, over every run, each ticket
-/// is executed at most once, and handed up at most once, as done or as aborted; one that was given is held until then.
+/// A host with a driver issues its tickets in order, each once. In every run from an opening, each ticket is executed
+/// at most once, and delivered at most once, as done or as aborted; one that was issued is held until then.
 #[tactic(auto, using(crate::proofs::TicketCounts::tickets_are_consecutive, crate::proofs::TicketCounts::opening_is_new, crate::proofs::TicketCounts::opening_has_drivers, crate::proofs::TicketCounts::new_holds_each_once, crate::proofs::TicketCounts::each_is_held_once))]
 pub fn tickets_go_once()
     ensures consecutive { TicketsAreConsecutive }
@@ -49,10 +76,10 @@ pub fn tickets_go_once()
     ensures opened { TicketsOfAnOpeningGoOnce }
 {}
 
-/// What a driver hands up as done is what the execution of its own request came to, in the site of that moment: status,
-/// double word 0 and data. That request was placed, and then executed, since the mailbox was clear, as a new one is and
-/// each reset leaves it; so nothing from before a reset is handed up as done. A ticket names the one request that was
-/// placed under it, so what is done under its ticket is what the execution of that request came to.
+/// An answer that a driver delivers as done has the status, double word 0 and data of the execution of its own request,
+/// over the access state and medium at that moment. The request was placed, and then executed, since the mailbox was
+/// last clear. A mailbox is clear at first and after each reset, so nothing from before a reset is delivered as done.
+/// Each ticket belongs to one request, so a done answer with its ticket answers that request.
 pub fn done_is_its_execution()
     ensures new { NewIsClear }
     ensures reset { ResetClears }
@@ -61,25 +88,25 @@ pub fn done_is_its_execution()
     ensures request { DoneAnswersItsRequest }
 {}
 
-/// No event of a host with a driver finds a completion queue without room, hands up that a completion answers no
-/// request, or brings a controller up that does not come up.
+/// No event of a host with a driver finds a completion queue full, delivers a completion that answers no request, or
+/// fails to bring up its controller.
 pub fn trouble_never_comes()
     ensures unseen { UnseenNeverComes }
 {}
 
-/// Each I/O command that a controller of a fleet executes, of a driver or of a raw host, is judged by the rules in the
-/// access state of that moment: denied, it is answered with the number and the status of the first rule that fails, and
-/// changes neither access state nor medium; allowed, it does exactly its effect. A raw host's controller bears its
-/// number, at the opening and over every run.
+/// The rules judge each I/O command that a controller of a fleet executes, of a driver or of a raw host, by the access
+/// state of that moment. A denied one is answered with the number and the status of the first rule that fails, and
+/// changes neither access state nor medium; an allowed one has exactly its effect. A raw host's controller has its
+/// number, at the opening and in every run.
 pub fn executed_as_the_policy_allows()
     ensures opening { OpeningIsNumbered }
     ensures numbers { NumbersStay }
     ensures executed { ExecutedAsThePolicyAllows }
 {}
 
-/// A host that may not write a namespace is answered Reservation Conflict for each of its writes, or the denial of a
-/// rule before, until a reservation command on the namespace is executed that all rules let pass, or power is lost that
-/// its reservation does not outlast.
+/// Each write of a host that may not write a namespace is answered Reservation Conflict, or the denial of an earlier
+/// rule, until a reservation command on the namespace is allowed, or power is lost and its reservation does not
+/// persist.
 pub fn fencing_is_kept()
     ensures reserves { OnlyAllowedActionsReserve }
     ensures permissions { PermissionsStay }
@@ -87,8 +114,8 @@ pub fn fencing_is_kept()
     ensures run { FencingHolds }
 {}
 
-/// A host that a Preempt has removed stays out: while the namespace is held, by whom it may be, its writes are answered
-/// so, until it has a key again, which it gets by its own Reservation Register alone.
+/// A host that a Preempt has removed stays fenced: while any host holds the reservation, its writes are answered in the
+/// same way until it is registered again, which only its own Reservation Register can do.
 pub fn preempted_hosts_stay_out()
     ensures outsiders { OutsidersMayNotWrite }
     ensures outside { OutsidersStayOutside }
@@ -96,8 +123,8 @@ pub fn preempted_hosts_stay_out()
     ensures run { PreemptedStaysOut }
 {}
 
-/// A driver that is down waits for nothing, from an opening on. So what it hands up as done after any moment at which
-/// it was down was placed, and then executed, since then: since it last came up.
+/// In every run from an opening, a driver that is down has no waiting request and no answer. So a request that it
+/// delivers as done after it was down was placed, and then executed, since it last came up.
 pub fn done_since_it_came_up()
     ensures clear { DownIsClear }
     ensures done { DoneSinceItCameUp }

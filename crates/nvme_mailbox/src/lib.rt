@@ -1,7 +1,7 @@
-//! What a host may rely on, whatever stands below it: a mailbox for each driver, with what it has asked for and where
-//! that stands, and a fleet of them with the raw hosts' controllers. `specs` has the definitions, with nothing of queues,
-//! phase tags, identifiers of commands or addresses; `laws` what follows from them over every run. A crate of its own,
-//! so that the laws are proved beside the code that keeps to the definitions.
+//! What a host may rely on: a mailbox for each driver, with the driver's requests and their states, and a fleet of
+//! these mailboxes and the raw hosts' controllers. `specs` defines them without queues, phase tags, command identifiers
+//! or addresses; `laws` has what follows from the definitions for every run. The crate depends on no code, so its laws
+//! are proved in parallel with the code.
 #![tactic(auto)]
 
 mod examples;

@@ -1,7 +1,7 @@
--- What the worked examples speak of.
+-- A medium for the worked examples in `examples.rt`.
 use Rattle.std.specs.Prelude.{◌≡◌, List, [], ◌∷◌, ◌++◌}
 use Rattle.nvme_spec.specs.MediumCalls.{MediumCall}
 
--- a medium that is the list of the calls that were made of it
+-- a medium whose state is the list of its calls
 abbrev pub logs : List MediumCall → MediumCall → List MediumCall → Type 0
 logs old call new = new ≡ old ++ (call ∷ [])

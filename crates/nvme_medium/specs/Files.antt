@@ -1,10 +1,10 @@
--- The medium of a file's whole blocks.
+-- A medium of a file's whole blocks, as contracts see it.
 use Rattle.std.specs.Prelude.{ℕ, List}
 use Rattle.nvme_spec.specs.Blocks.{Device}
 use Rattle.nvme_medium.specs.Memory.{whole_blocks}
 use Rattle.nvme_medium.specs.declared.file.FileMedium.{FileMedium}
 
--- the file below
+-- the file
 abbrev pub file_of : {F : Type 0} → FileMedium F → F
 file_of m = m.file
 

@@ -1,11 +1,11 @@
--- Blocks that are read onto a buffer.
+-- Reads of several blocks onto a buffer, for the contracts of `read_blocks`.
 use Rattle.std.specs.Prelude.{◌≡◌, ◌<◌, ◌⊎◌, ℕ, ◌*◌, Bool, IsTrue, List, length, take, drop}
 use Rattle.nvme_spec.specs.Blocks.{Told, block_at, blocks_from}
 use Rattle.nvme_spec.specs.MediumCalls.{MediumAnswer, MediumCall, Calls, EndsAt, course, reads_from}
 
--- So many blocks, from this one of the medium on, are read onto a buffer. The calls are reads of just these, in rising
--- order, up to the first that fails, and no other. The blocks that were read stand at the front of the buffer, as the
--- calls gave them and as the medium has them; behind them the buffer is as it was.
+-- Blocks are read into a buffer, from block `first`. The calls are one read for each, in rising order, up to the first
+-- that fails. The front of the buffer has the blocks that these calls returned, which are those of the medium; the rest
+-- is unchanged.
 pub record ReadsBlocks {M : Type 0} (step : M → MediumCall → M → Type 0) (tells : Bool) (content : List ℕ)
     (first count : ℕ) (buffer left : List ℕ) (old : M) (answer : MediumAnswer) (new : M) : Type 0 where
   pub passed : ℕ
@@ -15,12 +15,12 @@ pub record ReadsBlocks {M : Type 0} (step : M → MediumCall → M → Type 0) (
   pub behind : drop (512 * passed) left ≡ drop (512 * passed) buffer
   pub long : length left ≡ length buffer
 
--- so many blocks of two buffers are the same
+-- the first blocks of two buffers are the same
 abbrev pub GiveTheSame : ℕ → List ℕ → List ℕ → Type 0
 GiveTheSame blocks one two = (j : ℕ) → j < blocks → block_at one j ≡ block_at two j
 
--- What is left is determined by what passed: by how many reads did and, where the medium does not tell its content, by
--- the blocks that they gave.
+-- The buffer after the reads is determined by the number of reads that succeeded and, if the medium does not reveal its
+-- content, by the blocks that they returned.
 abbrev pub ReadingIsUnique : {M : Type 0} → (M → MediumCall → M → Type 0) → Type 0
 ReadingIsUnique {M} step =
     (tells : Bool) → (content : List ℕ) → (first count : ℕ) → (buffer left other : List ℕ)
@@ -29,7 +29,7 @@ ReadingIsUnique {M} step =
     → (two : ReadsBlocks step tells content first count buffer other old reply later)
     → one.passed ≡ two.passed → IsTrue tells ⊎ GiveTheSame one.passed left other → left ≡ other
 
--- And whatever the calls gave, a buffer can have it.
+-- For any blocks that the calls return, there is such a buffer.
 abbrev pub ReadingExists : {M : Type 0} → (M → MediumCall → M → Type 0) → Type 0
 ReadingExists {M} step =
     (tells : Bool) → (content : List ℕ) → (first count passed : ℕ) → (buffer given : List ℕ)

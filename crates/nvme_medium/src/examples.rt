@@ -1,5 +1,4 @@
-//! Worked examples of the definitions. The functions do nothing: their contracts are proved by computing, so that each
-//! definition is seen to say what its reader takes it to say.
+//! Worked examples of the definitions. Each is the contract of an empty function, proved by computing.
 
 ghost use Rattle.std.specs.Prelude.{◌++◌, [], ◌∷◌, true, replicate, Ok, Err};
 ghost use Rattle.nvme_spec.specs.MediumCalls.{Reads};
@@ -7,8 +6,8 @@ ghost use Rattle.nvme_spec.specs.declared.medium.MediumFault.{MediumFault as Fau
 ghost use Rattle.nvme_medium.specs.Examples.{logs};
 ghost use Rattle.nvme_medium.specs.Reading.{ReadsBlocks};
 
-/// Two blocks of the bytes 1 and 2 are read onto a buffer of the bytes 9. Where both pass, it has both; where the second
-/// cannot be read, it has the first and its own bytes behind it; where the first cannot be read, the second is not tried.
+/// Reads two blocks of the bytes 1 and 2 onto a buffer of the bytes 9. If both reads succeed, the buffer has both
+/// blocks. If the second fails, it has the first and then its own bytes. If the first fails, the second is not tried.
 fn two_blocks_are_read()
     ensures both { ReadsBlocks logs true (replicate 512 1 ++ replicate 512 2) 0 2 (replicate 1024 9)
         (replicate 512 1 ++ replicate 512 2) [] (Ok tt)

@@ -1,5 +1,5 @@
-//! A file of the system. Each call but `len` is one call of the system, of which no contract speaks: what is said of
-//! files by their calls and bytes ends here, so this file is to be read.
+//! A file of the system. Each call except `len` makes one system call, whose effect no contract states: audit this file
+//! by hand.
 
 ghost use Rattle.std.specs.Prelude.{◌≡◌, ◌<◌, ◌^◌, Ok, IfOk};
 ghost use Rattle.nvme_spec.specs.Blocks.{CountsFaults};
@@ -9,8 +9,8 @@ use std::fs::File;
 use std::io;
 use std::os::unix::fs::FileExt;
 
-/// A file of the system, of the length that it had when it was opened. Nobody can know what others do to it, or what a
-/// disk returns, so it tells no bytes.
+/// A file of the system, with the length that it had when it was opened. Others may change it and a disk may return
+/// anything, so it reveals no bytes.
 #[derive(Drop)]
 pub struct HostFile {
     file: File,
@@ -20,7 +20,7 @@ pub struct HostFile {
 }
 
 impl HostFile {
-    /// An open file of this length, no call of which has failed.
+    /// An open file of this length, none of whose calls has failed.
     pub(crate) fn new(file: File, len: u64) -> Self
         ensures len { result.len ≡ len }
         ensures unfailed { result.failures ≡ 0 }
@@ -32,7 +32,8 @@ impl HostFile {
         }
     }
 
-    /// What a call of the system moved. An error is a fault, which is counted, and so is a call that moved nothing.
+    /// The number of bytes that a system call moved. An error is a fault, which is counted; so is a call that moved no
+    /// byte.
     fn counted(&mut self, outcome: io::Result<usize>) -> Result<usize, MediumFault>
         ensures some { IfOk result (λ n. 0 < n) }
         ensures same { IfOk result (λ n. outcome ≡ Ok n) }
@@ -69,8 +70,8 @@ impl RawFile for HostFile {
         self.len
     }
 
-    /// Reads into a buffer first, since a call of the system says only how many bytes it has read, and not that it left
-    /// the others.
+    /// Reads into a buffer of its own first: the contract of the system call states the number of bytes read, but not
+    /// that it left the others unchanged.
     fn read_at(&mut self, offset: u64, part: &mut [u8]) -> Result<usize, MediumFault> {
         let mut buffer = [0; BLOCK];
         let most = part.len().min(BLOCK);

@@ -1,4 +1,4 @@
-//! Block media: logical blocks of 512 bytes that are read and written whole, by calls of which each may fail.
+//! Block media: logical blocks of 512 bytes that are read and written whole, by calls that may fail.
 #![tactic(auto)]
 
 mod cached;
@@ -6,6 +6,7 @@ mod examples;
 mod failing;
 mod file;
 mod host;
+mod lanes;
 pub mod laws;
 mod medium;
 mod memory;
@@ -18,6 +19,7 @@ pub use cached::Cached;
 pub use failing::Failing;
 pub use file::FileMedium;
 pub use host::HostFile;
+pub use lanes::lanes_equal;
 pub use medium::{BLOCK, Medium};
 pub use memory::MemMedium;
 pub use nvme_spec::MediumFault;

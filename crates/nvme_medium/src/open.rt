@@ -1,4 +1,4 @@
-//! How a medium is opened over a file of the system.
+//! Opens a medium over a file of the system.
 
 ghost use Rattle.std.specs.Prelude.{◌≡◌, ◌≢◌};
 ghost use Rattle.std.specs.IoError.{error_kind};
@@ -22,20 +22,21 @@ pub enum FileFault {
     InUse,
     /// The system can't lock it.
     NoLock,
-    /// Its length can't be told.
+    /// Its length can't be determined.
     NoLength,
     /// Memory was refused.
     NoMemory,
 }
 
 impl FileMedium<HostFile> {
-    /// The whole blocks of the file at a path, which is read and written in place. The file is locked first, for this
+    /// A medium of the whole blocks of the file at a path, read and written in place. It locks the file first, for this
     /// medium alone; the lock ends when the medium is dropped.
     ///
     /// # Errors
-    /// `NoFile` if it can't be opened for reading and writing, `InUse` if another open of it holds the lock, `NoLock` if
-    /// the system can't lock it, `NoLength` if its length can't be told, and `NoMemory` if the system has no memory for
-    /// one of these.
+    ///
+    /// `NoFile` if it can't be opened for reading and writing, `InUse` if another open of it holds the lock, `NoLock`
+    /// if the system can't lock it, `NoLength` if its length can't be determined, and `NoMemory` if the system has no
+    /// memory for one of these.
     pub fn open<R: Files<File = File>, P: AsPath>(rt: &R, path: P) -> Result<Self, FileFault> {
         let file = OpenOptions::new()
             .read(true)
@@ -63,7 +64,7 @@ fn lock_fault(error: &TryLockError) -> FileFault
     }
 }
 
-/// What an error of the system is told as: want of memory, or else this fault.
+/// The fault for an error of the system: `NoMemory` if it was out of memory, else `other`.
 fn fault_of(error: &io::Error, other: FileFault) -> FileFault
     ensures memory { error_kind error.now ≡ OutOfMemory → result ≡ NoMemory }
     ensures other { error_kind error.now ≢ OutOfMemory → result ≡ other }

@@ -1,20 +1,20 @@
-//! The data of a write, a block at a time.
+//! The data of a write, one block at a time.
 
 ghost use Rattle.std.specs.Prelude.{◌≡◌, ◌+◌, ◌*◌, ◌%◌, ◌≤◌, List, ℕ, length, replicate};
 ghost use Rattle.nvme_spec.specs.Blocks.{block_at, blocks_from};
 
-/// The data that a command brings, a block at a time.
+/// The data of a command, one block at a time.
 pub trait Source {
     /// All bytes.
     ghost bytes: { Self → List ℕ };
 
-    /// Block `j` of the data, which there has to be: lent where it lies in one place, else put together in the buffer.
+    /// Block `j` of the data, which must exist: borrowed if it is contiguous, else copied to the buffer.
     fn block<'a>(&'a self, j: u64, buffer: &'a mut [u8; 512]) -> &'a [u8; 512]
         requires { 512 * j + 512 ≤ length (bytes self.now) }
         ensures { result.now ≡ block_at (bytes self.now) j };
 
-    /// Blocks from block `j` of the data on, which there have to be, and of so many at most: those that lie in one place,
-    /// lent there; or the first alone, as `block` has it.
+    /// Blocks of the data from block `j`, which must exist, at most `most`: contiguous ones, borrowed; or the first
+    /// alone, as `block` returns it.
     fn blocks<'a>(&'a self, j: u64, most: u64, buffer: &'a mut [u8; 512]) -> &'a [u8]
         requires some { 1 ≤ most }
         requires inside { 512 * (j + most) ≤ length (bytes self.now) }
@@ -27,7 +27,7 @@ pub trait Source {
     }
 }
 
-/// Data that lie in one slice.
+/// Data in one slice.
 #[derive(Clone, Copy, Debug)]
 pub struct Lent<'a> {
     pub bytes: &'a [u8],
@@ -47,7 +47,7 @@ impl Source for Lent<'_> {
     }
 }
 
-/// This many blocks of zeros.
+/// Blocks of zeros.
 #[derive(Clone, Copy, Debug)]
 pub struct Zeros {
     pub blocks: u64,

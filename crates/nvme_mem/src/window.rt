@@ -1,6 +1,22 @@
-//! The window of host memory that a controller reaches.
+//! The window of host memory that a controller can address.
 
-ghost use Rattle.std.specs.Prelude.{◌≡◌, ◌+◌, ◌-◌, ◌<◌, ◌≤◌, ◌↔◌, IsSome, IfSome, IfOk, OnOk, OnErr, IsOk, IsTrue, length, slice_range};
+ghost use Rattle.std.specs.Prelude.{
+  ◌≡◌,
+  ◌+◌,
+  ◌-◌,
+  ◌<◌,
+  ◌≤◌,
+  ◌↔◌,
+  IsSome,
+  IfSome,
+  IfOk,
+  OnOk,
+  OnErr,
+  IsOk,
+  IsTrue,
+  length,
+  slice_range,
+};
 ghost use Rattle.std.specs.Borrow.{sem};
 ghost use Rattle.nvme_spec.specs.Bytes.{with_bytes};
 ghost use Rattle.nvme_spec.specs.Memory.{LiesInWindow, zeros, qword};
@@ -12,10 +28,10 @@ use nvme_wire::NoMemory;
 use std::alloc::Global;
 use std::marker::Model;
 
-/// How many bytes a window has.
+/// The length of a window in bytes.
 pub const WINDOW_LEN: usize = 4_194_304;
 
-/// The window of host memory that a controller reaches: one byte for each address below `WINDOW_LEN`.
+/// The window of host memory that a controller can address: one byte for each address below `WINDOW_LEN`.
 #[derive(Drop)]
 pub struct Window {
     bytes: Vec<u8>,
@@ -32,11 +48,11 @@ impl Model for Window {
     ghost invariant = { λ w. length w.bytes.items ≡ WINDOW_LEN };
 }
 
-/// The bytes do not all lie in the window.
+/// Some of the bytes are outside the window.
 #[derive(Clone, Copy, Debug, PartialEq, Eq)]
 pub struct OutsideWindow;
 
-/// Whether the `len` bytes from `addr` on all lie in the window.
+/// Whether the `len` bytes from `addr` are all in the window.
 fn is_inside(addr: u64, len: u64) -> bool
     ensures { IsTrue result ↔ (addr + len ≤ WINDOW_LEN) }
 {
@@ -48,7 +64,8 @@ impl Window {
     /// A window of zeros, on the heap.
     ///
     /// # Errors
-    /// `NoMemory` where the allocator has no room for it.
+    ///
+    /// `NoMemory` if memory for it is refused.
     pub fn new(alloc: Global) -> Result<Window, NoMemory>
         ensures zeros { IfOk result (λ window. window ≡ zeros) }
     {
@@ -57,7 +74,7 @@ impl Window {
         })
     }
 
-    /// The bytes of a piece. That it lies in the window is the caller's condition.
+    /// The bytes of a piece, which must be in the window.
     pub fn bytes(&self, piece: Piece) -> &[u8]
         requires inside { LiesInWindow piece }
         ensures bytes { result.now ≡ slice_range self.now piece.address (piece.address + piece.len) }
@@ -68,8 +85,7 @@ impl Window {
         &self.bytes[start..start + piece.len as usize]
     }
 
-    /// The bytes of a piece, to be written. Writing them changes no other byte. That the piece lies in the window is
-    /// the caller's condition.
+    /// The bytes of a piece, mutable. Writing them changes no other byte. The piece must be in the window.
     pub fn bytes_mut(&mut self, piece: Piece) -> &mut [u8]
         requires inside { LiesInWindow piece }
         ensures* writes_back { sem 𝓛 (LendsPart self.entry piece.address result) }
@@ -81,8 +97,7 @@ impl Window {
         self.bytes.slice_mut(start..start + piece.len as usize)
     }
 
-    /// The number in the eight bytes from `addr` on, the lowest byte first. That they lie in the window
-    /// is the caller's condition.
+    /// The little-endian number in the eight bytes at `addr`, which must be in the window.
     #[tactic(auto, unfolding(nvme_spec::specs::Memory::qword))]
     pub fn u64_at(&self, addr: u64) -> u64
         requires { addr + 8 ≤ WINDOW_LEN }
@@ -92,7 +107,7 @@ impl Window {
         LittleEndian::read_u64(&self.bytes[at..at + 8])
     }
 
-    /// The `len` bytes from `addr` on, or `None` where they do not all lie in the window.
+    /// The `len` bytes from `addr`, or `None` if some are outside the window.
     pub fn piece(&self, addr: u64, len: u64) -> Option<&[u8]>
         ensures inside { IsSome result ↔ (addr + len ≤ WINDOW_LEN) }
         ensures bytes { IfSome result (λ piece. piece.now ≡ slice_range self.now addr (addr + len)) }
@@ -113,8 +128,8 @@ impl Window {
         self.bytes.slice_mut(addr as usize..(addr + len) as usize)
     }
 
-    /// The `len` bytes from `addr` on, to be written, or `None` where they do not all lie in the window.
-    /// Writing them changes no other byte.
+    /// The `len` bytes from `addr`, mutable, or `None` if some are outside the window. Writing them changes no other
+    /// byte.
     pub fn piece_mut(&mut self, addr: u64, len: u64) -> Option<&mut [u8]>
         ensures* writes_back { sem 𝓛 (LendsPartIf self.entry addr result) }
         ensures inside { IsSome result ↔ (addr + len ≤ WINDOW_LEN) }
@@ -129,10 +144,11 @@ impl Window {
         None
     }
 
-    /// Replaces the bytes from `addr` on by `bytes`.
+    /// Replaces the bytes from `addr` by `bytes`.
     ///
     /// # Errors
-    /// `OutsideWindow` where they do not all lie in the window, which then stays as it was.
+    ///
+    /// `OutsideWindow` if some are outside the window, which is unchanged then.
     pub fn store(&mut self, addr: u64, bytes: &[u8]) -> Result<(), OutsideWindow>
         ensures inside { IsOk result ↔ (addr + length bytes.now ≤ WINDOW_LEN) }
         ensures ok { OnOk result (self.new ≡ with_bytes self.old addr bytes.now) }

@@ -1,5 +1,40 @@
--- Tables of attachments: how many there are, and that they stay tables.
-use Rattle.std.proofs.Common.{◌≡◌, ℕ, ◌+◌, ◌<◌, ◌≤◌, ◌==◌, ◌&&◌, ◌||◌, Bool, true, false, cond, not, List, [], ◌∷◌, ◌++◌, length, map, filter, Option, None, Some, Ok, Err, refl, ap, ◌∙◌, arith, eqb-true, ⊎_elim, append_assoc, append-nil, length-append}
+-- For the answers of `attach` and `detach`: tables of attachments, their length, and that they stay tables.
+use Rattle.std.proofs.Common.{
+  ◌≡◌,
+  ℕ,
+  ◌+◌,
+  ◌<◌,
+  ◌≤◌,
+  ◌==◌,
+  ◌&&◌,
+  ◌||◌,
+  Bool,
+  true,
+  false,
+  cond,
+  not,
+  List,
+  [],
+  ◌∷◌,
+  ◌++◌,
+  length,
+  map,
+  filter,
+  Option,
+  None,
+  Some,
+  Ok,
+  Err,
+  refl,
+  ap,
+  ◌∙◌,
+  arith,
+  eqb-true,
+  ⊎_elim,
+  append_assoc,
+  append-nil,
+  length-append,
+}
 use Rattle.std.specs.Prelude.{find, option_map, is_some, nat_lt, if◌then◌else◌}
 use Rattle.std.specs.List.{list_any, AllByRecursion, IsDistinct}
 use Rattle.std.proofs.lemmas.Bool.{cases_Bool, and_parts}
@@ -12,18 +47,31 @@ use Rattle.nvme_spec.proofs.Registrants.{all-filter, all-append}
 use Rattle.nvme_spec.specs.Report.{ControllerHost}
 use Rattle.nvme_spec.specs.Rules.{Test, first_failure}
 use Rattle.nvme_spec.specs.World.{World, Namespace, host_of, namespace_of, is_attached}
-use Rattle.nvme_spec.specs.Attachments.{are_controllers_above, list_tests, has_controller, attach_tests, attach_each, detach_each, unless_refused, with_attached, without_attached, attach, detach}
+use Rattle.nvme_spec.specs.Attachments.{
+  are_controllers_above,
+  list_tests,
+  has_controller,
+  attach_tests,
+  attach_each,
+  detach_each,
+  unless_refused,
+  with_attached,
+  without_attached,
+  attach,
+  detach,
+}
 use Rattle.nvme_ns.specs.Attached.{HasSmallIds, IsPair, number, IsAttachmentTable, passes_unless}
 
 abbrev pub same : ℕ → ℕ → Bool
 same m n = m == n
 
--- no more than there are pairs
+-- at most one for each pair
 
 number-below : (a : ℕ × ℕ) → IsPair a → number a < 128
 number-below a h = omega (arith, h.0, h.1, h.2, h.3)
 
-some-below : (table : List (ℕ × ℕ)) → AllByRecursion IsPair table → (q : ℕ) → list_any (same q) (map number table) ≡ true → q < 128
+some-below : (table : List (ℕ × ℕ)) → AllByRecursion IsPair table → (q : ℕ)
+    → list_any (same q) (map number table) ≡ true → q < 128
 some-below [] h q e = absurd (cc)
 some-below (a ∷ table) h q e =
     ⊎_elim {C = q < 128}
@@ -38,12 +86,14 @@ no_more table t =
 
 -- one attachment more
 
-distinct-append : (ms : List ℕ) (m : ℕ) → IsDistinct same ms → AllByRecursion (λ n. same n m ≡ false) ms → IsDistinct same (ms ++ m ∷ [])
+distinct-append : (ms : List ℕ) (m : ℕ) → IsDistinct same ms → AllByRecursion (λ n. same n m ≡ false) ms
+    → IsDistinct same (ms ++ m ∷ [])
 unfolding IsDistinct
 distinct-append [] m d h = (tt, tt)
 distinct-append (n ∷ ns) m d h = (all-append (λ k. same n k ≡ false) ns m [] d.0 h.0 tt, distinct-append ns m d.1 h.1)
 
-pub differ : (a b : ℕ × ℕ) → IsPair a → IsPair b → ((a.0 == b.0) && (a.1 == b.1)) ≡ false → same (number a) (number b) ≡ false
+pub differ : (a b : ℕ × ℕ) → IsPair a → IsPair b → ((a.0 == b.0) && (a.1 == b.1)) ≡ false
+    → same (number a) (number b) ≡ false
 differ a b p q h =
     ⊎_elim {C = same (number a) (number b) ≡ false}
     (λ (yes_ : same (number a) (number b) ≡ true).
@@ -57,27 +107,32 @@ differ a b p q h =
     both : (m n k l : ℕ) → m ≡ n → k ≡ l → ((m == n) && (k == l)) ≡ false → ⊥
     both m n k l e f h = absurd (grind (arith, nat_tests))
 
-apart : (table : List (ℕ × ℕ)) (cntlid nsid : ℕ) → AllByRecursion IsPair table → IsPair (cntlid, nsid) → list_any (λ (a : ℕ × ℕ). (a.0 == cntlid) && (a.1 == nsid)) table ≡ false
+apart : (table : List (ℕ × ℕ)) (cntlid nsid : ℕ) → AllByRecursion IsPair table → IsPair (cntlid, nsid)
+    → list_any (λ (a : ℕ × ℕ). (a.0 == cntlid) && (a.1 == nsid)) table ≡ false
     → AllByRecursion (λ n. same n (number (cntlid, nsid)) ≡ false) (map number table)
 apart [] cntlid nsid h p free = tt
 apart (a ∷ table) cntlid nsid h p free =
-    let parts = neither ((a.0 == cntlid) && (a.1 == nsid)) (list_any (λ (b : ℕ × ℕ). (b.0 == cntlid) && (b.1 == nsid)) table) free in
+    let parts = neither ((a.0 == cntlid) && (a.1 == nsid))
+    (list_any (λ (b : ℕ × ℕ). (b.0 == cntlid) && (b.1 == nsid)) table) free in
     (differ a (cntlid, nsid) h.0 p parts.0, apart table cntlid nsid h.1 p parts.1)
   where
     neither : (b c : Bool) → (b || c) ≡ false → (b ≡ false) × (c ≡ false)
     neither true c k = absurd (cc)
     neither false c k = (refl, k)
 
-pushed : (table : List (ℕ × ℕ)) (cntlid nsid : ℕ) → IsAttachmentTable table → IsPair (cntlid, nsid) → list_any (λ (a : ℕ × ℕ). (a.0 == cntlid) && (a.1 == nsid)) table ≡ false
+pushed : (table : List (ℕ × ℕ)) (cntlid nsid : ℕ) → IsAttachmentTable table → IsPair (cntlid, nsid)
+    → list_any (λ (a : ℕ × ℕ). (a.0 == cntlid) && (a.1 == nsid)) table ≡ false
     → IsAttachmentTable (table ++ (cntlid, nsid) ∷ [])
 pushed table cntlid nsid t p free = (
   all-append IsPair table (cntlid, nsid) [] t.0 p tt,
-  rw (map-append number table ((cntlid, nsid) ∷ [])) (distinct-append (map number table) (number (cntlid, nsid)) t.1 (apart table cntlid nsid t.0 p free)),
+  rw (map-append number table ((cntlid, nsid) ∷ []))
+      (distinct-append (map number table) (number (cntlid, nsid)) t.1 (apart table cntlid nsid t.0 p free)),
 )
 
--- a list of controllers that rise
+-- a list of controllers in rising order
 
-above : (w : World) (low before : ℕ) (cs : List ℕ) → are_controllers_above w before cs ≡ true → low ≤ before → AllByRecursion (λ c. low < c) cs
+above : (w : World) (low before : ℕ) (cs : List ℕ) → are_controllers_above w before cs ≡ true → low ≤ before
+    → AllByRecursion (λ c. low < c) cs
 above w low before [] h le = tt
 above w low before (c ∷ cs) h le =
     let parts = and_parts (is_some (host_of w c) && nat_lt before c) (are_controllers_above w c cs) h in
@@ -90,10 +145,12 @@ above w low before (c ∷ cs) h le =
     after_le : (m n : ℕ) → nat_lt m n ≡ true → (k : ℕ) → k ≤ m → k ≤ n
     after_le m n h k le = grind (arith, nat_tests)
 
-small-by : (ks : List ControllerHost) (c : ℕ) → HasSmallIds ks → is_some (option_map (λ (k : ControllerHost). k.1) (find (λ (k : ControllerHost). k.0 == c) ks)) ≡ true → c ≤ 16
+small-by : (ks : List ControllerHost) (c : ℕ) → HasSmallIds ks
+    → is_some (option_map (λ (k : ControllerHost). k.1) (find (λ (k : ControllerHost). k.0 == c) ks)) ≡ true → c ≤ 16
 small-by [] c h e = absurd (cc)
 small-by (k ∷ ks) c h e =
-    elim (k.0 == c) as (λ b. (k.0 == c) ≡ b → is_some (option_map (λ (j : ControllerHost). j.1) (cond b (Some k) (find (λ (j : ControllerHost). j.0 == c) ks))) ≡ true → c ≤ 16) [
+    elim (k.0 == c) as (λ b. (k.0 == c) ≡ b → is_some (option_map (λ (j : ControllerHost). j.1)
+    (cond b (Some k) (find (λ (j : ControllerHost). j.0 == c) ks))) ≡ true → c ≤ 16) [
       | true ↦ λ is f. omega (arith, eqb-true _ _ is, h.0)
       | false ↦ λ is f. small-by ks c h.1 f
     ] refl e
@@ -102,7 +159,7 @@ small : (w : World) (c : ℕ) → HasSmallIds w.controllers → is_some (host_of
 unfolding host_of
 small w c h e = small-by w.controllers c h e
 
--- the table with all of a list, each of which is not attached yet
+-- the table with all controllers of a list, none of which was attached
 
 later-free : (table : List (ℕ × ℕ)) (c nsid : ℕ) (cs : List ℕ) → AllByRecursion (λ k. c < k) cs
     → AllByRecursion (λ k. list_any (λ (a : ℕ × ℕ). (a.0 == k) && (a.1 == nsid)) table ≡ false) cs
@@ -115,7 +172,8 @@ later-free table c nsid (k ∷ cs) h f =
     unlike : (m n : ℕ) (b : Bool) → m < n → (((m == n) && b) || false) ≡ false
     unlike m n b lt = let no_ : (m == n) ≡ false = grind (arith, nat_tests) in rw no_ refl
 
-attached-all : (table : List (ℕ × ℕ)) (w : World) (nsid before : ℕ) (cs : List ℕ) → IsAttachmentTable table → HasSmallIds w.controllers → (1 ≤ nsid) × (nsid ≤ 8)
+attached-all : (table : List (ℕ × ℕ)) (w : World) (nsid before : ℕ) (cs : List ℕ)
+    → IsAttachmentTable table → HasSmallIds w.controllers → (1 ≤ nsid) × (nsid ≤ 8)
     → are_controllers_above w before cs ≡ true
     → AllByRecursion (λ k. list_any (λ (a : ℕ × ℕ). (a.0 == k) && (a.1 == nsid)) table ≡ false) cs
     → IsAttachmentTable (table ++ map (λ c. (c, nsid)) cs)
@@ -125,14 +183,16 @@ attached-all table w nsid before (c ∷ cs) t s n h f =
     let second = and_parts (is_some (host_of w c)) (nat_lt before c) first.0 in
     let pair : IsPair (c, nsid) = (one before c second.1, small w c s second.0, n.0, n.1) in
     rw (← append_assoc table ((c, nsid) ∷ []) (map (λ k. (k, nsid)) cs))
-    (attached-all (table ++ (c, nsid) ∷ []) w nsid c cs (pushed table c nsid t pair f.0) s n first.1 (later-free table c nsid cs (above w c c cs first.1 (omega arith)) f.1))
+    (attached-all (table ++ (c, nsid) ∷ []) w nsid c cs (pushed table c nsid t pair f.0) s n first.1
+    (later-free table c nsid cs (above w c c cs first.1 (omega arith)) f.1))
   where
     one : (m k : ℕ) → nat_lt m k ≡ true → 1 ≤ k
     one m k h = grind (arith, nat_tests)
 
 -- tests that pass
 
-fails-not : (b : Bool) (why : Status) (rest : Option Status) → (if b then Some why else rest) ≡ None → (b ≡ false) × (rest ≡ None)
+fails-not : (b : Bool) (why : Status) (rest : Option Status) → (if b then Some why else rest) ≡ None
+    → (b ≡ false) × (rest ≡ None)
 fails-not true why rest h = absurd (cc)
 fails-not false why rest h = (refl, h)
 
@@ -151,10 +211,12 @@ first_failure-append (x ∷ xs) ys h =
     let parts = fails-not x.fails x.status (first_failure xs) h in
     rw (parts.0) (first_failure-append xs ys parts.1)
 
-first_failure-front : (xs ys : List Test) (why : Status) → first_failure xs ≡ Some why → first_failure (xs ++ ys) ≡ Some why
+first_failure-front : (xs ys : List Test) (why : Status)
+    → first_failure xs ≡ Some why → first_failure (xs ++ ys) ≡ Some why
 first_failure-front [] ys why h = absurd (cc)
 first_failure-front (x ∷ xs) ys why h =
-    elim x.fails as (λ b. (if b then Some x.status else first_failure xs) ≡ Some why → (if b then Some x.status else first_failure (xs ++ ys)) ≡ Some why) [
+    elim x.fails as (λ b. (if b then Some x.status else first_failure xs) ≡ Some why
+    → (if b then Some x.status else first_failure (xs ++ ys)) ≡ Some why) [
       | true ↦ λ e. e
       | false ↦ λ e. first_failure-front xs ys why e
     ] h
@@ -167,7 +229,7 @@ not_passed : (o : Option Status) (why : Status) → passes_unless o ≡ Err why 
 not_passed None why h = absurd (cc)
 not_passed (Some reason) why h = cc
 
--- what a list that passes is known for
+-- the properties of a list that passes
 rises : (w : World) (cs : List ℕ) → first_failure (list_tests w cs) ≡ None → are_controllers_above w 0 cs ≡ true
 unfolding list_tests
 rises w cs h =
@@ -179,9 +241,10 @@ rises w cs h =
     was_true true k = refl
     was_true false k = absurd (cc)
 
--- a table without some is one
+-- a table without some of its attachments is a table
 
-all-map : {X : Type 0} (P : ℕ → Type 0) (f : X → ℕ) (p : X → Bool) (xs : List X) → AllByRecursion P (map f xs) → AllByRecursion P (map f (filter p xs))
+all-map : {X : Type 0} (P : ℕ → Type 0) (f : X → ℕ) (p : X → Bool) (xs : List X)
+    → AllByRecursion P (map f xs) → AllByRecursion P (map f (filter p xs))
 all-map P f p [] h = tt
 all-map P f p (x ∷ xs) h =
     elim (p x) as (λ b. AllByRecursion P (map f (cond b (x ∷ filter p xs) (filter p xs)))) [
@@ -189,7 +252,8 @@ all-map P f p (x ∷ xs) h =
       | false ↦ all-map P f p xs h.1
     ]
 
-distinct-filter : (p : ℕ × ℕ → Bool) (table : List (ℕ × ℕ)) → IsDistinct same (map number table) → IsDistinct same (map number (filter p table))
+distinct-filter : (p : ℕ × ℕ → Bool) (table : List (ℕ × ℕ)) → IsDistinct same (map number table)
+    → IsDistinct same (map number (filter p table))
 unfolding IsDistinct
 distinct-filter p [] d = tt
 distinct-filter p (a ∷ table) d =
@@ -201,46 +265,57 @@ distinct-filter p (a ∷ table) d =
 pub filtered : (p : ℕ × ℕ → Bool) (table : List (ℕ × ℕ)) → IsAttachmentTable table → IsAttachmentTable (filter p table)
 filtered p table t = (all-filter IsPair p table t.0, distinct-filter p table t.1)
 
--- what a list of tests before another answers
+-- the result of two lists of tests, one after the other
 
-both-pass : (xs ys : List Test) (next : World) → passes_unless (first_failure xs) ≡ Ok tt → passes_unless (first_failure ys) ≡ Ok tt
+both-pass : (xs ys : List Test) (next : World) → passes_unless (first_failure xs) ≡ Ok tt
+    → passes_unless (first_failure ys) ≡ Ok tt
     → unless_refused (first_failure (xs ++ ys)) next ≡ Ok next
 both-pass xs ys next h k =
     ap (λ o. unless_refused o next) (first_failure-append xs ys (passed _ h) ∙ passed _ k)
 
-front-fails : (xs ys : List Test) (next : World) (why : Status) → passes_unless (first_failure xs) ≡ Err why → unless_refused (first_failure (xs ++ ys)) next ≡ Err why
+front-fails : (xs ys : List Test) (next : World) (why : Status) → passes_unless (first_failure xs) ≡ Err why
+    → unless_refused (first_failure (xs ++ ys)) next ≡ Err why
 front-fails xs ys next why h = ap (λ o. unless_refused o next) (first_failure-front xs ys why (not_passed _ why h))
 
-back-fails : (xs ys : List Test) (next : World) (why : Status) → passes_unless (first_failure xs) ≡ Ok tt → passes_unless (first_failure ys) ≡ Err why
+back-fails : (xs ys : List Test) (next : World) (why : Status) → passes_unless (first_failure xs) ≡ Ok tt
+    → passes_unless (first_failure ys) ≡ Err why
     → unless_refused (first_failure (xs ++ ys)) next ≡ Err why
 back-fails xs ys next why h k =
     ap (λ o. unless_refused o next) (first_failure-append xs ys (passed _ h) ∙ not_passed _ why k)
 
--- attaching: the list is refused, a controller can't be attached, or all are
+-- attaching: the list is refused, a controller can't be attached, or all are attached
 
-pub list-refuses-attaching : (w : World) (nsid : ℕ) (cs : List ℕ) (why : Status) → passes_unless (first_failure (list_tests w cs)) ≡ Err why → attach w nsid cs ≡ Err why
+pub list-refuses-attaching : (w : World) (nsid : ℕ) (cs : List ℕ) (why : Status)
+    → passes_unless (first_failure (list_tests w cs)) ≡ Err why → attach w nsid cs ≡ Err why
 unfolding attach
 list-refuses-attaching w nsid cs why h = front-fails (list_tests w cs) _ _ why h
 
-pub refuses-attaching : (w : World) (nsid : ℕ) (cs : List ℕ) (why : Status) → passes_unless (first_failure (list_tests w cs)) ≡ Ok tt
-    → passes_unless (first_failure (attach_each w nsid (has_controller w nsid) cs)) ≡ Err why → attach w nsid cs ≡ Err why
+pub refuses-attaching : (w : World) (nsid : ℕ) (cs : List ℕ) (why : Status)
+    → passes_unless (first_failure (list_tests w cs)) ≡ Ok tt
+    → passes_unless (first_failure (attach_each w nsid (has_controller w nsid) cs)) ≡ Err why
+    → attach w nsid cs ≡ Err why
 unfolding attach
 refuses-attaching w nsid cs why h k = back-fails (list_tests w cs) _ _ why h k
 
 pub attaches : (w : World) (nsid : ℕ) (cs : List ℕ) → passes_unless (first_failure (list_tests w cs)) ≡ Ok tt
-    → passes_unless (first_failure (attach_each w nsid (has_controller w nsid) cs)) ≡ Ok tt → attach w nsid cs ≡ Ok (with_attached w nsid cs)
+    → passes_unless (first_failure (attach_each w nsid (has_controller w nsid) cs)) ≡ Ok tt
+    → attach w nsid cs ≡ Ok (with_attached w nsid cs)
 unfolding attach
 attaches w nsid cs h k = both-pass (list_tests w cs) _ (with_attached w nsid cs) h k
 
 -- and then the table has room for all
-pub attached-table : (w : World) (nsid : ℕ) (cs : List ℕ) (ks : List ControllerHost) (table : List (ℕ × ℕ)) → ks ≡ w.controllers → table ≡ w.attachments
-    → HasSmallIds ks → IsAttachmentTable table → (1 ≤ nsid) × (nsid ≤ 8) → passes_unless (first_failure (list_tests w cs)) ≡ Ok tt
+pub attached-table : (w : World) (nsid : ℕ) (cs : List ℕ) (ks : List ControllerHost) (table : List (ℕ × ℕ))
+    → ks ≡ w.controllers → table ≡ w.attachments
+    → HasSmallIds ks → IsAttachmentTable table → (1 ≤ nsid) × (nsid ≤ 8)
+    → passes_unless (first_failure (list_tests w cs)) ≡ Ok tt
     → passes_unless (first_failure (attach_each w nsid (has_controller w nsid) cs)) ≡ Ok tt
     → IsAttachmentTable (table ++ map (λ c. (c, nsid)) cs)
 attached-table w nsid cs ks table k t s a n h p =
-    rw t (attached-all w.attachments w nsid 0 cs (rw t at a) (rw k at s) n (rises w cs (passed _ h)) (free w nsid (has_controller w nsid) cs (passed _ p)))
+    rw t (attached-all w.attachments w nsid 0 cs (rw t at a) (rw k at s) n (rises w cs (passed _ h))
+    (free w nsid (has_controller w nsid) cs (passed _ p)))
 
-pub room : (table : List (ℕ × ℕ)) (cs : List ℕ) (nsid : ℕ) → IsAttachmentTable (table ++ map (λ c. (c, nsid)) cs) → length table + length cs ≤ 128
+pub room : (table : List (ℕ × ℕ)) (cs : List ℕ) (nsid : ℕ) → IsAttachmentTable (table ++ map (λ c. (c, nsid)) cs)
+    → length table + length cs ≤ 128
 room table cs nsid t =
     let pair : ℕ → ℕ × ℕ = λ c. (c, nsid) in
     let pairs : List (ℕ × ℕ) = map pair cs in
@@ -249,11 +324,13 @@ room table cs nsid t =
 
 -- detaching
 
-pub list-refuses-detaching : (w : World) (nsid : ℕ) (cs : List ℕ) (why : Status) → passes_unless (first_failure (list_tests w cs)) ≡ Err why → detach w nsid cs ≡ Err why
+pub list-refuses-detaching : (w : World) (nsid : ℕ) (cs : List ℕ) (why : Status)
+    → passes_unless (first_failure (list_tests w cs)) ≡ Err why → detach w nsid cs ≡ Err why
 unfolding detach
 list-refuses-detaching w nsid cs why h = front-fails (list_tests w cs) _ _ why h
 
-pub refuses-detaching : (w : World) (nsid : ℕ) (cs : List ℕ) (why : Status) → passes_unless (first_failure (list_tests w cs)) ≡ Ok tt
+pub refuses-detaching : (w : World) (nsid : ℕ) (cs : List ℕ) (why : Status)
+    → passes_unless (first_failure (list_tests w cs)) ≡ Ok tt
     → passes_unless (first_failure (detach_each w nsid cs)) ≡ Err why → detach w nsid cs ≡ Err why
 unfolding detach
 refuses-detaching w nsid cs why h k = back-fails (list_tests w cs) _ _ why h k
@@ -263,12 +340,13 @@ pub detaches : (w : World) (nsid : ℕ) (cs : List ℕ) → passes_unless (first
 unfolding detach
 detaches w nsid cs h k = both-pass (list_tests w cs) _ (without_attached w nsid cs) h k
 
--- a namespace that is found has the identifier that was sought
+-- the namespace found by an identifier has that identifier
 
 found-by : (nsid : ℕ) (ns : List Namespace) (n : Namespace) → find (λ m. m.nsid == nsid) ns ≡ Some n → n.nsid ≡ nsid
 found-by nsid [] n e = absurd (cc)
 found-by nsid (m ∷ ns) n e =
-    elim (m.nsid == nsid) as (λ b. (m.nsid == nsid) ≡ b → cond b (Some m) (find (λ k. k.nsid == nsid) ns) ≡ Some n → n.nsid ≡ nsid) [
+    elim (m.nsid == nsid) as (λ b. (m.nsid == nsid) ≡ b → cond b (Some m) (find (λ k. k.nsid == nsid) ns) ≡ Some n
+    → n.nsid ≡ nsid) [
       | true ↦ λ is f. let same_one : m ≡ n = cc in rw (← same_one) (eqb-true _ _ is)
       | false ↦ λ is f. found-by nsid ns n f
     ] refl e

@@ -1,5 +1,22 @@
--- Controllers that are numbered rise by their identifiers.
-use Rattle.std.proofs.Common.{◌≡◌, ℕ, ◌+◌, ◌<◌, ◌&&◌, ◌==◌, Bool, true, false, List, [], ◌∷◌, map, eqb-true, refl, arith}
+-- For the answer of `within`: numbered controllers are in rising order of identifiers.
+use Rattle.std.proofs.Common.{
+  ◌≡◌,
+  ℕ,
+  ◌+◌,
+  ◌<◌,
+  ◌&&◌,
+  ◌==◌,
+  Bool,
+  true,
+  false,
+  List,
+  [],
+  ◌∷◌,
+  map,
+  eqb-true,
+  refl,
+  arith,
+}
 use Rattle.std.specs.List.{list_all, enumerate_from, AllByRecursion}
 use Rattle.nvme_spec.specs.declared.config.ControllerConfig.{ControllerConfig}
 use Rattle.nvme_spec.specs.Report.{ControllerHost, HasRisingIds}
@@ -13,7 +30,8 @@ both : (a b : Bool) → (a && b) ≡ true → (a ≡ true) × (b ≡ true)
 both true b h = (refl, h)
 both false b h = absurd (cc)
 
-above : (i n : ℕ) (ks : List ControllerConfig) → numbered_from i ks ≡ true → n < i + 1 → AllByRecursion (λ (x : ControllerHost). n < x.0) (map controller_host ks)
+above : (i n : ℕ) (ks : List ControllerConfig) → numbered_from i ks ≡ true → n < i + 1
+    → AllByRecursion (λ (x : ControllerHost). n < x.0) (map controller_host ks)
 above i n [] h lt = tt
 above i n (k ∷ ks) h lt =
     let parts = both _ _ h in
@@ -27,7 +45,8 @@ rising i (k ∷ ks) h =
     let here : k.cntlid ≡ i + 1 = eqb-true _ _ parts.0 in
     (above (i + 1) k.cntlid ks parts.1 (omega arith), rising (i + 1) ks parts.1)
 
-pub counted : (i : ℕ) (ks : List ControllerConfig) → numbered_from i ks ≡ true → AreNumberedFrom (i + 1) (map controller_host ks)
+pub counted : (i : ℕ) (ks : List ControllerConfig)
+    → numbered_from i ks ≡ true → AreNumberedFrom (i + 1) (map controller_host ks)
 counted i [] h = tt
 counted i (k ∷ ks) h =
     let parts = both _ _ h in

@@ -1,5 +1,37 @@
--- The table of pairs tells what is attached, and a controller stands at the place that its identifier names.
-use Rattle.std.proofs.Common.{◌≡◌, ℕ, ◌+◌, ◌<◌, ◌≤◌, ◌==◌, ◌&&◌, ◌||◌, Bool, true, false, List, [], ◌∷◌, length, take, set, get_or, replicate, None, Some, refl, sym, ap, ◌∙◌, zero, suc, arith, eqb-true, ⊎_elim}
+-- For the answers of `is_attached` and `host_of`: the table of pairs has the attachments, and a controller is at the
+-- place of its identifier.
+use Rattle.std.proofs.Common.{
+  ◌≡◌,
+  ℕ,
+  ◌+◌,
+  ◌<◌,
+  ◌≤◌,
+  ◌==◌,
+  ◌&&◌,
+  ◌||◌,
+  Bool,
+  true,
+  false,
+  List,
+  [],
+  ◌∷◌,
+  length,
+  take,
+  set,
+  get_or,
+  replicate,
+  None,
+  Some,
+  refl,
+  sym,
+  ap,
+  ◌∙◌,
+  zero,
+  suc,
+  arith,
+  eqb-true,
+  ⊎_elim,
+}
 use Rattle.std.specs.Prelude.{find, slice_get}
 use Rattle.std.specs.List.{list_any, AllByRecursion}
 use Rattle.std.proofs.lemmas.Bool.{cases_Bool, and_parts}
@@ -35,10 +67,13 @@ found_at i (suc d) (k ∷ ks) n =
     let next : (i + 1) + d ≡ i + suc d = omega arith in
     rw no_ (ap (λ m. find (has m) ks) (sym next) ∙ found_at (i + 1) d ks n.1)
 
-pub host_past : (cntlid place : ℕ) (ks : List ControllerHost) → AreNumberedFrom 1 ks → cntlid ≡ 1 + place → length ks ≤ place → find (has cntlid) ks ≡ None
-host_past cntlid place ks n is past = ap (λ c. find (has c) ks) is ∙ found_at 1 place ks n ∙ slice_get_past ks place past
+pub host_past : (cntlid place : ℕ) (ks : List ControllerHost) → AreNumberedFrom 1 ks → cntlid ≡ 1 + place
+    → length ks ≤ place → find (has cntlid) ks ≡ None
+host_past cntlid place ks n is past =
+    ap (λ c. find (has c) ks) is ∙ found_at 1 place ks n ∙ slice_get_past ks place past
 
-pub host_here : (cntlid place : ℕ) (ks : List ControllerHost) (k : ControllerHost) → AreNumberedFrom 1 ks → cntlid ≡ 1 + place → place < length ks → k ≡ get_or ks place k → find (has cntlid) ks ≡ Some k
+pub host_here : (cntlid place : ℕ) (ks : List ControllerHost) (k : ControllerHost) → AreNumberedFrom 1 ks
+    → cntlid ≡ 1 + place → place < length ks → k ≡ get_or ks place k → find (has cntlid) ks ≡ Some k
 host_here cntlid place ks k n is lt at_ =
     ap (λ c. find (has c) ks) is ∙ found_at 1 place ks n ∙ slice_get-get_or ks place k lt ∙ ap Some (sym at_)
 
@@ -47,13 +82,15 @@ host_here cntlid place ks k n is lt at_ =
 abbrev is_one : ℕ × ℕ → ℕ × ℕ → Bool
 is_one a b = (b.0 == a.0) && (b.1 == a.1)
 
-pub pair_at : (table : List (ℕ × ℕ)) (i : ℕ) (d : ℕ × ℕ) → AllByRecursion IsPair table → i < length table → IsPair (get_or table i d)
+pub pair_at : (table : List (ℕ × ℕ)) (i : ℕ) (d : ℕ × ℕ) → AllByRecursion IsPair table → i < length table
+    → IsPair (get_or table i d)
 pair_at [] i d h lt = absurd (omega (arith, lt))
 pair_at (a ∷ table) zero d h lt = h.0
 pair_at (a ∷ table) (suc i) d h lt = pair_at table i d h.1 (omega (arith, lt))
 
--- what is no pair isn't attached
-pub none_outside : (attached : List (ℕ × ℕ)) (a : ℕ × ℕ) → AllByRecursion IsPair attached → (IsPair a → ⊥) → list_any (is_one a) attached ≡ false
+-- a pair outside of the table isn't attached
+pub none_outside : (attached : List (ℕ × ℕ)) (a : ℕ × ℕ) → AllByRecursion IsPair attached → (IsPair a → ⊥)
+    → list_any (is_one a) attached ≡ false
 none_outside [] a h out = refl
 none_outside (b ∷ attached) a h out =
     ⊎_elim {C = list_any (is_one a) (b ∷ attached) ≡ false}
@@ -65,10 +102,14 @@ none_outside (b ∷ attached) a h out =
     moved is =
         let parts = and_parts (b.0 == a.0) (b.1 == a.1) is in
         let first = eqb-true _ _ parts.0 in
-        let second = eqb-true _ _ parts.1 in
-        (omega (arith, h.0.0, first), omega (arith, h.0.1, first), omega (arith, h.0.2, second), omega (arith, h.0.3, second))
+        let second = eqb-true _ _ parts.1 in (
+          omega (arith, h.0.0, first),
+          omega (arith, h.0.1, first),
+          omega (arith, h.0.2, second),
+          omega (arith, h.0.3, second),
+        )
 
--- no attachment
+-- the table without attachments
 pub tells_none : TellsPairs (replicate 128 false) []
 tells_none a q = get_or_replicate 128 (number a)
   where
@@ -77,8 +118,10 @@ tells_none a q = get_or_replicate 128 (number a)
     get_or_replicate (suc m) zero = refl
     get_or_replicate (suc m) (suc n) = get_or_replicate m n
 
--- one attachment more
-pub tells_more : (table : List Bool) (attached : List (ℕ × ℕ)) (i n : ℕ) (d : ℕ × ℕ) → length table ≡ 128 → i < length attached → IsPair (get_or attached i d) → n ≡ number (get_or attached i d) → TellsPairs table (take i attached) → TellsPairs (set table n true) (take (i + 1) attached)
+-- the table with one more attachment
+pub tells_more : (table : List Bool) (attached : List (ℕ × ℕ)) (i n : ℕ) (d : ℕ × ℕ)
+    → length table ≡ 128 → i < length attached → IsPair (get_or attached i d) → n ≡ number (get_or attached i d)
+    → TellsPairs table (take i attached) → TellsPairs (set table n true) (take (i + 1) attached)
 tells_more table attached i n d long lt p is t a q =
     let b = get_or attached i d in
     ⊎_elim {C = get_or (set table n true) (number a) false ≡ list_any (is_one a) (take (i + 1) attached)}

@@ -1,5 +1,28 @@
--- Tables of attachments: they have room for each pair of a controller and a namespace once.
-use Rattle.std.specs.Prelude.{◌≡◌, ℕ, ◌+◌, ◌-◌, ◌*◌, ◌==◌, ◌&&◌, ◌≤◌, Bool, false, List, [], ◌∷◌, map, get_or, Option, None, Some, Result, Ok, Err}
+-- Tables of attachments, the invariant of `Spaces`: a table has room for each pair of a controller and a namespace
+-- once.
+use Rattle.std.specs.Prelude.{
+  ◌≡◌,
+  ℕ,
+  ◌+◌,
+  ◌-◌,
+  ◌*◌,
+  ◌==◌,
+  ◌&&◌,
+  ◌≤◌,
+  Bool,
+  false,
+  List,
+  [],
+  ◌∷◌,
+  map,
+  get_or,
+  Option,
+  None,
+  Some,
+  Result,
+  Ok,
+  Err,
+}
 use Rattle.std.specs.List.{list_any, AllByRecursion, IsDistinct}
 use Rattle.nvme_wire.specs.declared.status.Status.{Status}
 use Rattle.nvme_spec.specs.Report.{ControllerHost}
@@ -8,7 +31,7 @@ use Rattle.nvme_spec.specs.Report.{ControllerHost}
 abbrev pub HasSmallIds : List ControllerHost → Type 0
 HasSmallIds controllers = AllByRecursion (λ (k : ControllerHost). k.0 ≤ 16) controllers
 
--- the identifiers of controllers count from this one on
+-- the identifiers of controllers count from this one
 abbrev pub AreNumberedFrom : ℕ → List ControllerHost → Type 0
 AreNumberedFrom i [] = Unit {0}
 AreNumberedFrom i (k ∷ ks) = (k.0 ≡ i) × AreNumberedFrom (i + 1) ks
@@ -21,14 +44,15 @@ IsPair a = (1 ≤ a.0) × (a.0 ≤ 16) × (1 ≤ a.1) × (a.1 ≤ 8)
 abbrev pub number : ℕ × ℕ → ℕ
 number a = 8 * a.0 + a.1 - 9
 
--- each is such a pair, and none stands twice
+-- each is such a pair, and none is repeated
 abbrev pub IsAttachmentTable : List (ℕ × ℕ) → Type 0
 IsAttachmentTable attached = AllByRecursion IsPair attached × IsDistinct (λ m n. m == n) (map number attached)
 
--- a table of 128 tells of each such pair, by its number, whether it is one of the attachments
+-- a table of 128 has for each such pair, at its number, whether it is one of the attachments
 abbrev pub TellsPairs : List Bool → List (ℕ × ℕ) → Type 0
 TellsPairs table attached =
-    (a : ℕ × ℕ) → IsPair a → get_or table (number a) false ≡ list_any (λ (b : ℕ × ℕ). (b.0 == a.0) && (b.1 == a.1)) attached
+    (a : ℕ × ℕ) → IsPair a
+    → get_or table (number a) false ≡ list_any (λ (b : ℕ × ℕ). (b.0 == a.0) && (b.1 == a.1)) attached
 
 -- a check passes unless a test failed
 abbrev pub passes_unless : Option Status → Result (Unit {0}) Status

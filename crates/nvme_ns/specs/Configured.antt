@@ -1,4 +1,4 @@
--- The configuration that a `Config` holds.
+-- The definition's configuration of a `Config`.
 use Rattle.nvme_spec.specs.declared.config.Config.{Config}
 use Rattle.nvme_spec.specs.Configuration.{Configuration}
 

@@ -1,4 +1,4 @@
--- What a lent reservation leaves.
+-- What changes through a borrowed reservation, for the contracts of `reservation_mut`.
 use Rattle.std.specs.Prelude.{ℕ}
 use Rattle.std.specs.Borrow.{Lends, MutBor, Fml}
 use Rattle.nvme_spec.specs.Reservation.{Reservation}
@@ -7,10 +7,10 @@ use Rattle.nvme_resv.specs.contracts.reservation.Reservation.{the_row as reserva
 use Rattle.nvme_ns.specs.contracts.namespace.Namespace.{the_row as namespace_row}
 use Rattle.nvme_ns.specs.contracts.spaces.Spaces.{the_row as spaces_row}
 
--- the namespace ends with the reservation that is left behind r
+-- when the borrow of r ends, the namespace has the reservation that was left there
 abbrev pub LendsOwnReservation : MutBor Namespace → MutBor Reservation → Fml
 LendsOwnReservation n r = Lends namespace_row reservation_row n r (λ w. record n.now { reservation = w })
 
--- the subsystem ends with that of the namespace
+-- when it ends, the access state has that reservation at the namespace
 abbrev pub LendsReservation : MutBor World → ℕ → MutBor Reservation → Fml
 LendsReservation s nsid r = Lends spaces_row reservation_row s r (λ w. with_reservation s.now nsid w)

@@ -1,10 +1,28 @@
--- Why a configuration is refused: the rule that it breaks, and the first line that breaks it. A fault has several rules;
--- of a line that breaks several of them it is the first, in the order of this file.
-use Rattle.std.specs.Prelude.{ℕ, ◌+◌, Bool, not, ◌==◌, ◌&&◌, ◌||◌, nat_lt, if◌then◌else◌, List, [], ◌∷◌, ◌++◌, length, Option, None, Some}
+-- Why a configuration is refused: the rule that it breaks, and the first line that breaks it. A fault has several
+-- rules; if a line breaks several of them, the first in the order of this file counts.
+use Rattle.std.specs.Prelude.{
+  ℕ,
+  ◌+◌,
+  Bool,
+  not,
+  ◌==◌,
+  ◌&&◌,
+  ◌||◌,
+  nat_lt,
+  if◌then◌else◌,
+  List,
+  [],
+  ◌∷◌,
+  ◌++◌,
+  length,
+  Option,
+  None,
+  Some,
+}
 use Rattle.std.specs.List.{list_any}
 use Rattle.std.specs.Option.{option_or}
-use Rattle.nvme_spec.specs.Limits.{most_controllers, highest_nsid, most_attachments, largest_namespace}
-use Rattle.nvme_spec.specs.Configuration.{Configuration, is_private, total_blocks}
+use Rattle.nvme_spec.specs.Limits.{most_controllers, highest_nsid, most_attachments}
+use Rattle.nvme_spec.specs.Configuration.{Capacity, Configuration, is_private, total_blocks}
 use Rattle.nvme_spec.specs.declared.config.ControllerConfig.{ControllerConfig}
 use Rattle.nvme_spec.specs.declared.config.NsConfig.{NsConfig}
 use Rattle.nvme_spec.specs.declared.config.ConfigFault.{ConfigFault}
@@ -20,20 +38,20 @@ abbrev pub first_broken : List (Bool × BrokenRule) → Option BrokenRule
 first_broken [] = None
 first_broken (test ∷ rest) = if test.0 then Some test.1 else first_broken rest
 
--- What is wrong with a controller behind these: the k-th has the identifier k, from 1, and belongs to a host.
+-- The rules for a controller after others: the k-th one, from 1, has the identifier k and a host.
 abbrev pub controller_breaks : List ControllerConfig → ControllerConfig → Option BrokenRule
 controller_breaks before k = first_broken (
     (not (k.cntlid == length before + 1), broken.Misnumbered (length before + 1) k.cntlid)
     ∷ (k.host == 0, broken.NoHost k.cntlid) ∷ [])
 
--- What is wrong with a namespace behind these: its identifier is one of 1 to 8, and none of theirs.
+-- The rules for a namespace after others: its identifier is one of 1 to 8, and differs from theirs.
 abbrev pub namespace_breaks : List NsConfig → NsConfig → Option BrokenRule
 namespace_breaks before n = first_broken (
     ((n.nsid == 0) || nat_lt highest_nsid n.nsid, broken.ForeignNsid n.nsid)
     ∷ (list_any (λ m. m.nsid == n.nsid) before, broken.RepeatedNsid n.nsid) ∷ [])
 
--- What is wrong with an attachment behind these: its controller and its namespace are configured, it is none of them,
--- and it does not attach a private namespace a second time.
+-- The rules for an attachment after others: its controller and its namespace are configured, it differs from the
+-- others, and it does not attach a private namespace a second time.
 abbrev pub attachment_breaks : Configuration → List (ℕ × ℕ) → ℕ × ℕ → Option BrokenRule
 attachment_breaks c before pair = first_broken (
     (not (list_any (λ k. k.cntlid == pair.0) c.controllers), broken.UnknownController pair.0)
@@ -41,12 +59,12 @@ attachment_breaks c before pair = first_broken (
     ∷ (list_any (λ other. (other.0 == pair.0) && (other.1 == pair.1)) before, broken.RepeatedAttachment pair.0 pair.1)
     ∷ (is_private c pair.1 && list_any (λ other. other.1 == pair.1) before, broken.NotShared pair.0 pair.1) ∷ [])
 
--- What is wrong with the size of a namespace: it has 1 to 65,536 blocks.
-abbrev pub size_breaks : List NsConfig → NsConfig → Option BrokenRule
-size_breaks before n = first_broken (
-    (n.blocks == 0, broken.NoBlocks n.nsid) ∷ (nat_lt largest_namespace n.blocks, broken.TooLarge n.nsid n.blocks) ∷ [])
+-- The rules for the size of a namespace: it has 1 to `most` blocks.
+abbrev pub size_breaks : ℕ → List NsConfig → NsConfig → Option BrokenRule
+size_breaks most before n = first_broken (
+    (n.blocks == 0, broken.NoBlocks n.nsid) ∷ (nat_lt most n.blocks, broken.TooLarge n.nsid n.blocks most) ∷ [])
 
--- What is wrong with the place of a namespace behind these: all of them together end within the medium.
+-- The rule for the place of a namespace after others: all of them together end within the medium.
 abbrev pub room_breaks : ℕ → List NsConfig → NsConfig → Option BrokenRule
 room_breaks medium_blocks before n = first_broken (
     (nat_lt medium_blocks (total_blocks before + n.blocks), broken.DoesNotFit n.nsid medium_blocks) ∷ [])
@@ -56,7 +74,7 @@ abbrev pub reason_at : SetupLine → Option BrokenRule → Option ConfigReason
 reason_at line None = None
 reason_at line (Some rule) = Some (record { line = line; rule = rule })
 
--- the first line of a kind that breaks a rule, behind those of its kind that break none
+-- the first line of a kind that breaks a rule; all earlier lines of that kind follow the rules
 abbrev pub first_line : {A : Type 0} → (ℕ → SetupLine) → (List A → A → Option BrokenRule) → List A → List A
     → Option ConfigReason
 first_line line breaks before [] = None
@@ -81,14 +99,13 @@ first_bad_id c =
     (option_or (first_line Namespace namespace_breaks [] c.namespaces)
     (first_line Attached (attachment_breaks c) [] c.attached))
 
--- why a configuration is refused over a medium of so many blocks, if it is: by counts, else identifiers, else sizes, else
--- the room on the medium
-unfoldable pub refusal_of : Configuration → ℕ → Option ConfigReason
-refusal_of c medium_blocks =
+-- why a configuration is refused, if it is: by counts, else identifiers, else sizes, else the space on the medium
+unfoldable pub refusal_of : Configuration → Capacity → Option ConfigReason
+refusal_of c size =
     option_or (one_too_many c)
     (option_or (first_bad_id c)
-    (option_or (first_line Namespace size_breaks [] c.namespaces)
-    (first_line Namespace (room_breaks medium_blocks) [] c.namespaces)))
+    (option_or (first_line Namespace (size_breaks size.namespace) [] c.namespaces)
+    (first_line Namespace (room_breaks size.medium) [] c.namespaces)))
 
 -- the fault of a configuration that breaks a rule
 abbrev pub fault_of : BrokenRule → ConfigFault
@@ -104,5 +121,5 @@ fault_of (broken.UnknownNamespace nsid) = BadId
 fault_of (broken.RepeatedAttachment cntlid nsid) = BadId
 fault_of (broken.NotShared cntlid nsid) = BadId
 fault_of (broken.NoBlocks nsid) = BadSize
-fault_of (broken.TooLarge nsid blocks) = BadSize
+fault_of (broken.TooLarge nsid blocks most) = BadSize
 fault_of (broken.DoesNotFit nsid medium_blocks) = DoesNotFit

@@ -1,5 +1,5 @@
-//! The access state of a subsystem: its controllers with their hosts, its namespaces with who may change them, and
-//! which namespaces are attached to which controllers.
+//! The access state of a subsystem: its controllers with their hosts, its namespaces with their reservations and write
+//! protection, and the attachments.
 #![tactic(auto)]
 
 mod checks;
@@ -13,5 +13,5 @@ mod spaces;
 
 pub use namespace::Namespace;
 pub use nvme_spec::{Config, ConfigFault, ControllerConfig, NsConfig};
-pub use refusal::{BrokenRule, ConfigReason, SetupLine, refusal_of};
+pub use refusal::{BrokenRule, ConfigReason, MAX_BLOCKS, SetupLine, refusal_of};
 pub use spaces::Spaces;

@@ -1,4 +1,4 @@
-//! A namespace.
+//! Namespaces.
 
 ghost use Rattle.std.specs.Prelude.{◌≡◌, ◌+◌, ◌≤◌, false};
 ghost use Rattle.nvme_spec.specs.AdminCommands.{state_of};
@@ -11,7 +11,7 @@ use nvme_resv::Reservation;
 use nvme_spec::{NsConfig, Protection};
 use std::marker::Model;
 
-/// A namespace: its place on the medium, who may reach it, and who has reserved it.
+/// A namespace: its place on the medium, whether it is shared, its reservation and its write protection.
 #[derive(Drop)]
 pub struct Namespace {
     nsid: u32,
@@ -65,7 +65,7 @@ impl Namespace {
     ghost use Rattle.nvme_ns.specs.Lending.{LendsOwnReservation};
 
     /// A namespace that begins at block `first` of the medium. It is not write protected, and nobody has reserved it.
-    /// That its identifier is 1 to 8 is the caller's condition.
+    /// Its identifier must be 1 to 8.
     pub fn new(config: &NsConfig, first: u64) -> Self
         requires { (1 ≤ config.now.nsid) × (config.now.nsid ≤ 8) }
         ensures { result ≡ record {
@@ -124,8 +124,8 @@ impl Namespace {
         self.protection
     }
 
-    /// The number of its write protection (Write Protection State): 0 none, 1 write protected, 2 that until a power
-    /// cycle.
+    /// The number of its write protection (Write Protection State): 0 none, 1 write protected, 2 write protected until
+    /// a power cycle.
     pub fn protection_state(&self) -> u32
         ensures { result ≡ state_of self.now.protection }
     {
@@ -143,21 +143,21 @@ impl Namespace {
         !matches!(self.protection, Protection::Open)
     }
 
-    /// Who has registered with it, and who holds it.
+    /// Its registrants and holder.
     pub fn reservation(&self) -> &Reservation
         ensures { result.now ≡ self.now.reservation }
     {
         &self.reservation
     }
 
-    /// Sets the write protection, whatever it was.
+    /// Sets the write protection, from any state.
     pub fn set_protection(&mut self, protection: Protection)
         ensures { self.new ≡ record self.old { protection = protection } }
     {
         self.protection = protection;
     }
 
-    /// A power cycle: protection until then ends, and of the reservation there stays what persists.
+    /// Applies a power cycle: write protection until a power cycle ends, and what persists of the reservation stays.
     pub fn power_cycle(&mut self)
         ensures { self.new ≡ cycled_namespace self.old }
     {
@@ -167,7 +167,7 @@ impl Namespace {
         self.reservation.power_cycle();
     }
 
-    /// Lends the reservation. Nothing else changes.
+    /// Borrows the reservation. Nothing else changes.
     pub fn reservation_mut(&mut self) -> &mut Reservation
         ensures* writes_back { sem 𝓛 (LendsOwnReservation self.entry result) }
         ensures value { result.now ≡ self.old.reservation }

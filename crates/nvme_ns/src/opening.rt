@@ -1,4 +1,4 @@
-//! The tables that a configuration opens with.
+//! The tables of a configuration at its opening.
 
 ghost use Rattle.std.specs.Prelude.{◌≡◌, ◌<◌, ◌≤◌, ◌^◌, length, map, false};
 ghost use Rattle.nvme_spec.specs.Configuration.{total_blocks, has_foreign_nsid};
@@ -23,7 +23,7 @@ pub fn controller_table(
     table
 }
 
-/// The table of namespaces. They lie on the medium one after the other.
+/// The table of namespaces, which are adjacent on the medium.
 pub fn namespace_table(namespaces: &[NsConfig]) -> ArrayVec<Namespace, MAX_NAMESPACES>
     requires few { length namespaces.now ≤ 8 }
     requires small { total_blocks namespaces.now < 2 ^ 64 }

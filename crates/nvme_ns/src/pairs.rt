@@ -1,4 +1,4 @@
-//! Which pairs of a controller and a namespace are attached, told without a walk along the attachments.
+//! Which namespaces are attached to which controllers, as a table, so that no list is searched.
 
 ghost use Rattle.std.specs.Prelude.{◌≡◌, ◌<◌, ◌↔◌, IsTrue};
 ghost use Rattle.std.specs.List.{AllByRecursion};

@@ -1,8 +1,9 @@
-//! Why a configuration is refused: the rule that it breaks, and the line that breaks it. Nothing else judges one.
+//! Why a configuration is refused: the rule that it breaks, and the line that breaks it. All checks of configurations
+//! are here.
 
 ghost use Rattle.std.specs.Prelude.{◌≡◌, ◌==◌, ◌&&◌, [], Some};
 ghost use Rattle.std.specs.List.{list_any};
-ghost use Rattle.nvme_spec.specs.Configuration.{is_private};
+ghost use Rattle.nvme_spec.specs.Configuration.{capacity, is_private};
 ghost use Rattle.nvme_ns.specs.Configured.{configuration};
 ghost use Rattle.nvme_ns.specs.Refusals as spec;
 ghost use Rattle.nvme_ns.specs.declared.refusal.SetupLine.TheVariants as line_of;
@@ -21,8 +22,8 @@ pub const MAX_ATTACHMENTS: usize = 128;
 /// The highest identifier that a namespace may have.
 const MAX_NSID: u32 = 8;
 
-/// The most blocks that a namespace may have.
-const MAX_BLOCKS: u64 = 65_536;
+/// The most blocks that a namespace of a script may have.
+pub const MAX_BLOCKS: u64 = 65_536;
 
 /// A line before `start`, by its kind, and by its place among the lines of that kind, from 0.
 #[derive(Clone, Copy, Debug, PartialEq, Eq)]
@@ -32,13 +33,13 @@ pub enum SetupLine {
     Attached(usize),
 }
 
-/// A rule of configurations, with what breaks it.
+/// A rule of configurations, with the values that break it.
 #[derive(Clone, Copy, Debug, PartialEq, Eq)]
 pub enum BrokenRule {
     TooManyControllers,
     TooManyNamespaces,
     TooManyAttachments,
-    /// The k-th controller, from 1, and the identifier that it has.
+    /// The k-th controller, from 1, and its identifier.
     Misnumbered(usize, u16),
     /// The controller that has no host.
     NoHost(u16),
@@ -51,14 +52,14 @@ pub enum BrokenRule {
     /// The second controller of a private namespace, and that.
     NotShared(u16, u32),
     NoBlocks(u32),
-    /// The namespace, and its blocks.
-    TooLarge(u32, u64),
-    /// The namespace that has no room, and the blocks of the medium.
+    /// The namespace, its blocks, and the limit.
+    TooLarge(u32, u64, u64),
+    /// The namespace that does not fit, and the blocks of the medium.
     DoesNotFit(u32, u64),
 }
 
 impl BrokenRule {
-    /// The fault of a configuration that breaks it.
+    /// The fault of a configuration that breaks the rule.
     pub fn fault(self) -> ConfigFault
         ensures { result ≡ spec.fault_of self }
     {
@@ -74,13 +75,13 @@ impl BrokenRule {
             | BrokenRule::UnknownNamespace(_)
             | BrokenRule::RepeatedAttachment(_, _)
             | BrokenRule::NotShared(_, _) => ConfigFault::BadId,
-            BrokenRule::NoBlocks(_) | BrokenRule::TooLarge(_, _) => ConfigFault::BadSize,
+            BrokenRule::NoBlocks(_) | BrokenRule::TooLarge(_, _, _) => ConfigFault::BadSize,
             BrokenRule::DoesNotFit(_, _) => ConfigFault::DoesNotFit,
         }
     }
 }
 
-/// The rule that a refused configuration breaks, and where.
+/// The rule that a refused configuration breaks, and the line.
 #[derive(Clone, Copy, Debug, PartialEq, Eq)]
 pub struct ConfigReason {
     pub line: SetupLine,
@@ -94,7 +95,7 @@ fn at(line: SetupLine, rule: BrokenRule) -> Option<ConfigReason>
     Some(ConfigReason { line, rule })
 }
 
-/// The first line that is one too many.
+/// The first line that exceeds a limit.
 fn one_too_many(config: &Config) -> Option<ConfigReason>
     ensures { result ≡ spec.one_too_many (configuration config.now) }
 {
@@ -119,7 +120,7 @@ fn one_too_many(config: &Config) -> Option<ConfigReason>
     None
 }
 
-/// What is wrong with a controller behind others: its identifier is not its number, or it has no host.
+/// The rule that a controller after others breaks: its identifier is not its number, or it has no host.
 fn controller_breaks(
     before: &[ControllerConfig],
     controller: ControllerConfig,
@@ -137,7 +138,7 @@ fn controller_breaks(
     None
 }
 
-/// The first controller with which something is wrong.
+/// The first controller that breaks a rule.
 fn bad_controller(controllers: &[ControllerConfig]) -> Option<ConfigReason>
     ensures { result ≡ spec.first_line line_of.Controller spec.controller_breaks [] controllers.now }
 {
@@ -156,7 +157,7 @@ fn is_named(namespaces: &[NsConfig], nsid: u32) -> bool
     namespaces.iter().any(|n| n.nsid == nsid)
 }
 
-/// What is wrong with the identifier of a namespace behind others: it can't be, or is one of theirs.
+/// The rule that the identifier of a namespace after others breaks: it is not 1 to 8, or is one of theirs.
 fn namespace_breaks(before: &[NsConfig], namespace: NsConfig) -> Option<BrokenRule>
     ensures { result ≡ spec.namespace_breaks before.now namespace }
 {
@@ -170,7 +171,7 @@ fn namespace_breaks(before: &[NsConfig], namespace: NsConfig) -> Option<BrokenRu
     None
 }
 
-/// The first namespace with whose identifier something is wrong.
+/// The first namespace whose identifier breaks a rule.
 fn bad_namespace(namespaces: &[NsConfig]) -> Option<ConfigReason>
     ensures { result ≡ spec.first_line line_of.Namespace spec.namespace_breaks [] namespaces.now }
 {
@@ -206,15 +207,15 @@ fn is_attached(pairs: &[(u16, u32)], cntlid: u16, nsid: u32) -> bool
     pairs.iter().any(|pair| pair.0 == cntlid && pair.1 == nsid)
 }
 
-/// Whether something is attached to a namespace.
+/// Whether a controller is attached to the namespace.
 fn is_taken(pairs: &[(u16, u32)], nsid: u32) -> bool
     ensures { result ≡ list_any (λ pair. pair.1 == nsid) pairs.now }
 {
     pairs.iter().any(|pair| pair.1 == nsid)
 }
 
-/// What is wrong with an attachment behind others: it names what is not configured, is one of them, or is the second of
-/// a private namespace.
+/// The rule that an attachment after others breaks: its controller or namespace is not configured, it is repeated, or
+/// it is the second of a private namespace.
 fn attachment_breaks(config: &Config, before: &[(u16, u32)], pair: (u16, u32)) -> Option<BrokenRule>
     ensures { result ≡ spec.attachment_breaks (configuration config.now) before.now pair }
 {
@@ -234,7 +235,7 @@ fn attachment_breaks(config: &Config, before: &[(u16, u32)], pair: (u16, u32)) -
     None
 }
 
-/// The first attachment with which something is wrong.
+/// The first attachment that breaks a rule.
 fn bad_attachment(config: &Config) -> Option<ConfigReason>
     ensures { result ≡ spec.first_line line_of.Attached (spec.attachment_breaks (configuration config.now)) []
         config.now.attached.items }
@@ -248,7 +249,7 @@ fn bad_attachment(config: &Config) -> Option<ConfigReason>
     None
 }
 
-/// The first line with whose identifiers something is wrong.
+/// The first line whose identifiers break a rule.
 fn bad_id(config: &Config) -> Option<ConfigReason>
     ensures { result ≡ spec.first_bad_id (configuration config.now) }
 {
@@ -257,33 +258,33 @@ fn bad_id(config: &Config) -> Option<ConfigReason>
         .or_else(|| bad_attachment(config))
 }
 
-/// What is wrong with the size of a namespace: it has no blocks, or too many.
-fn size_breaks(namespace: NsConfig) -> Option<BrokenRule>
-    ensures { result ≡ spec.size_breaks [] namespace }
+/// The rule that the size of a namespace breaks: it has no blocks, or more than `max_blocks`.
+fn size_breaks(max_blocks: u64, namespace: NsConfig) -> Option<BrokenRule>
+    ensures { result ≡ spec.size_breaks max_blocks [] namespace }
 {
     let NsConfig { nsid, blocks, .. } = namespace;
     if blocks == 0 {
         return Some(BrokenRule::NoBlocks(nsid));
     }
-    if blocks > MAX_BLOCKS {
-        return Some(BrokenRule::TooLarge(nsid, blocks));
+    if blocks > max_blocks {
+        return Some(BrokenRule::TooLarge(nsid, blocks, max_blocks));
     }
     None
 }
 
 /// The first namespace without blocks, or with too many.
-fn bad_size(namespaces: &[NsConfig]) -> Option<ConfigReason>
-    ensures { result ≡ spec.first_line line_of.Namespace spec.size_breaks [] namespaces.now }
+fn bad_size(max_blocks: u64, namespaces: &[NsConfig]) -> Option<ConfigReason>
+    ensures { result ≡ spec.first_line line_of.Namespace (spec.size_breaks max_blocks) [] namespaces.now }
 {
     for (i, namespace) in namespaces.iter().enumerate() {
-        if let Some(rule) = size_breaks(*namespace) {
+        if let Some(rule) = size_breaks(max_blocks, *namespace) {
             return at(SetupLine::Namespace(i), rule);
         }
     }
     None
 }
 
-/// The first namespace that has no room on the medium behind those before it.
+/// The first namespace that does not fit on the medium after those before it.
 fn does_not_fit(namespaces: &[NsConfig], medium_blocks: u64) -> Option<ConfigReason>
     ensures { result ≡ spec.first_line line_of.Namespace (spec.room_breaks medium_blocks) [] namespaces.now }
 {
@@ -298,14 +299,15 @@ fn does_not_fit(namespaces: &[NsConfig], medium_blocks: u64) -> Option<ConfigRea
     None
 }
 
-/// Why a configuration is refused over a medium of so many blocks, if it is: of the rules that it breaks the first, by the
-/// faults `TooMany`, `BadId`, `BadSize`, `DoesNotFit`, and the first line that breaks it.
+/// Why a configuration is refused over a medium of `medium_blocks` blocks, if it is, when a namespace may have at most
+/// `max_blocks` blocks: the first rule that it breaks, in the order of the faults `TooMany`, `BadId`, `BadSize`,
+/// `DoesNotFit`, and the first line that breaks it.
 #[tactic(auto, unfolding(crate::specs::Refusals::refusal_of))]
-pub fn refusal_of(config: &Config, medium_blocks: u64) -> Option<ConfigReason>
-    ensures { result ≡ spec.refusal_of (configuration config.now) medium_blocks }
+pub fn refusal_of(config: &Config, max_blocks: u64, medium_blocks: u64) -> Option<ConfigReason>
+    ensures { result ≡ spec.refusal_of (configuration config.now) (capacity max_blocks medium_blocks) }
 {
     one_too_many(config)
         .or_else(|| bad_id(config))
-        .or_else(|| bad_size(&config.namespaces))
+        .or_else(|| bad_size(max_blocks, &config.namespaces))
         .or_else(|| does_not_fit(&config.namespaces, medium_blocks))
 }

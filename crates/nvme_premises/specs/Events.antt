@@ -1,5 +1,6 @@
--- Which events of a subsystem the premises of its laws are about, said once more in other words: by what an event is
--- equal to, and not by a clause for each. A premise that is wider or narrower for any event breaks one of these.
+-- The events of a subsystem that the premises of its laws are about, defined a second time in other words: by
+-- equations, instead of a clause for each event. A premise that is wider or narrower for any event makes one of these
+-- false.
 use Rattle.std.specs.Prelude.{◌≡◌, ◌≢◌, ◌⊎◌, ◌↔◌, ℕ, Bool, List, Option, Some, None, length, false, true}
 use Rattle.std.specs.Borrow.{Bor}
 use Rattle.nvme_spec.specs.declared.command.Command.{Command}
@@ -39,7 +40,7 @@ AllowsIsExecution =
     (commands : List Command) → (s : Subsystem) → (event : Event) → (n : ℕ)
     → Allows commands s event n ↔ AllowsByExecution commands s event n
 
--- A reservation is forgotten exactly in a power cycle that it does not outlast.
+-- An event forgets a reservation exactly if it is a power cycle and the reservation does not persist.
 abbrev pub FleetingIsNotPersistent : Type 0
 FleetingIsNotPersistent =
     (o : Option Reservation) → IsFleeting o ↔ ((r : Reservation) × (o ≡ Some r) × (r.ptpl ≡ false))
@@ -49,7 +50,7 @@ ForgetsIsPowerCycle =
     (s : Subsystem) → (event : Event) → (n : ℕ)
     → Forgets s event n ↔ ((event ≡ PowerCycle) × IsFleeting (reservation_of s.world n))
 
--- What is said of an event's controller is said of the one that it names; of a power cycle nothing is said.
+-- A property of an event's controller is one of the controller that the event names. It holds for a power cycle.
 abbrev pub OfItsControllerIsOfIt : Type 0
 OfItsControllerIsOfIt =
     (holds : ℕ → Bool) → (event : Event)
@@ -64,8 +65,8 @@ abbrev pub EmptiesIsEnableOrDisable : Type 0
 EmptiesIsEnableOrDisable =
     (effect : RegEffect) → (empties effect ≡ true) ↔ ((effect ≡ Enable) ⊎ (effect ≡ Disable))
 
--- An event takes the m-th command of controller j out of its list exactly by its execution, by the deletion of its
--- queue, by an enabling or disabling of its controller, or as power is lost.
+-- An event removes the m-th command of controller j from its list exactly if it executes it, deletes its queue, enables
+-- or disables its controller, or is a power cycle.
 pub record TakesOutByExecution (old : Subsystem) (c : Controller) (j m : ℕ) (t : FetchedCommand) (event : Event)
     : Type 0 where
   pub index : ℕ
@@ -84,8 +85,8 @@ TakesOutIsOneOfThree =
     → TakesOut old c j m t event
     ↔ (TakesOutByExecution old c j m t event ⊎ TakesOutByWrite c j event ⊎ (event ≡ PowerCycle))
 
--- A register write takes a completion exactly if it enables or disables the controller, or is the doorbell that says
--- that the host has consumed it.
+-- A register write removes a completion exactly if it enables or disables the controller, or is the doorbell write by
+-- which the host consumes it.
 abbrev pub TakesByWriteIsResetOrDoorbell : Type 0
 TakesByWriteIsResetOrDoorbell =
     (c : Controller) → (e : PostedEntry) → (effect : RegEffect)
@@ -107,8 +108,8 @@ abbrev pub ExecutesNothingIsNoExecution : Type 0
 ExecutesNothingIsNoExecution =
     (event : Event) → ExecutesNothing event ↔ ((k i : ℕ) → event ≢ Execute k i)
 
--- An event takes a completion exactly if its own host stores bytes over it, resets or rings, has a command executed that
--- takes it, or if power is lost.
+-- An event takes a completion exactly if its own host stores bytes over it, resets or rings, or if it executes a
+-- command that takes it, or if power is lost.
 pub record TakesByStore (j : ℕ) (e : PostedEntry) (event : Event) : Type 0 where
   pub address : ℕ
   pub bytes : Bor (List ℕ)
@@ -132,25 +133,25 @@ TakesEntryIsOneOfFour =
     → TakesEntry s j c e event
     ↔ (TakesByStore j e event ⊎ TakesByRegister c j e event ⊎ TakesByCommand s c j e event ⊎ (event ≡ PowerCycle))
 
--- Where a fetched command stands after an event that executes nothing and resets nothing: where it stood. Power takes it.
+-- An event that neither executes nor resets leaves a fetched command at its place. A power cycle removes it.
 abbrev pub PlacesAreKept : Type 0
 PlacesAreKept =
     (s : Subsystem) → (j m k offset q : ℕ) → (bytes : Bor (List ℕ))
     → (place_after s j m (Store k offset bytes) ≡ Some m) × (place_after s j m (Read32 k offset) ≡ Some m)
     × (place_after s j m (Fetch k q) ≡ Some m) × (place_after s j m PowerCycle ≡ None)
 
--- A read of a register gives its value and changes nothing.
+-- A read of a register returns its value and changes nothing.
 abbrev pub ReadGivesTheValue : Type 0
 ReadGivesTheValue =
     (c : Controller) → (offset : ℕ)
     → ((has_read offset c).seen ≡ Value (value_at c.registers offset)) × ((has_read offset c).controller ≡ c)
 
--- Only a controller that is ready, and not shut down, fetches.
+-- Only a ready controller that is not shut down fetches.
 abbrev pub OnlyReadyFetches : Type 0
 OnlyReadyFetches = (state : ControllerState) → (may_fetch state ≡ true) ↔ (state ≡ Ready)
 
--- An admin command comes to all that its execution says: status, double word 0, rule, queues, access state and window;
--- and it leaves the medium.
+-- The outcome of an admin command is that of its execution: status, double word 0, rule, queues, access state and
+-- window. It has no marks, and the medium is unchanged.
 pub record IsAdminOutcome (s : Scene) (x : AdminExecution) (a : CommandExecution) : Type 0 where
   pub status : a.outcome.status ≡ x.status
   pub dw0 : a.outcome.dw0 ≡ x.dw0

@@ -1,4 +1,5 @@
--- Which events of a fleet the premises of its laws are about, said once more in other words, as for a subsystem.
+-- The events of a fleet that the premises of its laws are about, defined a second time in other words, as for a
+-- subsystem.
 use Rattle.std.specs.Prelude.{◌≡◌, ◌≢◌, ◌⊎◌, ◌↔◌, ◌∷◌, [], ℕ, Bool, true, List, Some}
 use Rattle.nvme_spec.specs.declared.command.Command.{Command}
 use Rattle.nvme_spec.specs.declared.command.Command.TheVariants.{ReservationRegister}
@@ -24,13 +25,13 @@ AllowsIsExecution =
     (commands : List Command) → (f : Fleet) → (event : FleetEvent) → (n : ℕ)
     → Allows commands f event n ↔ AllowsByExecution commands f event n
 
--- A reservation is forgotten exactly in a power cycle that it does not outlast.
+-- An event forgets a reservation exactly if it is a power cycle and the reservation does not persist.
 abbrev pub ForgetsIsPowerCycle : Type 0
 ForgetsIsPowerCycle =
     (f : Fleet) → (event : FleetEvent) → (n : ℕ)
     → Forgets f event n ↔ ((event ≡ PowerCycle) × IsFleeting (reservation_of f.site.world n))
 
--- A host is registered exactly as a Reservation Register of one of its controllers is executed that all rules let pass.
+-- An event registers a host exactly if one of its controllers executes a Reservation Register that all rules let pass.
 pub record RegistersByExecution (n host : ℕ) (f : Fleet) (event : FleetEvent) : Type 0 where
   pub cntlid : ℕ
   pub index : ℕ
@@ -49,7 +50,7 @@ ConcernsItsController =
     → ((event ≡ PowerCycle) → concerns event k ≡ true)
     × ((event ≢ PowerCycle) → (concerns event k ≡ true) ↔ (controller_of event ≡ k))
 
--- What is said of an event's host is said of the controller that it names; of a power cycle nothing is said.
+-- A property of an event's host is one of the controller that the event names. It holds for a power cycle.
 abbrev pub OfItsHostIsOfIt : Type 0
 OfItsHostIsOfIt =
     (holds : ℕ → Bool) → (event : FleetEvent)

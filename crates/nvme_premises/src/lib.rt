@@ -1,5 +1,5 @@
-//! What the premises of the laws are about, said a second time in other words. Laws and code use the same word, so a
-//! premise that were wider or narrower for some event would leave every law provable. Here it would not.
+//! The premises of the laws, defined a second time in other words. Laws and code use the same definitions, so that a
+//! premise that is too wide or too narrow for some event leaves every law provable. Here it makes a law false.
 #![tactic(auto)]
 
 mod of_fleets;

@@ -1,6 +1,22 @@
 //! Premises on the events of a subsystem.
 
-ghost use Rattle.nvme_premises.specs.Events.{AdminComesToItsExecution, AllowsIsExecution, CallIsOfAnExecution, EmptiesIsEnableOrDisable, ExecutesNothingIsNoExecution, FleetingIsNotPersistent, ForgetsIsPowerCycle, OfItsControllerIsOfIt, OnlyReadyFetches, PlacesAreKept, ReadGivesTheValue, ResetIsEnableOrDisable, TakesByWriteIsResetOrDoorbell, TakesEntryIsOneOfFour, TakesOutIsOneOfThree};
+ghost use Rattle.nvme_premises.specs.Events.{
+  AdminComesToItsExecution,
+  AllowsIsExecution,
+  CallIsOfAnExecution,
+  EmptiesIsEnableOrDisable,
+  ExecutesNothingIsNoExecution,
+  FleetingIsNotPersistent,
+  ForgetsIsPowerCycle,
+  OfItsControllerIsOfIt,
+  OnlyReadyFetches,
+  PlacesAreKept,
+  ReadGivesTheValue,
+  ResetIsEnableOrDisable,
+  TakesByWriteIsResetOrDoorbell,
+  TakesEntryIsOneOfFour,
+  TakesOutIsOneOfThree,
+};
 
 /// An event allows a command exactly if it executes one that all rules let pass.
 #[tactic(auto, using(crate::proofs::Events::allows_is_execution))]
@@ -8,14 +24,14 @@ pub fn only_executions_allow()
     ensures allows { AllowsIsExecution }
 {}
 
-/// A reservation is forgotten exactly in a power cycle that it does not outlast.
+/// A reservation is forgotten exactly in a power cycle, if it does not persist.
 #[tactic(auto, using(crate::proofs::Events::fleeting_is_not_persistent, crate::proofs::Events::forgets_is_power_cycle))]
 pub fn only_power_forgets()
     ensures fleeting { FleetingIsNotPersistent }
     ensures forgets { ForgetsIsPowerCycle }
 {}
 
-/// What is said of an event's controller is said of the one that it names, and of a power cycle nothing is said.
+/// A property of an event's controller is one of the controller that the event names. It holds for a power cycle.
 #[tactic(auto, using(crate::proofs::Events::of_its_controller_is_of_it))]
 pub fn events_are_of_their_controller()
     ensures said { OfItsControllerIsOfIt }
@@ -41,14 +57,15 @@ pub fn completions_are_taken()
     ensures event { TakesEntryIsOneOfFour }
 {}
 
-/// What a controller's events give: a read the value of its register, and a fetch nothing unless it is ready.
+/// The results of a controller's events: a read returns the value of its register, and a fetch fetches nothing unless
+/// the controller is ready.
 #[tactic(auto, using(crate::proofs::Events::read_gives_the_value, crate::proofs::Events::only_ready_fetches))]
 pub fn controllers_answer()
     ensures read { ReadGivesTheValue }
     ensures fetch { OnlyReadyFetches }
 {}
 
-/// An admin command comes to all that its execution says.
+/// An admin command's answer has all of its execution.
 #[tactic(auto, using(crate::proofs::Events::admin_comes_to_its_execution))]
 pub fn admin_commands_come_to_their_execution()
     ensures admin { AdminComesToItsExecution }

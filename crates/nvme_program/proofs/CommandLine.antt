@@ -1,5 +1,22 @@
--- What `clap` makes of a command line that has no refused word.
-use Rattle.std.proofs.Common.{◌≡◌, ◌==◌, Bool, true, false, List, [], ◌∷◌, Option, Some, None, codes, refl, ap, sym, ◌∙◌}
+-- For the answer of `named`: the matches of `clap` for a command line without a refused word.
+use Rattle.std.proofs.Common.{
+  ◌≡◌,
+  ◌==◌,
+  Bool,
+  true,
+  false,
+  List,
+  [],
+  ◌∷◌,
+  Option,
+  Some,
+  None,
+  codes,
+  refl,
+  ap,
+  sym,
+  ◌∙◌,
+}
 use Rattle.std.specs.Str.{bytes_eq}
 use Rattle.std.specs.Prelude.{slice_get, find, map, option_map, option_and_then}
 use Rattle.std.specs.Borrow.{Bor}
@@ -28,7 +45,7 @@ pub simple : (name : Text) → is_simple (program name) ≡ true
 unfolding clap_on_literals
 simple name = refl
 
--- a word that is no option
+-- a word that is not an option
 pub record IsPlain (word : Text) : Type 0 where
   pub long : long_of word ≡ None
   pub short : short_of word ≡ None
@@ -64,7 +81,7 @@ pub taken-two : (name own image script : Text) → IsPlain image → IsPlain scr
 unfolding clap_on_literals
 taken-two name own image script i s = rw (i.long, i.short, i.dashes, s.long, s.short, s.dashes) refl
 
--- the words of a command line behind which no more is taken
+-- in a command line without a fault, neither the image nor the script is an option
 at-one : (own image : Text) → word_fault (own ∷ image ∷ []) ≡ None → is_option image ≡ false
 at-one own image h = go (is_option image) refl
   where
@@ -76,12 +93,14 @@ at-two : (own image script : Text) → word_fault (own ∷ image ∷ script ∷ 
     → (is_option image ≡ false) × (is_option script ≡ false)
 at-two own image script h = go (is_option image) (is_option script) refl refl
   where
-    go : (i s : Bool) → is_option image ≡ i → is_option script ≡ s → (is_option image ≡ false) × (is_option script ≡ false)
+    go : (i s : Bool) → is_option image ≡ i → is_option script ≡ s
+        → (is_option image ≡ false) × (is_option script ≡ false)
     go false false i s = (i, s)
     go true _ i s = let bad = rw i at h in cc
     go false true i s = let bad = rw (i, s) at h in cc
 
-no-third : (own image script more : Text) (rest : List Text) → word_fault (own ∷ image ∷ script ∷ more ∷ rest) ≡ None → ⊥
+no-third : (own image script more : Text) (rest : List Text)
+    → word_fault (own ∷ image ∷ script ∷ more ∷ rest) ≡ None → ⊥
 no-third own image script more rest h = go (is_option image) (is_option script) (is_option more) refl refl refl
   where
     go : (i s m : Bool) → is_option image ≡ i → is_option script ≡ s → is_option more ≡ m → ⊥
@@ -98,7 +117,7 @@ taken name (own ∷ image ∷ script ∷ []) h =
     let both = at-two own image script h in taken-two name own image script (plain image both.0) (plain script both.1)
 taken name (own ∷ image ∷ script ∷ more ∷ rest) h = absurd (no-third own image script more rest h)
 
--- what is found for the image, and for the script
+-- the matches for the image and for the script
 pub record Finds (name : Text) (words : List Text) : Type 0 where
   pub image : first_of (codes "image") (matches_of (program name) words) ≡ slice_get words 1
   pub script : first_of (codes "script") (matches_of (program name) words) ≡ slice_get words 2
@@ -113,7 +132,8 @@ finds-name name own = record { image = refl; script = refl }
 
 finds-one : (name own image : Text) → IsPlain image → Finds name (own ∷ image ∷ [])
 unfolding clap_on_literals
-finds-one name own image i = record { image = rw (i.long, i.short, i.dashes) refl; script = rw (i.long, i.short, i.dashes) refl }
+finds-one name own image i =
+    record { image = rw (i.long, i.short, i.dashes) refl; script = rw (i.long, i.short, i.dashes) refl }
 
 finds-two : (name own image script : Text) → IsPlain image → IsPlain script → Finds name (own ∷ image ∷ script ∷ [])
 unfolding clap_on_literals
@@ -130,8 +150,9 @@ finds name (own ∷ image ∷ script ∷ []) h =
     let both = at-two own image script h in finds-two name own image script (plain image both.0) (plain script both.1)
 finds name (own ∷ image ∷ script ∷ more ∷ rest) h = absurd (no-third own image script more rest h)
 
--- what a caller reads of a match is what its row has
-first-value : (values : List (Bor Text)) → slice_get (map (λ s. s.now) values) 0 ≡ option_map (λ s. s.now) (slice_get values 0)
+-- a caller gets the value that the row of a match has
+first-value : (values : List (Bor Text))
+    → slice_get (map (λ s. s.now) values) 0 ≡ option_map (λ s. s.now) (slice_get values 0)
 first-value [] = refl
 first-value (value ∷ values) = refl
 

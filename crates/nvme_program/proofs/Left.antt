@@ -1,4 +1,4 @@
--- How much is left of a text.
+-- For the answer of `number_in`: the length of the rest of a text.
 use Rattle.std.proofs.Common.{◌≤◌, ℕ, ◌+◌, List, length, Option, Some, None, Bor}
 use Rattle.std.specs.Prelude.{IfSome}
 

@@ -2,7 +2,13 @@
 use Rattle.std.specs.Prelude.{ℕ, Bool, true, List, ◌++◌, codes}
 use Rattle.std.specs.Fmt.{decimal}
 use Rattle.nvme_spec.specs.declared.config.ConfigFault.{ConfigFault}
-use Rattle.nvme_spec.specs.declared.config.ConfigFault.TheVariants.{BadId, BadSize, TooMany, DoesNotFit, NoMemory as NoRoom}
+use Rattle.nvme_spec.specs.declared.config.ConfigFault.TheVariants.{
+  BadId,
+  BadSize,
+  TooMany,
+  DoesNotFit,
+  NoMemory as NoRoom,
+}
 use Rattle.nvme_grammar.specs.FaultTexts.{fault_text}
 use Rattle.nvme_grammar.specs.declared.fault.LineFault.{LineFault}
 use Rattle.nvme_program.specs.RuleTexts.{rule_text}
@@ -35,20 +41,20 @@ failure_text File = codes "file fault"
 failure_text CommandLine = codes "bad command line"
 failure_text Memory = codes "out of memory"
 
--- the line in which a program of this name tells it
+-- the line that a program of this name prints for it
 abbrev pub told_text : List ℕ → Failure → List ℕ
 told_text name failure = name ++ codes ": " ++ failure_text failure
 
--- why a line of a script is refused, behind the script's name and a colon: its number, the column, and the reason
+-- why a line of a script is refused, after the script's name and a colon: its number, the column, and the reason
 abbrev pub line_reason_text : ℕ → LineFault → List ℕ
 line_reason_text line fault = decimal line ++ codes ":" ++ fault_text fault
 
--- how there are more blocks, where those in memory are too few
+-- how to get more blocks, if those in memory are too few
 abbrev pub room_text : BrokenRule → Bool → List ℕ
 room_text (broken.DoesNotFit nsid blocks) true =
     codes "; for an image of 65536 blocks: truncate -s 32M disk.img, then nvmesim disk.img SCRIPT"
 room_text rule in_memory = codes ""
 
--- the same of a configuration: the number of the line that breaks a rule, and the rule
+-- the same for a configuration: the number of the line that breaks a rule, and the rule
 abbrev pub config_reason_text : ℕ → BrokenRule → Bool → List ℕ
 config_reason_text line rule in_memory = decimal line ++ codes ":1: " ++ rule_text rule ++ room_text rule in_memory

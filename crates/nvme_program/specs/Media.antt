@@ -1,6 +1,6 @@
--- The medium of a program that no image is named to.
+-- The medium of a program without an image.
 use Rattle.std.specs.Prelude.{ℕ, ◌*◌, List, replicate}
 
--- so many blocks of zeros
+-- blocks of zeros
 unfoldable pub zero_blocks : ℕ → List ℕ
 zero_blocks blocks = replicate (512 * blocks) 0

@@ -1,6 +1,22 @@
 -- A program from its command line to its end: what it opens, in which order, what it runs over which medium, and which
 -- failure ends it.
-use Rattle.std.specs.Prelude.{◌≡◌, ◌⊎◌, ℕ, Bool, true, false, List, [], Option, None, Some, Result, Ok, Err, if◌then◌else◌}
+use Rattle.std.specs.Prelude.{
+  ◌≡◌,
+  ◌⊎◌,
+  ℕ,
+  Bool,
+  true,
+  false,
+  List,
+  [],
+  Option,
+  None,
+  Some,
+  Result,
+  Ok,
+  Err,
+  if◌then◌else◌,
+}
 use Rattle.nvme_medium.specs.declared.medium.Medium as medium
 use Rattle.nvme_medium.specs.declared.cached.Cached.{Cached}
 use Rattle.nvme_medium.specs.declared.memory.MemMedium.{MemMedium}
@@ -20,28 +36,28 @@ use Rattle.nvme_program.specs.declared.running.Runner as runner
 use Rattle.nvme_program.specs.declared.system.Cause.TheVariants.{IsScript}
 use Rattle.nvme_program.specs.declared.system.Unopened.{Unopened}
 
--- what the judgement of an image's text comes to, with the cause: a text that begins as a script does is refused
+-- the result of the check of an image's text, with the cause: a text that begins like a script is refused
 abbrev pub IsJudgement : Result (List ℕ) Failure → Result (Unit {0}) Unopened → Type 0
 IsJudgement (Ok text) (Ok unit) = begins_script text ≡ false
 IsJudgement (Ok text) (Err e) = (begins_script text ≡ true) × (e.failure ≡ File) × (e.cause ≡ IsScript)
 IsJudgement (Err failure) (Ok unit) = ⊥
 IsJudgement (Err failure) (Err e) = (e.failure ≡ failure) × IsOfFile failure
 
--- the failure of such a judgement
+-- the failure of such a check
 abbrev pub judged : Result (List ℕ) Failure → Option Failure
 judged (Ok text) = if begins_script text then Some File else None
 judged (Err failure) = Some failure
 
--- A program is a runner in a system. Of the system the definitions know which states may follow a call of it, and what is
--- known of an open image, of one behind a cache, and of an open script; of the runner what a run does, and what is left of
--- it as it tells a failure.
+-- A program is a runner in a system. Of the system the definitions know which states may follow a call of it, and the
+-- models of an open image, of a cached one, and of an open script; of the runner they know the effect of a run and of
+-- reporting a failure.
 module _ {S I T R : Type 0} (step : S → SystemCall I T → S → Type 0) (image : medium.Ghosts I)
     (behind_cache : medium.Ghosts (Cached I image)) (reads : source.Ghosts T) (runs : runner.Ghosts R) where
-  -- a failure is told, and is the end
+  -- a failure is reported, and is the end
   abbrev pub Tells : Failure → R → Option Failure → R → Type 0
   Tells failure before end after = (end ≡ Some failure) × runs.tells before after
 
-  -- behind the opening of the script: its failure is the end, and no call is made of the medium; or else it is run
+  -- after the opening of the script: its failure is the end, and no call is made of the medium; or else it is run
   abbrev pub EndsBehindScript : {M : Type 0} → medium.Ghosts M → Result T Failure
       → M → M → R → Option Failure → R → Type 0
   EndsBehindScript {M} calls (Err failure) old left before end after =
@@ -49,7 +65,7 @@ module _ {S I T R : Type 0} (step : S → SystemCall I T → S → Type 0) (imag
   EndsBehindScript {M} calls (Ok script) old left before end after =
       (read : T) × runs.ran T M reads calls script read old left before end after × IsOfRun end
 
-  -- The script is opened, and run over a medium, which is left so; where none is named, the runner knows what to run.
+  -- The script is opened, and run over a medium, with this effect; if none is named, the runner knows what to run.
   abbrev pub EndsFromScript : {M : Type 0} → medium.Ghosts M → Option (List ℕ)
       → M → M → S → R → Option Failure → S → R → Type 0
   EndsFromScript {M} calls None old left system before end new after =
@@ -58,8 +74,8 @@ module _ {S I T R : Type 0} (step : S → SystemCall I T → S → Type 0) (imag
       (outcome : Result T Failure) × step system (OpensScript path outcome) new
       × EndsBehindScript calls outcome old left before end after
 
-  -- The medium is an image that was opened, behind a cache of 256 blocks that keeps none yet; and the image is closed as
-  -- the cache left it.
+  -- The medium is an image that was opened, with an empty cache of 256 blocks; and the image is closed as the cache
+  -- left it.
   pub record EndsOnImage (opened : I) (script : Option (List ℕ)) (system : S) (before : R) (end : Option Failure)
       (new : S) (after : R) : Type 0 where
     pub cached : Cached I image
@@ -71,7 +87,7 @@ module _ {S I T R : Type 0} (step : S → SystemCall I T → S → Type 0) (imag
     pub ends : EndsFromScript behind_cache script cached left system before end mid after
     pub closes : step mid (ClosesImage (inner_of left)) new
 
-  -- behind the opening of the image: its failure is the end, or there is no memory for its cache, or else the script
+  -- after the opening of the image: its failure is the end, or memory for its cache is refused, or else the script
   -- decides
   abbrev pub EndsBehindImage : Result I Failure → Option (List ℕ) → S → R → Option Failure → S → R → Type 0
   EndsBehindImage (Err failure) script system before end new after =
@@ -80,7 +96,7 @@ module _ {S I T R : Type 0} (step : S → SystemCall I T → S → Type 0) (imag
       (step system (ClosesImage opened) new × Tells Memory before end after)
       ⊎ EndsOnImage opened script system before end new after
 
-  -- The image is opened, and then the script; where none is named the medium is 1,024 blocks of zeros in memory.
+  -- The image is opened, and then the script; if none is named, the medium is 1,024 blocks of zeros in memory.
   abbrev pub EndsFromImage : Option (List ℕ) → Option (List ℕ) → S → R → Option Failure → S → R → Type 0
   EndsFromImage None script system before end new after =
       ((new ≡ system) × Tells Memory before end after)
@@ -97,19 +113,19 @@ module _ {S I T R : Type 0} (step : S → SystemCall I T → S → Type 0) (imag
       ((new ≡ system) × Tells Memory before end after)
       ⊎ EndsFromImage (image_in words) (script_in words) system before end new after
 
-  -- A program on these words is ended by a refused word, by too little memory, by the image, by the script or by the run:
+  -- A program on these words is ended by a refused word, by refused memory, by the image, by the script or by the run:
   -- by the first of these, in this order.
   abbrev pub ProgramEnds : List (List ℕ) → S → R → Option Failure → S → R → Type 0
   ProgramEnds words system before end new after = EndsByWord (word_fault words) words system before end new after
 
-  -- behind the judgement: its failure is the end, and no file is opened; else the image is opened, and then the script
+  -- after the check: its failure is the end, and no file is opened; else the image is opened, and then the script
   abbrev pub EndsBehindText : Option Failure → List ℕ → Option (List ℕ) → S → R → Option Failure → S → R → Type 0
   EndsBehindText (Some failure) path script system before end new after =
       IsOfFile failure × (new ≡ system) × Tells failure before end after
   EndsBehindText None path script system before end new after =
       EndsFromImage (Some path) script system before end new after
 
-  -- an image that is named is judged by its text first, where no word says that it is meant
+  -- the text of a named image is checked first, unless `--image` precedes it
   abbrev pub EndsGuarded : Bool → Option (List ℕ) → Option (List ℕ) → S → R → Option Failure → S → R → Type 0
   EndsGuarded false (Some path) script system before end new after =
       (outcome : Result (List ℕ) Failure) × (mid : S) × step system (ReadsText path outcome) mid
@@ -124,8 +140,8 @@ module _ {S I T R : Type 0} (step : S → SystemCall I T → S → Type 0) (imag
       ((new ≡ system) × Tells Memory before end after)
       ⊎ EndsGuarded is_meant (image_in words) (script_in words) system before end new after
 
-  -- A program that judges its image: on these words, behind the option that says that the image is meant, it ends as any
-  -- program does, but that an image is judged before it is opened.
+  -- A program that checks its image: on these words, after `--image`, it ends like any program, except that an image is
+  -- checked before it is opened.
   abbrev pub GuardedEnds : List (List ℕ) → S → R → Option Failure → S → R → Type 0
   GuardedEnds words system before end new after =
       EndsGuardedByWord (word_fault (behind_option words)) (means_image words) (behind_option words) system before end

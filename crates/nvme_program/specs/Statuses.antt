@@ -1,4 +1,4 @@
--- The exit status of a program: 0 where it ran to its end, else by its failure: 1 a fault of the script, 2 of a file or a
+-- The exit status of a program: 0 if it ran to its end, else by its failure: 1 a fault of the script, 2 of a file or a
 -- stream, 3 of the command line, 4 out of memory.
 use Rattle.std.specs.Prelude.{ℕ, Option, None, Some}
 use Rattle.nvme_program.specs.declared.fault.ScriptFault.{ScriptFault}

@@ -1,4 +1,4 @@
-//! Worked examples of the definitions: the contract of each function here is computed by the check.
+//! Worked examples of the definitions. Each is the contract of an empty function, proved by computing.
 
 ghost use Rattle.std.specs.Prelude.{◌≡◌, [], ◌∷◌, None, Some, codes};
 ghost use Rattle.nvme_program.specs.RuleTexts.{rule_text};
@@ -19,9 +19,9 @@ fn numbers_of_lines()
 /// Sentences.
 fn texts()
     ensures controller { rule_text (BrokenRule.Misnumbered 2 3)
-        ≡ codes "controller 2 has to stand here, and not 3: they are counted from 1" }
-    ensures size { rule_text (BrokenRule.TooLarge 3 70000)
-        ≡ codes "namespace 3 has 70000 blocks, and 65536 is the most" }
+        ≡ codes "this must be controller 2, not 3: controllers are numbered from 1" }
+    ensures size { rule_text (BrokenRule.TooLarge 3 70000 65536)
+        ≡ codes "namespace 3 has 70000 blocks; at most 65536 are allowed" }
     ensures attachment { rule_text (BrokenRule.NotShared 2 3)
-        ≡ codes "namespace 3 is private, and controller 2 is the second that is attached to it" }
+        ≡ codes "namespace 3 is private, but controller 2 is the second that is attached to it" }
 {}

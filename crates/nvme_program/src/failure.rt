@@ -16,7 +16,7 @@ use std::alloc::AllocError;
 use std::{fmt, io};
 use thiserror::Error;
 
-/// Why a program ends with a status other than 0. Its text is what the program prints.
+/// Why a program ends with a status other than 0. The program prints its text.
 #[derive(Clone, Copy, Debug, Error, PartialEq, Eq)]
 pub enum Failure {
     /// The script was not run to its end.

@@ -1,4 +1,4 @@
-//! Why a script was not run to its end: which fault another one is, and its text.
+//! Why a script was not run to its end, and the text for it.
 
 ghost use Rattle.std.specs.Prelude.{◌≡◌, Some};
 ghost use Rattle.nvme_program.specs.FailureTexts.{config_fault_text, script_fault_text};
@@ -12,12 +12,12 @@ use std::alloc::AllocError;
 use std::fmt;
 use thiserror::Error;
 
-/// Why a script was not run to its end. A fault's text is what the program prints.
+/// Why a script was not run to its end. The program prints its text.
 #[derive(Clone, Copy, Debug, Error, PartialEq, Eq)]
 pub enum ScriptFault {
     /// The first line that is outside the grammar, counted from 1.
     Syntax(usize),
-    /// The line `start`, where the configuration before it is refused, and why.
+    /// The line `start`, if the configuration before it is refused, and why.
     Config(usize, ConfigFault),
     /// The text has more than 4,194,304 bytes.
     TooLong,

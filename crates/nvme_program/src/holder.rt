@@ -1,4 +1,4 @@
-//! Which program holds the lock of a file. The answer serves a message alone.
+//! Finds the program that holds the lock of a file. Only a message uses the answer.
 
 use script_text::read_text;
 use std::alloc::Global;
@@ -57,8 +57,8 @@ fn numbers_of(device: u64) -> (u64, u64) {
     (major, minor)
 }
 
-/// The process in a line of /proc/locks, if the line is a lock on this file as `File::try_lock` takes it. Such a line is
-/// `3: FLOCK  ADVISORY  WRITE 4711 fe:00:131 0 EOF`.
+/// The process in a line of /proc/locks, if the line is a lock on this file as `File::try_lock` takes it. Such a line
+/// is `3: FLOCK  ADVISORY  WRITE 4711 fe:00:131 0 EOF`.
 fn process_in(line: &str, file: &str) -> Option<u32> {
     let mut words = line.split_ascii_whitespace();
     let (_, kind, _, _) = (words.next()?, words.next()?, words.next()?, words.next()?);

@@ -1,4 +1,4 @@
-//! Whether what is named as an image is one, and no script that would be written over.
+//! Checks that a named image is not a script, which would be overwritten.
 
 ghost use Rattle.std.specs.Prelude.{◌≡◌, List, ℕ, Result};
 ghost use Rattle.nvme_grammar.specs.Beginnings.{begins_script};
@@ -11,12 +11,11 @@ use crate::system::{Cause, System, Unopened};
 use nvme_grammar::begins_script;
 use std::alloc::Global;
 
-/// Judges what is named as an image by its text, before it is opened as one: where that begins as a script does, it is
-/// refused.
+/// Checks a named image by its text, before it is opened: it is refused if it begins like a script.
 ///
 /// # Errors
 ///
-/// `File`, and `IsScript` as the cause, where it begins so; what the system refused where it can't be read.
+/// `File` with the cause `IsScript` if it does; or with the system's error if it can't be read.
 pub fn judge_image<S: System>(alloc: Global, system: &mut S, path: &str) -> Result<(), Unopened>
     ensures { (outcome : Result (List ℕ) AFailure) × S.step system.old (ReadsText path.now outcome) system.new
         × IsJudgement outcome result }

@@ -1,9 +1,16 @@
-//! A program from its command line to its end: it opens the files that are named, in their order, and runs over them.
+//! A program from its command line to its end: opens the named files, in order, and runs over them.
 
 ghost use Rattle.std.specs.Prelude.{◌≡◌, None, Some, Ok, map, option_map};
 ghost use Rattle.std.specs.String.{string_bytes};
 ghost use Rattle.std.specs.Result.{result_err};
-ghost use Rattle.nvme_program.specs.Programs.{EndsBehindImage, EndsFromImage, EndsFromScript, EndsGuarded, GuardedEnds, ProgramEnds};
+ghost use Rattle.nvme_program.specs.Programs.{
+  EndsBehindImage,
+  EndsFromImage,
+  EndsFromScript,
+  EndsGuarded,
+  GuardedEnds,
+  ProgramEnds,
+};
 
 use crate::command_line::{Paths, behind_option, means_image, paths_of};
 use crate::failure::Failure;
@@ -15,7 +22,7 @@ use crate::telling::{AS_IMAGE, AS_SCRIPT, reason_of};
 use nvme_medium::{Cached, Medium};
 use std::alloc::Global;
 
-/// Tells why a file can't be opened for this purpose.
+/// Reports why a file can't be opened for this purpose.
 fn refuse_file<R: Runner>(
     runner: &mut R,
     unopened: &Unopened,
@@ -29,7 +36,8 @@ fn refuse_file<R: Runner>(
     runner.tell(unopened.failure, reason_of(&unopened.cause, path, purpose))
 }
 
-/// Tells why a command line ends the program; where a word is refused, which. So many options stand before these words.
+/// Reports why a command line ends the program, and which word is refused. There were `options` options before these
+/// words.
 fn refuse_words<R: Runner>(
     runner: &mut R,
     failure: Failure,
@@ -70,7 +78,7 @@ fn run_named<S: System, R: Runner, M: Medium + Drop>(
     }
 }
 
-/// Runs over an image that was opened, behind a cache, and closes it.
+/// Runs over an image that was opened, with a cache, and closes it.
 fn run_open_image<S: System, R: Runner>(
     alloc: Global,
     system: &mut S,
@@ -136,16 +144,19 @@ fn run_scratch<S: System, R: Runner>(
     }
 }
 
-/// A program on these words, in any system: which files it opens, in which order, and what ends it.
+/// Runs a program on these words, in any system: opens its files in order, until something ends it. The message for a
+/// refused word also counts the `options` words before these.
 ///
 /// # Errors
 ///
-/// What ended the run, or that there was none, since a word is refused, a file can't be opened, or memory is refused.
+/// The failure that ended the run; or a refused word, a file that can't be opened, or refused memory, if there was no
+/// run.
 pub fn launch<S: System, R: Runner>(
     alloc: Global,
     system: &mut S,
     runner: &mut R,
     words: &[String],
+    options: usize,
 ) -> Result<(), Failure>
     ensures ends { ProgramEnds S.step S.Image.Medium ⟦<Cached<S::Image> as Medium>⟧
         S.Script.Source R.Runner (map string_bytes words.now) system.old
@@ -154,7 +165,7 @@ pub fn launch<S: System, R: Runner>(
 {
     let paths = match paths_of(alloc, runner.program().name, words) {
         Ok(paths) => paths,
-        Err(failure) => return Err(refuse_words(runner, failure, words, 0)),
+        Err(failure) => return Err(refuse_words(runner, failure, words, options)),
     };
     match paths.image {
         Some(image) => run_image(alloc, system, runner, image, paths),
@@ -162,8 +173,7 @@ pub fn launch<S: System, R: Runner>(
     }
 }
 
-/// Runs over an image, or over zeros in memory. An image is judged by its text first, unless a word says that it is
-/// meant.
+/// Runs over an image, or over zeros in memory. The text of an image is checked first, unless `--image` precedes it.
 fn run_guarded<S: System, R: Runner>(
     alloc: Global,
     system: &mut S,
@@ -189,18 +199,19 @@ fn run_guarded<S: System, R: Runner>(
     }
 }
 
-/// A program that judges its image, on these words and in any system: as `launch`, but that an image is judged by its
-/// text before it is opened, unless the word before it is `--image`.
+/// Runs a program that checks its image: like `launch`, except that the text of an image is checked before it is
+/// opened, unless `--image` precedes it.
 ///
 /// # Errors
 ///
-/// As `launch`; and that the image is a script.
+/// Those of `launch`; or that the image is a script.
 #[tactic(auto, using(crate::proofs::Guarded::words_are_taken))]
 pub fn launch_guarded<S: System, R: Runner>(
     alloc: Global,
     system: &mut S,
     runner: &mut R,
     words: &[String],
+    options: usize,
 ) -> Result<(), Failure>
     ensures ends { GuardedEnds S.step S.Image.Medium ⟦<Cached<S::Image> as Medium>⟧
         S.Script.Source R.Runner (map string_bytes words.now) system.old
@@ -211,7 +222,10 @@ pub fn launch_guarded<S: System, R: Runner>(
     let behind = behind_option(words);
     let paths = match paths_of(alloc, runner.program().name, behind) {
         Ok(paths) => paths,
-        Err(failure) => return Err(refuse_words(runner, failure, behind, usize::from(is_meant))),
+        Err(failure) => {
+            let options = options.saturating_add(usize::from(is_meant));
+            return Err(refuse_words(runner, failure, behind, options));
+        }
     };
     run_guarded(alloc, system, runner, is_meant, paths)
 }

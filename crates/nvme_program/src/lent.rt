@@ -2,8 +2,8 @@
 
 use std::marker::Model;
 
-/// A stream that is lent to a program. Each has a struct of its own, so that what the program leaves of each is known:
-/// where one struct with a model holds several references and is taken apart, it is known of one of them.
+/// A stream that a program borrows. Each stream has a struct of its own, so that contracts know the effect on each: if
+/// one struct with a model has several references and is taken apart, they know it of one of them.
 #[derive(Drop)]
 pub struct Lent<'a, T> {
     pub stream: &'a mut T,

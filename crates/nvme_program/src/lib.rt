@@ -1,4 +1,4 @@
-//! What the programs share: the words of their command lines, the files that they open, and each failure with its
+//! What both programs share: the words of their command lines, the files that they open, and each failure with its
 //! reason, its text and its exit status.
 #![tactic(auto)]
 
@@ -20,7 +20,10 @@ mod setup_lines;
 mod system;
 mod telling;
 
-pub use command_line::{Paths, WordFault, behind_option, means_image, paths_of, refused_word};
+pub use command_line::{
+    Paths, WordFault, after_any_size, allows_any_size, behind_option, max_blocks_in, means_image,
+    paths_of, refused_word,
+};
 pub use failure::{Failure, status_of};
 pub use fault::{ScriptFault, config_fault_name};
 pub use holder::Holder;

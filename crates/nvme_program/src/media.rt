@@ -1,4 +1,4 @@
-//! The media of a program: an image behind a cache, and zeros in memory.
+//! The media of a program: an image with a cache, and zeros in memory.
 
 ghost use Rattle.std.specs.Prelude.{◌≡◌, [], IfOk, IfErr};
 ghost use Rattle.nvme_medium.specs.Caches.{inner_of, blocks_kept, capacity_of};
@@ -12,17 +12,17 @@ use nvme_wire::NoMemory;
 use std::alloc::Global;
 use std::num::NonZeroUsize;
 
-/// How many blocks of an image are kept in memory at most.
+/// The most blocks of an image that are cached.
 const KEPT_BLOCKS: usize = 256;
 
-/// How many bytes the medium in memory has where no image is named: 1,024 blocks.
+/// The length of the medium in memory if no image is named: 1,024 blocks.
 const SCRATCH_BYTES: usize = 1024 * BLOCK;
 
-/// The medium where no image is named: 1,024 blocks of zeros in memory.
+/// The medium without an image: 1,024 blocks of zeros in memory.
 ///
 /// # Errors
 ///
-/// `Memory` where memory is refused.
+/// `Memory` if memory is refused.
 pub fn scratch(alloc: Global) -> Result<MemMedium, Failure>
     ensures zeros { IfOk result (λ medium. memory_bytes medium ≡ zero_blocks 1024) }
     ensures memory { IfErr result (λ failure. failure ≡ failed.Memory) }
@@ -33,11 +33,11 @@ pub fn scratch(alloc: Global) -> Result<MemMedium, Failure>
     }
 }
 
-/// The medium of an image: its blocks, behind a cache of 256 of them, which keeps none yet.
+/// The medium of an image: its blocks, with an empty cache for 256 of them.
 ///
 /// # Errors
 ///
-/// `Memory` where memory is refused; the image is handed back.
+/// `Memory` if memory is refused, with the image.
 pub fn behind_cache<M: Medium>(alloc: Global, image: M) -> Result<Cached<M>, (M, Failure)>
     ensures inner { IfOk result (λ cached. inner_of cached ≡ image) }
     ensures empty { IfOk result (λ cached. blocks_kept cached ≡ []) }

@@ -1,4 +1,4 @@
-//! Reasons that stand at a line of a script, behind its name and a colon.
+//! Reasons at a line of a script, after its name and a colon.
 
 ghost use Rattle.std.specs.Prelude.{◌≡◌, [], Some, codes, true, false};
 ghost use Rattle.nvme_program.specs.FailureTexts.{config_reason_text, line_reason_text, room_text};
@@ -23,8 +23,8 @@ impl fmt::Display for PlacedFault<'_> {
     }
 }
 
-/// Why a configuration is refused: the number of the line that is at fault, from 1, the rule that it breaks, and whether
-/// the medium is the blocks in memory.
+/// Why a configuration is refused: the number of the line at fault, from 1, the rule that it breaks, and whether the
+/// medium is in memory.
 #[derive(Clone, Copy)]
 pub struct PlacedRule {
     pub line: usize,
@@ -42,7 +42,7 @@ impl fmt::Display for PlacedRule {
     }
 }
 
-/// How there are more blocks, where those in memory are too few.
+/// How to get more blocks, if those in memory are too few.
 #[derive(Clone, Copy)]
 struct RoomText(BrokenRule, bool);
 

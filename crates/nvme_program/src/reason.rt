@@ -1,11 +1,11 @@
-//! What the program tells beside the text of a failure: one line, which gives its reason.
+//! The reason of a failure: one more line after its text.
 
 use crate::holder::Holder;
 use crate::placed::{PlacedFault, PlacedRule};
 use std::{fmt, io};
 
-/// How the program is called.
-pub const USAGE: &str = "nvmesim [IMAGE [SCRIPT]]";
+/// The usage line.
+pub const USAGE: &str = "nvmesim [--any-size] [IMAGE [SCRIPT]]";
 
 /// Why the program ends.
 #[derive(Clone, Copy)]
@@ -16,23 +16,23 @@ pub enum Reason<'p, 't> {
         word: &'p str,
         usage: &'static str,
     },
-    /// This word of the command line begins as an option does.
+    /// This word of the command line begins like an option.
     NoOption {
         number: usize,
         word: &'p str,
         usage: &'static str,
     },
-    /// A path that can't be opened for this purpose, or asked for what it is.
+    /// A path that can't be opened for this purpose, or whose kind can't be determined.
     Unopened {
         path: &'p str,
         purpose: &'static str,
         error: &'t io::Error,
     },
-    /// A path that is no regular file.
+    /// A path that is not a regular file.
     NoImage {
         path: &'p str,
     },
-    /// An image whose lock another program holds: which one, if that is known.
+    /// An image that another program has locked, and which program, if that is known.
     InUse {
         path: &'p str,
         holder: &'t Option<Holder>,
@@ -41,7 +41,7 @@ pub enum Reason<'p, 't> {
     Unlocked {
         path: &'p str,
     },
-    /// A path that is a script, and was to be the image.
+    /// A path that is a script, but was named as the image.
     IsScript {
         path: &'p str,
     },
@@ -60,7 +60,7 @@ pub enum Reason<'p, 't> {
         path: Option<&'p str>,
         fault: PlacedFault<'t>,
     },
-    /// A script that begins as images do.
+    /// A script that begins like an image.
     Zeros {
         path: &'p str,
     },
@@ -69,7 +69,7 @@ pub enum Reason<'p, 't> {
         path: Option<&'p str>,
         rule: PlacedRule,
     },
-    /// An image without a block, and the script that was to run over it: that file itself, if none is named.
+    /// An image without a block, and the script for it: the file itself, if none is named.
     NoBlock {
         path: &'p str,
         script: &'p str,
@@ -77,13 +77,13 @@ pub enum Reason<'p, 't> {
 }
 
 impl Reason<'_, '_> {
-    /// Whether its line begins with the place of what is refused, in a script.
+    /// Whether its line begins with a place in a script.
     pub(crate) fn has_place(&self) -> bool {
         matches!(self, Reason::Line { .. } | Reason::Config { .. })
     }
 }
 
-/// The file that a script stands in, or the standard input.
+/// The file of a script, or the standard input.
 #[derive(Clone, Copy)]
 struct ScriptName<'a>(Option<&'a str>);
 
@@ -96,12 +96,12 @@ impl fmt::Display for ScriptName<'_> {
     }
 }
 
-/// Writes a path, and what is said of it.
+/// Writes a path, and a text about it.
 fn say<W: fmt::Write>(f: &mut fmt::Formatter<W>, path: &str, said: &str) -> fmt::Result {
     write!(f, "'{}' {said}", path.escape_debug())
 }
 
-/// Writes who holds the lock of an image.
+/// Writes the program that has locked an image.
 fn say_in_use<W: fmt::Write>(
     f: &mut fmt::Formatter<W>,
     path: &str,
@@ -133,7 +133,7 @@ impl fmt::Display for Reason<'_, '_> {
                 usage,
             } => write!(
                 f,
-                "word {number}, '{}', begins as an option does, and there is none; usage: {usage}",
+                "word {number}, '{}', is not an option; usage: {usage}",
                 word.escape_debug()
             ),
             Reason::Unopened {
@@ -145,12 +145,12 @@ impl fmt::Display for Reason<'_, '_> {
                 "'{}' can't be opened {purpose}: {error}",
                 path.escape_debug()
             ),
-            Reason::NoImage { path } => say(f, path, "is no regular file, as an image has to be"),
+            Reason::NoImage { path } => say(f, path, "is no regular file; an image must be one"),
             Reason::InUse { path, holder } => say_in_use(f, path, holder),
-            Reason::Unlocked { path } => say(f, path, "can't be locked, as an image has to be"),
+            Reason::Unlocked { path } => say(f, path, "can't be locked; an image must be"),
             Reason::IsScript { path } => write!(
                 f,
-                "'{}' is a script, by its first line, and not an image; to use it as the image, put --image before it",
+                "'{}' is a script by its first line; to use it as an image, put --image before it",
                 path.escape_debug()
             ),
             Reason::Unread { path } => write!(f, "{} can't be read", ScriptName(*path)),
@@ -163,7 +163,7 @@ impl fmt::Display for Reason<'_, '_> {
             Reason::Line { path, fault } => write!(f, "{}:{fault}", ScriptName(*path)),
             Reason::Zeros { path } => write!(
                 f,
-                "'{}' begins with a byte 00h, as images do and scripts don't; usage: {USAGE}",
+                "'{}' begins with a byte 00h, so it is no script; usage: {USAGE}",
                 path.escape_debug()
             ),
             Reason::Config { path, rule } => write!(f, "{}:{rule}", ScriptName(*path)),

@@ -1,4 +1,4 @@
-//! What a program runs once its files are open.
+//! What a program runs after its files are open.
 
 ghost use Rattle.std.specs.Prelude.{◌≡◌, List, Option};
 ghost use Rattle.std.specs.Borrow.{GName};
@@ -16,31 +16,31 @@ use nvme_medium::Medium;
 use script_text::Source;
 use std::alloc::Global;
 
-/// What a run came to, and its medium as the run left it.
+/// The result of a run, and the medium after it.
 #[derive(Drop)]
 pub struct Ran<M> {
     pub medium: M,
     pub outcome: Result<(), Failure>,
 }
 
-/// What a program runs once its files are open, and where it tells why it ends. For contracts it says what a run does,
-/// over any medium, of which all is known that contracts know of one, and with any script.
+/// What a program runs after its files are open, and its reports of failures. For contracts it defines the effect of a
+/// run over any medium, with the model of that medium, and with any script.
 pub trait Runner {
     /// The streams that it borrows, by their names: they stay the same.
     ghost links: { Self → List GName };
 
-    /// What a run with a named script leaves of that, of the medium and of the runner, and what ended it. Of the script
-    /// it is known which states may follow a read, and what is left to be read.
+    /// The effect of a run with a named script on that, on the medium and on the runner, and the failure that ended it.
+    /// Of the script, contracts know which states may follow a read, and what is left to read.
     ghost ran: { (T : Type 0) → (M : Type 0) → SourceGhosts T → Ghosts M → T → T → M → M → Self
         → Option Failure → Self → Type 0 };
 
-    /// The same where no script is named.
+    /// The same without a named script.
     ghost ran_unnamed: { (M : Type 0) → Ghosts M → M → M → Self → Option Failure → Self → Type 0 };
 
-    /// What the telling of a failure leaves of the runner.
+    /// The effect of reporting a failure on the runner.
     ghost tells: { Self → Self → Type 0 };
 
-    /// The program, as it calls itself.
+    /// The program, by its own name.
     fn program(&self) -> Program;
 
     /// Runs over a medium, with the script that the command line names.
@@ -56,7 +56,7 @@ pub trait Runner {
             (result_err result.outcome) self.new }
         ensures links { links self.new ≡ links self.old };
 
-    /// Runs over a medium where no script is named.
+    /// Runs over a medium without a named script.
     fn run_unnamed<M: Medium + Drop>(
         &mut self,
         alloc: Global,
@@ -67,7 +67,7 @@ pub trait Runner {
         ensures ran { ran_unnamed M M.Medium medium result.medium self.old (result_err result.outcome) self.new }
         ensures links { links self.new ≡ links self.old };
 
-    /// Tells why the program ends, with the reason where there is one.
+    /// Reports why the program ends, with the reason if there is one.
     fn tell(&mut self, failure: Failure, reason: Option<Reason<'_, '_>>) -> Failure
         ensures same { result ≡ failure }
         ensures tells { tells self.old self.new }

@@ -9,12 +9,13 @@ use nvme_ns::BrokenRule;
 use script_text::{NoRoom, Page, Spell, put_labelled};
 use std::fmt;
 
-/// A sentence: text around as many numbers.
+/// A sentence: texts around numbers.
 #[derive(Clone, Copy)]
 pub enum Sentence {
     Plain(&'static str),
     One(&'static str, u64, &'static str),
     Two(&'static str, u64, &'static str, u64, &'static str),
+    Three(&'static str, u64, &'static str, u64, &'static str, u64, &'static str),
 }
 
 impl fmt::Display for Sentence {
@@ -26,6 +27,9 @@ impl fmt::Display for Sentence {
             Sentence::One(front, number, end) => write!(f, "{front}{number}{end}"),
             Sentence::Two(front, first, between, second, end) => {
                 write!(f, "{front}{first}{between}{second}{end}")
+            }
+            Sentence::Three(front, first, after, second, last, third, end) => {
+                write!(f, "{front}{first}{after}{second}{last}{third}{end}")
             }
         }
     }
@@ -46,25 +50,31 @@ impl Spell for Sentence {
                 put_labelled(page, between, *second)?;
                 page.put_str(end)
             }
+            Sentence::Three(front, first, after, second, last, third, end) => {
+                put_labelled(page, front, *first)?;
+                put_labelled(page, after, *second)?;
+                put_labelled(page, last, *third)?;
+                page.put_str(end)
+            }
         }
     }
 }
 
-/// What is said of a controller.
+/// A sentence about a controller.
 fn of_controller(cntlid: u16, said: &'static str) -> Sentence
     ensures { sentence_text result ≡ codes "controller " ++ decimal cntlid ++ said.now }
 {
     Sentence::One("controller ", u64::from(cntlid), said)
 }
 
-/// What is said of a namespace.
+/// A sentence about a namespace.
 fn of_namespace(nsid: u32, said: &'static str) -> Sentence
     ensures { sentence_text result ≡ codes "namespace " ++ decimal nsid ++ said.now }
 {
     Sentence::One("namespace ", u64::from(nsid), said)
 }
 
-/// What is said of a namespace and of a number of blocks.
+/// A sentence about a namespace and a number of blocks.
 fn of_blocks(nsid: u32, said: &'static str, blocks: u64, end: &'static str) -> Sentence
     ensures { sentence_text result ≡ codes "namespace " ++ decimal nsid ++ said.now ++ decimal blocks ++ end.now }
 {
@@ -72,12 +82,27 @@ fn of_blocks(nsid: u32, said: &'static str, blocks: u64, end: &'static str) -> S
 }
 
 #[tactic(auto, unfolding(crate::specs::RuleTexts::rule_text))]
+fn too_large(nsid: u32, blocks: u64, most: u64) -> Sentence
+    ensures { sentence_text result ≡ rule_text (broken.TooLarge nsid blocks most) }
+{
+    Sentence::Three(
+        "namespace ",
+        u64::from(nsid),
+        " has ",
+        blocks,
+        " blocks; at most ",
+        most,
+        " are allowed",
+    )
+}
+
+#[tactic(auto, unfolding(crate::specs::RuleTexts::rule_text))]
 fn misnumbered(k: usize, cntlid: u16) -> Sentence
     ensures { sentence_text result ≡ rule_text (broken.Misnumbered k cntlid) }
 {
-    let front = "controller ";
-    let said = " has to stand here, and not ";
-    let end = ": they are counted from 1";
+    let front = "this must be controller ";
+    let said = ", not ";
+    let end = ": controllers are numbered from 1";
     Sentence::Two(front, k as u64, said, u64::from(cntlid), end)
 }
 
@@ -99,41 +124,45 @@ fn repeated_attachment(cntlid: u16, nsid: u32) -> Sentence
 fn not_shared(cntlid: u16, nsid: u32) -> Sentence
     ensures { sentence_text result ≡ rule_text (broken.NotShared cntlid nsid) }
 {
-    let said = " is private, and controller ";
+    let said = " is private, but controller ";
     let end = " is the second that is attached to it";
     Sentence::Two("namespace ", u64::from(nsid), said, u64::from(cntlid), end)
 }
 
-/// The sentence that says a broken rule.
+/// The sentence for a broken rule.
 #[tactic(auto, unfolding(crate::specs::RuleTexts::rule_text))]
 pub fn sentence_of(rule: BrokenRule) -> Sentence
     ensures { sentence_text result ≡ rule_text rule }
 {
     match rule {
         BrokenRule::TooManyControllers => {
-            Sentence::Plain("this is controller 17, and 16 is the most")
+            Sentence::Plain("this is controller 17; at most 16 are allowed")
         }
         BrokenRule::TooManyNamespaces => {
-            Sentence::Plain("this is the ninth namespace, and 8 is the most")
+            Sentence::Plain("this is the ninth namespace; at most 8 are allowed")
         }
         BrokenRule::TooManyAttachments => {
-            Sentence::Plain("this is attachment 129, and 128 is the most")
+            Sentence::Plain("this is attachment 129; at most 128 are allowed")
         }
         BrokenRule::Misnumbered(k, cntlid) => misnumbered(k, cntlid),
-        BrokenRule::NoHost(cntlid) => of_controller(cntlid, " belongs to host 0, which is none"),
-        BrokenRule::ForeignNsid(nsid) => of_namespace(nsid, " can't be: they are 1 to 8"),
-        BrokenRule::RepeatedNsid(nsid) => of_namespace(nsid, " stands twice"),
+        BrokenRule::NoHost(cntlid) => of_controller(
+            cntlid,
+            " has host 0, which is no host identifier",
+        ),
+        BrokenRule::ForeignNsid(nsid) => of_namespace(
+            nsid,
+            " is out of range: identifiers are 1 to 8",
+        ),
+        BrokenRule::RepeatedNsid(nsid) => of_namespace(nsid, " is defined twice"),
         BrokenRule::UnknownController(cntlid) => of_controller(cntlid, " is not configured"),
         BrokenRule::UnknownNamespace(nsid) => of_namespace(nsid, " is not configured"),
         BrokenRule::RepeatedAttachment(cntlid, nsid) => repeated_attachment(cntlid, nsid),
         BrokenRule::NotShared(cntlid, nsid) => not_shared(cntlid, nsid),
         BrokenRule::NoBlocks(nsid) => of_namespace(nsid, " has no blocks"),
-        BrokenRule::TooLarge(nsid, blocks) => {
-            of_blocks(nsid, " has ", blocks, " blocks, and 65536 is the most")
-        }
+        BrokenRule::TooLarge(nsid, blocks, most) => too_large(nsid, blocks, most),
         BrokenRule::DoesNotFit(nsid, blocks) => {
-            let end = " blocks of the medium, where the namespaces lie one after the other";
-            of_blocks(nsid, " ends behind the ", blocks, end)
+            let end = " blocks of the medium, on which namespaces follow one another";
+            of_blocks(nsid, " ends after the ", blocks, end)
         }
     }
 }

@@ -1,4 +1,4 @@
-//! Where a line that sets up a configuration is in a text.
+//! The number of a configuration line in a text.
 
 ghost use Rattle.std.specs.Prelude.{◌≡◌, ◌≤◌, length};
 ghost use Rattle.script_text.specs.Lines.{text_lines};
@@ -11,7 +11,7 @@ use nvme_grammar::{Line, parse_line};
 use nvme_ns::SetupLine;
 use script_text::front_line;
 
-/// How many lines of its kind stand before a line.
+/// The number of lines of its kind before a line.
 fn place_of(wanted: SetupLine) -> usize
     ensures { result ≡ spec.place_of wanted }
 {
@@ -36,7 +36,7 @@ fn is_of_kind(wanted: SetupLine, raw: &[u8], bytes: &mut [u8], identifiers: &mut
     }
 }
 
-/// The number of a line among all lines of a text, from 1, if it is there. The buffers need room for what any line says.
+/// The number of a line among all lines of a text, from 1, if it exists. The buffers must be long enough for any line.
 pub fn number_in(
     wanted: SetupLine,
     text: &[u8],

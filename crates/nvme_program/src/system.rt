@@ -1,4 +1,4 @@
-//! Where a program finds its files: what it opens, by which path.
+//! The files that a program opens, and their paths.
 
 ghost use Rattle.std.specs.Prelude.{IfErr, MatchResult, Ok, Err};
 ghost use Rattle.nvme_program.specs.Failures.{IsOfFile};
@@ -16,23 +16,23 @@ use std::{fs, io};
 /// Why a file can't be opened.
 #[derive(Debug, Drop)]
 pub enum Cause {
-    /// The system refused it.
+    /// The system refused to open it, with this error.
     System(io::Error),
-    /// It is no regular file, as an image has to be.
+    /// It is not a regular file, as an image must be.
     Irregular,
-    /// Another program holds its lock: which one, if that is known.
+    /// Another program has locked it: this one, if it is known.
     InUse(Option<Holder>),
     /// The system can't lock it.
     Unlocked,
-    /// It begins as a script does, and was to be an image.
+    /// It begins like a script, but was named as an image.
     IsScript,
-    /// It was opened, and can't be read.
+    /// It was opened, but can't be read.
     Unread,
-    /// It is not known.
+    /// The cause is unknown.
     Unknown,
 }
 
-/// A file that can't be opened: the failure by which the program ends, and the cause.
+/// A file that can't be opened: the program's failure, and its cause.
 #[derive(Debug, Drop)]
 pub struct Unopened {
     pub failure: Failure,
@@ -40,7 +40,7 @@ pub struct Unopened {
 }
 
 impl Unopened {
-    /// What the system refused.
+    /// An error of the system.
     fn of(error: io::Error) -> Unopened
         ensures { IsOfFile result.failure }
     {
@@ -51,8 +51,8 @@ impl Unopened {
     }
 }
 
-/// What a program opens its files in. For contracts it tells by `step` which states may follow a call, with its answer: so
-/// a system that can tell what it opened, and what becomes of an image that is closed, says here how.
+/// The system in which a program opens its files. For contracts it defines by `step` which states may follow a call,
+/// with its answer: a system that can record what it opened, and the content of a closed image, does so here.
 pub trait System {
     /// An open image.
     type Image: Medium + Drop;
@@ -62,8 +62,7 @@ pub trait System {
 
     ghost step: { Self → SystemCall Self.Image Self.Script → Self → Type 0 };
 
-    /// The text of what is named as an image, from the path; an empty one where it has more bytes than a script may have.
-    /// Nothing is written there.
+    /// The text of a named image; empty if it is longer than a script may be. Writes nothing there.
     fn text_of(&mut self, alloc: Global, path: &str) -> Result<Vec<u8>, Unopened>
         ensures step { MatchResult result (λ text. step self.old (ReadsText path.now (Ok text.items)) self.new)
             (λ e. step self.old (ReadsText path.now (Err e.failure)) self.new) }
@@ -86,14 +85,15 @@ pub trait System {
         ensures step { step self.old (ClosesImage image) self.new };
 }
 
-/// The files of the system. Nobody can know what they hold, so it tells nothing.
+/// The files of the system. Others may change them, so it reveals nothing.
 #[derive(Drop)]
 pub struct HostFiles<'a, R> {
     /// The runtime that has them.
     pub rt: &'a R,
 }
 
-/// An image is a regular file, once its links are followed: to open a pipe or a device may wait, or do something.
+/// An image must be a regular file, after its links are followed: opening a pipe or a device may block, or have an
+/// effect.
 impl<R: Files<File = File>> System for HostFiles<'_, R> {
     type Image = FileMedium<HostFile>;
 
@@ -131,7 +131,7 @@ impl<R: Files<File = File>> System for HostFiles<'_, R> {
     fn close_image(&mut self, _image: FileMedium<HostFile>) {}
 }
 
-/// Refuses what is no regular file.
+/// Refuses a path that is not a regular file.
 fn refuse_irregular<R: Files<File = File>>(rt: &R, path: &str) -> Result<(), Unopened>
     ensures { IfErr result (λ e. IsOfFile e.failure) }
 {
@@ -145,7 +145,7 @@ fn refuse_irregular<R: Files<File = File>>(rt: &R, path: &str) -> Result<(), Uno
     }
 }
 
-/// What a text comes to that was not read to its end: one that is longer than a script may be is none.
+/// The result for a text that was not read to its end: empty if it is longer than a script may be.
 fn unread(alloc: Global, fault: ReadFault) -> Result<Vec<u8>, Unopened>
     ensures { IfErr result (λ e. IsOfFile e.failure) }
 {
@@ -162,7 +162,7 @@ fn unread(alloc: Global, fault: ReadFault) -> Result<Vec<u8>, Unopened>
     }
 }
 
-/// Why an image can't be opened. The fault doesn't name an error of the system: the image is opened again to get it.
+/// Why an image can't be opened. `fault` has no error of the system, so this opens the image again to get one.
 fn refused_image<R: Files<File = File>>(
     rt: &R,
     alloc: Global,

@@ -1,4 +1,4 @@
-//! What a program tells on standard error: the text of its failure, and behind it a line with the reason.
+//! Reports of a program on standard error: the text of its failure, and then a line with the reason.
 
 ghost use Rattle.std.specs.Prelude.{◌≡◌, ◌++◌, OnOk, Some, codes};
 ghost use Rattle.std.specs.Io.KnownBytes.{Appends};
@@ -13,10 +13,10 @@ use crate::system::Cause;
 use std::io;
 use std::io::Write;
 
-/// What an image is opened for.
+/// The purpose of opening an image.
 pub(crate) const AS_IMAGE: &str = "as the image, for reading and writing";
 
-/// What a script is opened for.
+/// The purpose of opening a script.
 pub(crate) const AS_SCRIPT: &str = "as the script, for reading";
 
 /// The reason of a file that can't be opened for this purpose.
@@ -44,17 +44,17 @@ pub(crate) fn reason_of<'a>(
     }
 }
 
-/// A program, as it calls itself.
+/// A program, by its own name.
 #[derive(Clone, Copy)]
 pub struct Program {
     /// Its name.
     pub name: &'static str,
-    /// How it is called.
+    /// Its usage line.
     pub usage: &'static str,
 }
 
 impl Program {
-    /// Writes the line that tells a failure.
+    /// Writes the line for a failure.
     fn say<E: Write>(self, errors: &mut E, failure: Failure) -> io::Result<()>
         ensures { OnOk result (Appends (E.contents errors.old) (E.contents errors.new)
             (told_text self.name.now failure ++ codes "\n")) }
@@ -63,8 +63,8 @@ impl Program {
         writeln!(errors, "{name}: {failure}")
     }
 
-    /// Writes the line with a reason. As compilers do, it begins with the place of what is refused, where that is in a
-    /// script, and else with the program's name.
+    /// Writes the line with a reason. Like a compiler's, it begins with the place in a script if there is one, and else
+    /// with the program's name.
     fn say_reason<E: Write>(self, errors: &mut E, reason: Reason<'_, '_>) -> io::Result<()> {
         if reason.has_place() {
             return writeln!(errors, "{reason}");
@@ -73,8 +73,8 @@ impl Program {
         writeln!(errors, "{name}: {reason}")
     }
 
-    /// Tells why the program ends: the text of the failure, and behind it a line with its reason. Out of memory has
-    /// none.
+    /// Reports why the program ends: the text of the failure, and then a line with its reason. Out of memory has no
+    /// such line.
     pub fn tell<E: Write>(
         self,
         errors: &mut E,
@@ -93,7 +93,7 @@ impl Program {
         failure
     }
 
-    /// Which word of a command line is refused, and why. So many options stand before these words.
+    /// Which word of a command line is refused, and why. There were `options` options before these words.
     pub(crate) fn word_reason(self, words: &[String], options: usize) -> Option<Reason<'_, '_>> {
         let usage = self.usage;
         match refused_word(words)? {

@@ -1,4 +1,4 @@
--- That pieces are pages is a fact that has one proof at most, so that it may be a ghost field.
+-- There is at most one proof that pieces are pages, so the proof may be a ghost field of `Pieces`.
 use Rattle.std.specs.Prelude.{List, [], ◌∷◌}
 use denote.Struct.Props as logic
 use Rattle.nvme_spec.specs.declared.pointer.Piece.{Piece}

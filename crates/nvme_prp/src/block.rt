@@ -1,4 +1,5 @@
-//! Blocks of a transfer: where the 512 bytes of each lie in the window, and how they are lent, gathered and scattered.
+//! Blocks of a transfer: the place of each block's 512 bytes in the window, and how they are borrowed, gathered and
+//! scattered.
 
 ghost use Rattle.std.specs.Prelude.{◌≡◌, ◌+◌, ◌-◌, ◌*◌, ◌≤◌, ◌<◌, ◌++◌, length};
 ghost use Rattle.std.specs.List.{range_with_len, slice_index_or};
@@ -13,16 +14,16 @@ use nvme_spec::Piece;
 
 const BLOCK: u64 = 512;
 
-/// Where the 512 bytes of a block lie in the window.
+/// The place of a block's 512 bytes in the window.
 #[derive(Clone, Copy, Debug, PartialEq, Eq)]
 pub enum BlockPlace {
-    /// In one piece, from an address on.
+    /// In one piece, at this address.
     One(u64),
-    /// In two pieces: so many from an address on, and the rest from another.
+    /// In two pieces: the address and length of the first, and the address of the second.
     Two(u64, u64, u64),
 }
 
-/// Where byte `at` of a transfer lies: the index of its piece, and how many bytes of that stand before it.
+/// The place of byte `at` of a transfer: the index of its piece, and the number of bytes before it in that piece.
 fn byte_place(pieces: &Pieces, at: u64) -> (usize, u64)
     requires { at + 512 ≤ length (addresses pieces.now.parts.items) }
     ensures place { LiesAt pieces.now.parts.items at result.0 result.1 }
@@ -40,8 +41,7 @@ fn byte_place(pieces: &Pieces, at: u64) -> (usize, u64)
 }
 
 impl Pieces {
-    /// Where block `j` of the transfer lies: its bytes 512 `j` to 512 `j` + 511. That they lie in the pieces is the
-    /// caller's condition.
+    /// The place of block `j` of the transfer: its bytes 512 `j` to 512 `j` + 511, which must exist.
     pub fn block(&self, j: u64) -> BlockPlace
         requires inside { 512 * j + 512 ≤ length (addresses self.now.parts.items) }
         ensures place { result ≡ place_at self.now.parts.items (512 * j) }
@@ -60,7 +60,7 @@ impl Pieces {
     }
 }
 
-/// Puts a block together that lies in two parts of the window.
+/// Copies a block that is in two parts of the window.
 fn gather_two(window: &Window, front: Piece, back: Piece, block: &mut [u8; 512])
     requires front_inside { LiesInWindow front }
     requires back_inside { LiesInWindow back }
@@ -73,8 +73,7 @@ fn gather_two(window: &Window, front: Piece, back: Piece, block: &mut [u8; 512])
     second.copy_from_slice(window.bytes(back));
 }
 
-/// Copies block `j` of a transfer out of the window: its bytes 512 `j` to 512 `j` + 511. That they lie in
-/// the pieces is the caller's condition.
+/// Copies block `j` of a transfer out of the window: its bytes 512 `j` to 512 `j` + 511, which must exist.
 pub fn gather_block(window: &Window, pieces: &Pieces, j: u64, block: &mut [u8; 512])
     requires inside { 512 * j + 512 ≤ length (addresses pieces.now.parts.items) }
     ensures block { block.new ≡ gathered_bytes window.now (block_addresses pieces.now.parts.items j) }
@@ -98,8 +97,8 @@ pub fn gather_block(window: &Window, pieces: &Pieces, j: u64, block: &mut [u8; 5
     }
 }
 
-/// Block `j` of a transfer: lent out of the window where it lies in one piece, put together in the buffer where it lies
-/// in two. That it lies in the pieces is the caller's condition.
+/// Block `j` of a transfer, which must exist: borrowed from the window if it is in one piece, else copied to the
+/// buffer.
 pub fn lend_block<'a>(
     window: &'a Window,
     pieces: &Pieces,
@@ -129,8 +128,8 @@ pub fn lend_block<'a>(
     }
 }
 
-/// Copies a block into the window, as block `j` of a transfer: its bytes 512 `j` to 512 `j` + 511. Where
-/// two of these have one address, the later is kept. That they lie in the pieces is the caller's condition.
+/// Copies a block into the window, as block `j` of a transfer: its bytes 512 `j` to 512 `j` + 511, which must exist. If
+/// two bytes have the same address, the later one is kept.
 pub fn scatter_block(window: &mut Window, pieces: &Pieces, j: u64, block: &[u8; 512])
     requires inside { 512 * j + 512 ≤ length (addresses pieces.now.parts.items) }
     ensures window { window.new ≡ with_scattered window.old (block_addresses pieces.now.parts.items j) block.now }

@@ -1,4 +1,4 @@
-//! The data of a command of any kind: where they lie, and the rule that looks at their pointer.
+//! The data of any command: their place, and the rule on their pointer.
 
 ghost use Rattle.std.specs.Prelude.{◌≡◌, ◌≤◌, [], length, None, Ok, Err, OnOk, OnErr, IfErr};
 ghost use Rattle.nvme_spec.specs.DataRules as rules;
@@ -11,8 +11,8 @@ use nvme_mem::Window;
 use nvme_spec::{DataFault, Denial};
 use nvme_wire::{Sqe, Status};
 
-/// Where so many bytes of a command's data lie, by its two PRP entries, in place of what stands in `pieces`: no pieces
-/// where it has none, and where a fault is met. That these are at most 131,072 is the caller's condition.
+/// Finds the place of a command's data by its two PRP entries, at most 131,072 bytes, and replaces `pieces` by it;
+/// without data or after a fault, `pieces` is empty.
 ///
 /// # Errors
 ///

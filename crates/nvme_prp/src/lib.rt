@@ -1,4 +1,4 @@
-//! Data pointers: where the bytes of a command's data lie in host memory.
+//! Data pointers: the addresses of a command's data in host memory.
 #![tactic(auto)]
 
 mod block;

@@ -1,11 +1,40 @@
-//! Where the bytes of a transfer lie (Base Specification: Physical Region Page Entry and List).
+//! The addresses of a transfer's bytes (Base Specification: Physical Region Page Entry and List).
 
-ghost use Rattle.std.specs.Prelude.{◌≡◌, ◌+◌, ◌*◌, ◌/◌, ◌%◌, ◌≤◌, ◌<◌, ◌++◌, [], length, map, None, Some, IsTrue, MatchResult, OnOk, OnErr, IfOk, IfErr};
+ghost use Rattle.std.specs.Prelude.{
+  ◌≡◌,
+  ◌+◌,
+  ◌*◌,
+  ◌/◌,
+  ◌%◌,
+  ◌≤◌,
+  ◌<◌,
+  ◌++◌,
+  [],
+  length,
+  map,
+  None,
+  Some,
+  IsTrue,
+  MatchResult,
+  OnOk,
+  OnErr,
+  IfOk,
+  IfErr,
+};
 ghost use Rattle.std.specs.List.{range_with_len};
 ghost use Rattle.arrayvec.specs.ArrayVec.{array_vec_len};
 ghost use Rattle.nvme_spec.specs.Limits.{most_bytes};
 ghost use Rattle.nvme_spec.specs.Memory.{qword};
-ghost use Rattle.nvme_spec.specs.Pointer.{AddressTest, fault_of, first_fault, page_test, transfer, pointer_tests, pointer_fault, address};
+ghost use Rattle.nvme_spec.specs.Pointer.{
+  AddressTest,
+  fault_of,
+  first_fault,
+  page_test,
+  transfer,
+  pointer_tests,
+  pointer_fault,
+  address,
+};
 ghost use Rattle.nvme_spec.specs.Transfers.{addresses, pieces_of, ArePages};
 ghost use Rattle.nvme_prp.specs.Walk.{Follows, list_of, list_tests, listed_piece};
 ghost use Rattle.nvme_prp.specs.Pages.{ArePages-prop};
@@ -19,9 +48,9 @@ pub const PAGE: u64 = 4096;
 
 type Parts = ArrayVec<Piece, 33>;
 
-/// Where the bytes of a transfer lie: a piece for each page that it touches, in the order of the bytes.
-/// Each piece lies inside one page of the window. Each but the first starts its page, and each but the
-/// last ends its page and has at least four bytes.
+/// The addresses of a transfer's bytes: a piece for each page that it touches, in the order of the bytes. Each piece is
+/// inside one page of the window. Each except the first starts its page, and each except the last ends its page and has
+/// at least four bytes.
 #[derive(Debug, Drop)]
 pub struct Pieces {
     pub parts: ArrayVec<Piece, 33>,
@@ -29,7 +58,7 @@ pub struct Pieces {
 }
 
 impl Pieces {
-    /// No pieces, of no bytes.
+    /// No pieces.
     pub fn none() -> Pieces
         ensures { result.parts.items ≡ [] }
     {
@@ -39,7 +68,7 @@ impl Pieces {
     }
 }
 
-/// Refuses an address that is not a multiple of the unit, or lies outside the window.
+/// Refuses an address that is not a multiple of the unit, or is outside the window.
 #[tactic(auto, unfolding(nvme_spec::specs::Pointer::fault_of))]
 fn check(address: u64, unit: u64) -> Result<(), DataFault>
     requires { 0 < unit }
@@ -57,9 +86,9 @@ fn check(address: u64, unit: u64) -> Result<(), DataFault>
     }
 }
 
-/// The slot of a list that is read next. Where `slot` is the last of its page and entries follow, it
-/// names the page that the list goes on in.
-fn follow(window: &Window, slot: u64, more: bool) -> Result<u64, DataFault>
+/// The slot of a list to read after its predecessors: `slot`, unless it is the last of its page and entries follow.
+/// Then it has the address of the list's next page, and the slot to read is the first one of that page.
+fn slot_to_read(window: &Window, slot: u64, more: bool) -> Result<u64, DataFault>
     requires aligned { slot % 8 ≡ 0 }
     requires in_window { slot < 4194304 }
     ensures ok { IfOk result (λ at. Follows window.now slot more at) }
@@ -76,7 +105,7 @@ fn follow(window: &Window, slot: u64, more: bool) -> Result<u64, DataFault>
     Ok(next)
 }
 
-/// Appends the pages that a list names, as far as `rest` bytes need them.
+/// Appends the pages of a list that `rest` bytes need.
 fn walk_list(window: &Window, start: u64, rest: u64, parts: &mut Parts) -> Result<(), DataFault>
     requires aligned { start % 8 ≡ 0 }
     requires in_window { start < 4194304 }
@@ -92,7 +121,7 @@ fn walk_list(window: &Window, start: u64, rest: u64, parts: &mut Parts) -> Resul
     let mut left = rest;
     let mut slot = start;
     for j in 0..pages {
-        slot = follow(window, slot, j + 1 < pages)?;
+        slot = slot_to_read(window, slot, j + 1 < pages)?;
         let page = window.u64_at(slot);
         check(page, PAGE)?;
         let len = left.min(PAGE);
@@ -103,7 +132,7 @@ fn walk_list(window: &Window, start: u64, rest: u64, parts: &mut Parts) -> Resul
     Ok(())
 }
 
-/// One part for each page that a transfer touches, behind none.
+/// Appends one part for each page that a transfer touches to the empty `parts`.
 fn pages_of(
     window: &Window,
     prp1: u64,
@@ -138,11 +167,12 @@ fn pages_of(
     Ok(())
 }
 
-/// The pieces of `len` bytes at a command's two entries, as `walk` gives them, in place of those that stand in `pieces`:
-/// these have room for 33, and each move of them costs. None stand there where a fault is met.
+/// Does what `walk` does, but replaces `pieces` instead of returning a list, since a list of 33 pieces is costly to
+/// move. After a fault `pieces` is empty.
 ///
 /// # Errors
-/// As those of `walk`.
+///
+/// Those of `walk`.
 pub fn walk_into(
     window: &Window,
     prp1: u64,
@@ -172,12 +202,13 @@ pub fn walk_into(
     }
 }
 
-/// The pieces of `len` bytes at a command's two entries (Base Specification 2.0, Physical Region Page
-/// Entry and List). That `len` is 1 to 131,072 is the caller's condition.
+/// The pieces of `len` bytes, 1 to 131,072, at a command's two entries (Base Specification 2.0, Physical Region Page
+/// Entry and List).
 ///
 /// # Errors
-/// The fault of the first address that is refused, in the order in which they are met: `Offset` where it
-/// is not a multiple of what it must be, else `Outside` where it lies outside the window.
+///
+/// The fault of the first address that is refused, in the order of the walk: `Offset` if it is not aligned, else
+/// `Outside` if it is outside the window.
 pub fn walk(window: &Window, prp1: u64, prp2: u64, len: u64) -> Result<Pieces, DataFault>
     requires some { 1 ≤ len }
     requires most { len ≤ most_bytes }

@@ -6,8 +6,7 @@ ghost use Rattle.nvme_spec.specs.Transfers.{addresses, gathered_bytes, with_scat
 use crate::walking::Pieces;
 use nvme_mem::Window;
 
-/// Copies all bytes of a transfer out of the window. That `bytes` has as many as the pieces is the
-/// caller's condition.
+/// Copies all bytes of a transfer out of the window. `bytes` must be as long as all pieces together.
 pub fn gather(window: &Window, pieces: &Pieces, bytes: &mut [u8])
     requires size { length bytes.old ≡ length (addresses pieces.now.parts.items) }
     ensures bytes { bytes.new ≡ gathered_bytes window.now (addresses pieces.now.parts.items) }
@@ -20,8 +19,8 @@ pub fn gather(window: &Window, pieces: &Pieces, bytes: &mut [u8])
     }
 }
 
-/// Copies all bytes of a transfer into the window, by rising byte: where two have one address, the later
-/// is kept. That `bytes` has as many as the pieces is the caller's condition.
+/// Copies all bytes of a transfer into the window, in order: if two have the same address, the later one remains.
+/// `bytes` must be as long as all pieces together.
 pub fn scatter(window: &mut Window, pieces: &Pieces, bytes: &[u8])
     requires size { length bytes.now ≡ length (addresses pieces.now.parts.items) }
     ensures window { window.new ≡ with_scattered window.old (addresses pieces.now.parts.items) bytes.now }
@@ -34,7 +33,7 @@ pub fn scatter(window: &mut Window, pieces: &Pieces, bytes: &[u8])
     }
 }
 
-/// Copies bytes to the front of a slice, and zeros behind them.
+/// Copies bytes to the front of a slice, and then zeros.
 fn copy_padded(part: &mut [u8], front: &[u8])
     requires fits { length front.now ≤ length part.old }
     ensures { part.new ≡ front.now ++ replicate (length part.old - length front.now) 0 }
@@ -44,8 +43,8 @@ fn copy_padded(part: &mut [u8], front: &[u8])
     rest.fill(0);
 }
 
-/// Copies bytes into the window as the front of a transfer, and zeros as its rest, by rising byte: where two have one
-/// address, the later is kept. That there are at most as many bytes as in the pieces is the caller's condition.
+/// Copies `front` into the window as the first bytes of a transfer, and zeros as the rest, in order: if two bytes have
+/// the same address, the later one remains. `front` must be at most as long as all pieces together.
 pub fn scatter_padded(window: &mut Window, pieces: &Pieces, front: &[u8])
     requires size { length front.now ≤ length (addresses pieces.now.parts.items) }
     ensures window { window.new ≡ with_scattered window.old (addresses pieces.now.parts.items)

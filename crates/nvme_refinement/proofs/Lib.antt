@@ -16,7 +16,7 @@ pub mod Resetting
 pub mod Opening
 pub mod Rising
 pub mod Registering
-pub mod Linking
+pub mod LaneCounts
 pub mod FetchStep
 pub mod RingStep
 pub mod PollStep

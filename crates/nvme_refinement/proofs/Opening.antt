@@ -1,5 +1,50 @@
--- A driver that never came up, at a controller that was never enabled.
-use Rattle.nvme_refinement.proofs.Words.{◌≡◌, ℕ, zero, suc, false, List, [], length, None, refl, sym, ap, subst, arith, replicate, most_bytes, new_driver, new_controller, ◌≤◌, drop, length-drop, length-take-le, window_size, Lane, Admin, Io, Ends, ends, waiting_at, empty, slot_at, live_in, received_in, AgeIn, Resting, Holds, submission_queue, pages_of, slots_in, host, state, IsOff, EndsFit, OpeningIsSound}
+-- For the law `opening_is_sound`: a driver that never came up, at a controller that was never enabled.
+use Rattle.nvme_refinement.proofs.Words.{
+  ◌≡◌,
+  ℕ,
+  zero,
+  suc,
+  false,
+  List,
+  [],
+  length,
+  None,
+  refl,
+  sym,
+  ap,
+  subst,
+  arith,
+  replicate,
+  most_bytes,
+  new_driver,
+  new_controller,
+  ◌≤◌,
+  drop,
+  length-drop,
+  length-take-le,
+  window_size,
+  Lane,
+  Admin,
+  Io,
+  Ends,
+  ends,
+  waiting_at,
+  empty,
+  slot_at,
+  live_in,
+  received_in,
+  AgeIn,
+  Resting,
+  Holds,
+  submission_queue,
+  pages_of,
+  slots_in,
+  host,
+  state,
+  IsOff,
+  EndsFit,
+  OpeningIsSound,
+}
 use Rattle.nvme_spec.specs.Memory.{zeros}
 use Rattle.nvme_machine.proofs.Windows.{length-zeros}
 use Rattle.nvme_refinement.proofs.Places.{no-way}
@@ -15,7 +60,8 @@ slot-empty l w j (suc n) (suc k) = slot-empty l w (suc j) n k
 
 pages-long : (l : Lane) (w : List ℕ) → submission_queue l ≤ 8192 → length w ≡ window_size → length (pages_of l w) ≡ 8192
 unfolding pages_of
-pages-long l w b h = length-take-le 8192 (drop (submission_queue l) w) (omega (arith, b, h, length-drop (submission_queue l) w))
+pages-long l w b h =
+    length-take-le 8192 (drop (submission_queue l) w) (omega (arith, b, h, length-drop (submission_queue l) w))
 
 is-off : (k : ℕ) → IsOff (new_controller k)
 is-off k = record { submission = refl; completion = refl; fetched = refl; off = refl; disabled = refl }

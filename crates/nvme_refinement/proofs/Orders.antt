@@ -1,5 +1,52 @@
--- The order of slots by their numbers: the oldest aborted request, slots that are freed, and tickets that rise.
-use Rattle.nvme_refinement.proofs.Words.{◌≡◌, ℕ, ◌+◌, ◌<◌, ◌≤◌, List, [], ◌∷◌, ◌++◌, map, refl, ap, sym, ◌∙◌, arith, zero, suc, true, false, cond, eqb, Bool, Option, Some, None, inl, inr, slice_set, cases_Bool, eqb-true, common_steps, nat_le, ticket_in, live_waiting, AgeIn, aborted_number, ranked_too, in_order, ranked, rising, Waiting, waiting_at, abort, eq-eqb, eqb-false}
+-- For `PollStep` and others: slots ordered by their numbers: the oldest aborted request, slots that are freed, and
+-- rising tickets.
+use Rattle.nvme_refinement.proofs.Words.{
+  ◌≡◌,
+  ℕ,
+  ◌+◌,
+  ◌<◌,
+  ◌≤◌,
+  List,
+  [],
+  ◌∷◌,
+  ◌++◌,
+  map,
+  refl,
+  ap,
+  sym,
+  ◌∙◌,
+  arith,
+  zero,
+  suc,
+  true,
+  false,
+  cond,
+  eqb,
+  Bool,
+  Option,
+  Some,
+  None,
+  inl,
+  inr,
+  slice_set,
+  cases_Bool,
+  eqb-true,
+  common_steps,
+  nat_le,
+  ticket_in,
+  live_waiting,
+  AgeIn,
+  aborted_number,
+  ranked_too,
+  in_order,
+  ranked,
+  rising,
+  Waiting,
+  waiting_at,
+  abort,
+  eq-eqb,
+  eqb-false,
+}
 use Rattle.std.specs.Option.{option_flatten}
 use Rattle.nvme_mailbox.proofs.Lists.{got-other}
 use Rattle.nvme_refinement.proofs.Slots.{cond-zero, waiting-small}
@@ -26,13 +73,14 @@ pending-same [] i = refl
 pending-same (x ∷ xs) zero = refl
 pending-same (x ∷ xs) (suc i) = pending-same xs i
 
-pub pending-other : (slots : List (Option Waiting)) (i j : ℕ) → eqb j i ≡ false → waiting_at (slice_set slots i None) j ≡ waiting_at slots j
+pub pending-other : (slots : List (Option Waiting)) (i j : ℕ)
+    → eqb j i ≡ false → waiting_at (slice_set slots i None) j ≡ waiting_at slots j
 pending-other slots i j h = ap option_flatten (got-other slots i None j (eqb-false j i h))
 
 pub cond-one : (b : Bool) → cond {A = ℕ} b 1 0 ≡ 1 → b ≡ true
 cond-one b h = grind (arith, common_steps, h)
 
--- two numbers may be put in their places in either order
+-- two numbers may be inserted in either order
 pub ranked-swap : (a b : ℕ) (us : List ℕ) → ranked a (ranked b us) ≡ ranked b (ranked a us)
 ranked-swap a b [] = grind (arith, common_steps)
 ranked-swap a b (u ∷ us) = grind (arith, common_steps, ranked-swap a b us)
@@ -42,7 +90,7 @@ too-swap None y us = refl
 too-swap (Some a) None us = refl
 too-swap (Some a) (Some b) us = ranked-swap a b us
 
--- a slot's number may be put in its place last
+-- the order of insertions does not matter: one slot's number may be inserted last
 pub slot-last : (f : Option Waiting → Option ℕ) → f None ≡ None → (slots : List (Option Waiting)) (i : ℕ) →
     in_order f slots ≡ ranked_too (f (waiting_at slots i)) (in_order f (slice_set slots i None))
 slot-last f n [] i = rw n refl
@@ -51,7 +99,8 @@ slot-last f n (x ∷ xs) (suc i) =
     ap (ranked_too (f x)) (slot-last f n xs i) ∙ too-swap (f x) (f (waiting_at xs i)) (in_order f (slice_set xs i None))
 
 -- no slot has a number
-pub empty-order : (f : Option Waiting → Option ℕ) (slots : List (Option Waiting)) → ((k : ℕ) → f (waiting_at slots k) ≡ None) → in_order f slots ≡ []
+pub empty-order : (f : Option Waiting → Option ℕ) (slots : List (Option Waiting))
+    → ((k : ℕ) → f (waiting_at slots k) ≡ None) → in_order f slots ≡ []
 empty-order f [] h = refl
 empty-order f (x ∷ xs) h = let e : f x ≡ None = h 0 in rw (e, empty-order f xs (λ k. h (suc k))) refl
 
@@ -60,11 +109,13 @@ live-not None h = refl
 live-not (Some p) h = rw (cond-one p.live h) refl
 
 -- a live slot may be freed
-pub live-freed : (slots : List (Option Waiting)) (i : ℕ) → live_at slots i ≡ 1 → in_order aborted_number (slice_set slots i None) ≡ in_order aborted_number slots
+pub live-freed : (slots : List (Option Waiting)) (i : ℕ)
+    → live_at slots i ≡ 1 → in_order aborted_number (slice_set slots i None) ≡ in_order aborted_number slots
 live-freed slots i h =
-    sym (slot-last aborted_number refl slots i ∙ ap (λ o. ranked_too o (in_order aborted_number (slice_set slots i None))) (live-not (waiting_at slots i) h))
+    sym (slot-last aborted_number refl slots i
+    ∙ ap (λ o. ranked_too o (in_order aborted_number (slice_set slots i None))) (live-not (waiting_at slots i) h))
 
--- a fact of each of some numbers
+-- a property of each of some numbers
 abbrev pub Each : (ℕ → Type 0) → List ℕ → Type 0
 Each P [] = Unit {0}
 Each P (u ∷ us) = P u × Each P us
@@ -75,17 +126,19 @@ EachIn P (Some u) = P u
 
 each-ranked : (P : ℕ → Type 0) (t : ℕ) (us : List ℕ) → P t → Each P us → Each P (ranked t us)
 each-ranked P t [] p q = (p, tt)
-each-ranked P t (u ∷ us) p q = elim (cases_Bool (nat_le t u)) [ inl e ↦ rw e (p, q) | inr e ↦ rw e (q.0, each-ranked P t us p q.1) ]
+each-ranked P t (u ∷ us) p q =
+    elim (cases_Bool (nat_le t u)) [ inl e ↦ rw e (p, q) | inr e ↦ rw e (q.0, each-ranked P t us p q.1) ]
 
 each-too : (P : ℕ → Type 0) (o : Option ℕ) (us : List ℕ) → EachIn P o → Each P us → Each P (ranked_too o us)
 each-too P None us p q = q
 each-too P (Some t) us p q = each-ranked P t us p q
 
-pub each-order : (P : ℕ → Type 0) (f : Option Waiting → Option ℕ) (slots : List (Option Waiting)) → ((k : ℕ) → EachIn P (f (waiting_at slots k))) → Each P (in_order f slots)
+pub each-order : (P : ℕ → Type 0) (f : Option Waiting → Option ℕ) (slots : List (Option Waiting))
+    → ((k : ℕ) → EachIn P (f (waiting_at slots k))) → Each P (in_order f slots)
 each-order P f [] h = tt
 each-order P f (x ∷ xs) h = each-too P (f x) _ (h 0) (each-order P f xs (λ k. h (suc k)))
 
--- a number that is above none of these stands first
+-- a number that is above none of these is inserted first
 pub ranked-first : (t : ℕ) (us : List ℕ) → Each (λ u. t ≤ u) us → ranked t us ≡ t ∷ us
 ranked-first t [] h = refl
 ranked-first t (u ∷ us) h = let e : nat_le t u ≡ true = grind (arith, common_steps, h.0) in rw e refl
@@ -94,8 +147,9 @@ not-below : (t : ℕ) (o : Option ℕ) → NotBelow t o → EachIn (λ u. t ≤ 
 not-below t None h = tt
 not-below t (Some u) h = h
 
--- the oldest aborted request's ticket stands first, and its slot may be freed
-pub oldest-first : (slots : List (Option Waiting)) (i t : ℕ) → ticket_aborted slots i ≡ Some t → ((k : ℕ) → NotBelow t (ticket_aborted slots k)) →
+-- the oldest aborted request's ticket is first, and its slot may be freed
+pub oldest-first : (slots : List (Option Waiting)) (i t : ℕ) → ticket_aborted slots i ≡ Some t
+    → ((k : ℕ) → NotBelow t (ticket_aborted slots k)) →
     in_order aborted_number slots ≡ t ∷ in_order aborted_number (slice_set slots i None)
 oldest-first slots i t e h =
     let each : (k : ℕ) → EachIn (λ u. t ≤ u) (aborted_number (waiting_at (slice_set slots i None) k)) =
@@ -108,7 +162,7 @@ oldest-first slots i t e h =
     ap (λ o. ranked_too o (in_order aborted_number (slice_set slots i None))) e ∙
     ranked-first t _ (each-order (λ u. t ≤ u) aborted_number (slice_set slots i None) each)
 
--- how often a number stands in a list
+-- the number of occurrences of a number in a list
 abbrev pub times : ℕ → List ℕ → ℕ
 times i [] = 0
 times i (n ∷ ns) = cond (eqb n i) 1 0 + times i ns
@@ -133,9 +187,10 @@ tickets-freed slots i (n ∷ ns) h =
 
 times-freed : (slots : List (Option Waiting)) (n : ℕ) (ns : List ℕ) → ((i : ℕ) → times i (n ∷ ns) ≡ live_at slots i) →
     (i : ℕ) → times i ns ≡ live_at (slice_set slots n None) i
-times-freed slots n ns h i = grind (arith, common_steps, h i, waiting-small (waiting_at slots i), pending-same slots n, pending-other slots n i)
+times-freed slots n ns h i =
+    grind (arith, common_steps, h i, waiting-small (waiting_at slots i), pending-same slots n, pending-other slots n i)
 
--- the tickets of slots that name each live slot once are the live slots' tickets
+-- a list with each live slot once gives the live slots' tickets
 pub rising-slots : (ns : List ℕ) (slots : List (Option Waiting)) → ((i : ℕ) → times i ns ≡ live_at slots i) →
     rising (map (ticket_at slots) ns) ≡ in_order waiting_ticket slots
 rising-slots [] slots h = sym (empty-order waiting_ticket slots (λ k. waiting-none (waiting_at slots k) (sym (h k))))
@@ -144,14 +199,16 @@ rising-slots (n ∷ ns) slots h =
     let l : live_at slots n ≡ 1 = omega (arith, h n, v, waiting-small (waiting_at slots n)) in
     ap (λ ts. ranked (ticket_at slots n) (rising ts)) (sym (tickets-freed slots n ns (omega (arith, h n, v, l)))) ∙
     ap (ranked (ticket_at slots n)) (rising-slots ns (slice_set slots n None) (times-freed slots n ns h)) ∙
-    ap (λ o. ranked_too o (in_order waiting_ticket (slice_set slots n None))) (sym (waiting-some (waiting_at slots n) l)) ∙
+    ap (λ o. ranked_too o (in_order waiting_ticket (slice_set slots n None)))
+    (sym (waiting-some (waiting_at slots n) l)) ∙
     sym (slot-last waiting_ticket refl slots n)
 
 ranked-low : (t : ℕ) (us vs : List ℕ) → Each (λ v. t ≤ v) vs → ranked t (us ++ vs) ≡ ranked t us ++ vs
 ranked-low t [] vs h = ranked-first t vs h
 ranked-low t (u ∷ us) vs h = grind (arith, common_steps, ranked-low t us vs h)
 
-ranked-high : (t first : ℕ) (us vs : List ℕ) → first ≤ t → Each (λ u. u < first) us → ranked t (us ++ vs) ≡ us ++ ranked t vs
+ranked-high : (t first : ℕ) (us vs : List ℕ) → first ≤ t → Each (λ u. u < first) us
+    → ranked t (us ++ vs) ≡ us ++ ranked t vs
 ranked-high t first [] vs p h = refl
 ranked-high t first (u ∷ us) vs p h =
     let e : nat_le t u ≡ false = grind (arith, common_steps, p, h.0) in
@@ -169,15 +226,17 @@ waiting-old : (first next : ℕ) (o : Option Waiting) → AgeIn first next o →
 waiting-old first next None h = tt
 waiting-old first next (Some p) h = elim (cases_Bool p.live) [ inl t ↦ rw t (rw t at h.0) | inr t ↦ rw t tt ]
 
--- once all are aborted, those that were stand before those that were not
+-- after all are aborted, those aborted before precede the others
 pub abort-all : (first next : ℕ) (slots : List (Option Waiting)) → Ages first next slots →
     in_order aborted_number (map abort slots) ≡ in_order aborted_number slots ++ in_order waiting_ticket slots
 abort-all first next [] a = refl
 abort-all first next (None ∷ xs) a = abort-all first next xs (λ k. a (suc k))
 abort-all first next (Some p ∷ xs) a =
     let b : Ages first next xs = λ k. a (suc k) in
-    let old : Each (λ u. first ≤ u) (in_order waiting_ticket xs) = each-order _ waiting_ticket xs (λ k. waiting-old first next _ (b k)) in
-    let young : Each (λ u. u < first) (in_order aborted_number xs) = each-order _ aborted_number xs (λ k. aborted-young first next _ (b k)) in
+    let old : Each (λ u. first ≤ u) (in_order waiting_ticket xs) =
+    each-order _ waiting_ticket xs (λ k. waiting-old first next _ (b k)) in
+    let young : Each (λ u. u < first) (in_order aborted_number xs) =
+    each-order _ aborted_number xs (λ k. aborted-young first next _ (b k)) in
     let h = a 0 in
     elim (cases_Bool p.live) [
       | inl t ↦
@@ -185,10 +244,12 @@ abort-all first next (Some p ∷ xs) a =
           rw t (ap (ranked p.ticket.0) (abort-all first next xs b) ∙ ranked-high p.ticket.0 first _ _ q young)
       | inr t ↦
           let q : p.ticket.0 < first = rw t at h.0 in
-          rw t (ap (ranked p.ticket.0) (abort-all first next xs b) ∙ ranked-low p.ticket.0 _ _ (each-weaker _ _ (λ (u : ℕ) (e : first ≤ u). omega (arith, q, e)) _ old))
+          rw t (ap (ranked p.ticket.0) (abort-all first next xs b)
+          ∙ ranked-low p.ticket.0 _ _ (each-weaker _ _ (λ (u : ℕ) (e : first ≤ u). omega (arith, q, e)) _ old))
     ]
 
-pub pending-abort : (slots : List (Option Waiting)) (k : ℕ) → waiting_at (map abort slots) k ≡ abort (waiting_at slots k)
+pub pending-abort : (slots : List (Option Waiting)) (k : ℕ)
+    → waiting_at (map abort slots) k ≡ abort (waiting_at slots k)
 pending-abort (x ∷ xs) (suc k) = pending-abort xs k
 pending-abort xs k = refl
 

@@ -1,5 +1,38 @@
--- Calls of a driver that grant no turn: all but those of bringing up.
-use Rattle.nvme_refinement.proofs.Words.{ℕ, Bool, true, false, List, [], ◌∷◌, Option, None, Some, Result, Ok, Err, if◌then◌else◌, Answer, Aborted, PollFault, Found, Lane, Waiting, Call, Turns, Writes, Driver, is_up, answered, answered_poll, found, found_poll, polled, without_calls}
+-- For `StartStep`, `AdminTurns` and `nvme_fleet`: calls of a driver that give the device no turn, which are all except
+-- those of bringing up.
+use Rattle.nvme_refinement.proofs.Words.{
+  ℕ,
+  Bool,
+  true,
+  false,
+  List,
+  [],
+  ◌∷◌,
+  Option,
+  None,
+  Some,
+  Result,
+  Ok,
+  Err,
+  if◌then◌else◌,
+  Answer,
+  Aborted,
+  PollFault,
+  Found,
+  Lane,
+  Waiting,
+  Call,
+  Turns,
+  Writes,
+  Driver,
+  is_up,
+  answered,
+  answered_poll,
+  found,
+  found_poll,
+  polled,
+  without_calls,
+}
 use Rattle.nvme_driver.specs.declared.answer.Answer.TheVariants.{Done}
 use Rattle.nvme_driver.specs.declared.faults.PollFault.TheVariants as poll_fault
 use Rattle.nvme_driver.specs.Polls.{Poll}
@@ -22,9 +55,12 @@ abbrev pub IsUndone : Result (Option Answer) PollFault → Type 0
 IsUndone (Ok (Some (Done ticket status dw0 len))) = ⊥
 IsUndone other = Unit {0}
 
--- What holds of a poll that makes no call and hands up no completion's answer, and of one that does, holds of each.
-pub by-poll : (P : Poll → Type 0) → ((answer : Result (Option Answer) PollFault) → IsUndone answer → (d : Driver) → P (without_calls answer d))
-    → ((window : List ℕ) (d : Driver) (lane : Lane) (entry : List ℕ) (w : Waiting) → P (answered_poll d window lane entry (Some w))) → (d : Driver) (oldest : Option ℕ) (window : List ℕ) → P (polled d oldest window)
+-- A property of polls without a call or a completion's answer, and of polls with one, is a property of each poll.
+pub by-poll : (P : Poll → Type 0)
+    → ((answer : Result (Option Answer) PollFault) → IsUndone answer → (d : Driver) → P (without_calls answer d))
+    → ((window : List ℕ) (d : Driver) (lane : Lane) (entry : List ℕ) (w : Waiting)
+    → P (answered_poll d window lane entry (Some w)))
+    → (d : Driver) (oldest : Option ℕ) (window : List ℕ) → P (polled d oldest window)
 by-poll P none some d (Some slot) window = none (Ok (Some (Aborted _))) tt _
 by-poll P none some d None window = up (is_up d.state)
   where
@@ -41,4 +77,5 @@ by-poll P none some d None window = up (is_up d.state)
     up false = none (Err poll_fault.NotUp) tt d
 
 pub plain-polled : (d : Driver) (oldest : Option ℕ) (window : List ℕ) → IsPlain (polled d oldest window).calls
-plain-polled d oldest window = by-poll (λ x. IsPlain x.calls) (λ answer u e. tt) (λ w e lane entry x. tt) d oldest window
+plain-polled d oldest window =
+    by-poll (λ x. IsPlain x.calls) (λ answer u e. tt) (λ w e lane entry x. tt) d oldest window

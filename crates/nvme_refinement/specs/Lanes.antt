@@ -1,6 +1,26 @@
--- A driver and its controller as two lanes over one window: of each side what a mailbox stands for, of the window the
--- queue pages of both lanes and the data and the list page of each slot.
-use Rattle.std.specs.Prelude.{◌≡◌, ℕ, suc, ◌==◌, Bool, true, false, is_some, if◌then◌else◌, cond, List, [], ◌∷◌, length, take, drop, Option, None, Some}
+-- A driver and its controller as two lanes (queue pairs) over one window: the parts of driver and controller that a
+-- mailbox represents, and from the window the queue pages of both lanes and each slot's data and list page.
+use Rattle.std.specs.Prelude.{
+  ◌≡◌,
+  ℕ,
+  suc,
+  ◌==◌,
+  Bool,
+  true,
+  false,
+  is_some,
+  if◌then◌else◌,
+  cond,
+  List,
+  [],
+  ◌∷◌,
+  length,
+  take,
+  drop,
+  Option,
+  None,
+  Some,
+}
 use Rattle.nvme_spec.specs.Limits.{most_bytes}
 use Rattle.nvme_spec.specs.Memory.{window_size}
 use Rattle.nvme_driver.specs.declared.lane.Lane.{Lane}
@@ -40,7 +60,7 @@ area window k = take most_bytes (drop (data_area k) window)
 unfoldable pub listed : List ℕ → ℕ → List ℕ
 listed window k = take 4096 (drop (list_page k) window)
 
--- a slot as one lane sees it: with its bytes; the other lane's request is not there
+-- a slot for one lane: with its bytes; the other lane's request is not there
 abbrev pub whole : List ℕ → ℕ → Waiting → Slot
 whole window k w = record { waiting = Some w; bytes = area window k; list = listed window k }
 
@@ -69,7 +89,7 @@ host lane d window = record {
   consumed = (ends lane d).head.consumed;
 }
 
--- the controller's side: its counts, where the queues are there, and the commands of the lane, in order
+-- the controller's side: its counts, if the queues exist, and the commands of the lane, in order
 abbrev pub fetched_count : Option SubmissionQueue → ℕ
 fetched_count None = 0
 fetched_count (Some q) = q.head.fetched
@@ -103,7 +123,7 @@ state which c = record {
   taken = commands_in which c.fetched;
 }
 
--- What holds of a driver and its controller: of each lane what holds of one lane, from one ticket on.
+-- The invariant of a driver and its controller: that of each lane, from one ticket on.
 pub record Both (d : Driver) (c : Controller) : Type 0 where
   pub first : ℕ
   pub window : length c.window ≡ window_size
@@ -123,7 +143,7 @@ abbrev pub in_order : (Option Waiting → Option ℕ) → List (Option Waiting) 
 in_order f [] = []
 in_order f (x ∷ xs) = ranked_too (f x) (in_order f xs)
 
--- what was fetched, where the lanes' slots hold this
+-- the fetched requests, with these slots of the lanes
 abbrev pub fetched_by : (Lane → ℕ → Slot) → FetchedCommand → FetchedItem
 fetched_by slots t = record { item = item (slots (lane_of_queue t.queue)) t.entry; marked = t.marked }
 

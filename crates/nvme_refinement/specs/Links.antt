@@ -1,5 +1,5 @@
--- A driver brings its controller up over their port: each call is an event of the controller, and a turn is a fetch
--- from its admin queue and an execution of the first command that it has fetched.
+-- Statements of the law on bringing up: each call of the port is an event of the controller, and a turn is a fetch from
+-- its admin queue and an execution of its first fetched command.
 use Rattle.std.specs.Prelude.{◌≡◌, ℕ, Bool, List, Result, Ok}
 use Rattle.nvme_spec.specs.Registers.{value_at}
 use Rattle.nvme_driver.specs.declared.state.State.TheVariants.{Down}
@@ -16,7 +16,7 @@ use Rattle.nvme_refinement.specs.Sound.{Sound, mailbox}
 abbrev pub with_controller : Setting → Controller → Setting
 with_controller s c = record s { controller = c }
 
--- what a call of the port makes of a controller, with the access state and the medium at hand
+-- the effect of a call of the port on a controller, with the access state and the medium
 abbrev pub LinkStep : Bool → Setting → Call → Setting → Type 0
 LinkStep tells old (Stores address bytes) new =
     new ≡ with_controller old (after_store address bytes old.controller).controller
@@ -29,7 +29,7 @@ LinkStep tells old Turns new =
 abbrev pub window_in : Setting → List ℕ
 window_in s = s.controller.window
 
--- It came up: the mailbox is up, it is the same controller, and access state and medium are as they were.
+-- It came up: the mailbox is up, it is the same controller, and access state and medium are unchanged.
 pub record HasComeUp (d : Driver) (old : Setting) (result : Result (Unit {0}) UpFault) (d' : Driver)
     (new : Setting) : Type 0 where
   pub answered : result ≡ Ok tt

@@ -1,5 +1,4 @@
--- A driver and its controller, seen as two lanes: the mailbox that they stand for, and the one fact that is kept of
--- them.
+-- The relation between a driver with its controller and the mailbox that represents them, which every event keeps.
 use Rattle.std.specs.Prelude.{◌≡◌, ◌≤◌, ◌⊎◌, ℕ, true, false, List, [], ◌∷◌, map, Option, None, Some}
 use Rattle.std.specs.List.{AllByRecursion}
 use Rattle.nvme_spec.specs.declared.registers.ControllerState.TheVariants.{Off, Ready}
@@ -9,14 +8,20 @@ use Rattle.nvme_driver.specs.declared.lane.Lane.TheVariants.{Admin, Io}
 use Rattle.nvme_driver.specs.Layout.{queue_id, submission_queue, completion_queue}
 use Rattle.nvme_driver.specs.Drivers.{Ends, Driver, is_up, ends}
 use Rattle.nvme_machine.specs.declared.fetched.FetchedCommand.{FetchedCommand}
-use Rattle.nvme_machine.specs.Controllers.{Controller, SubmissionQueue, CompletionQueue, no_submission_queues, no_completion_queues}
+use Rattle.nvme_machine.specs.Controllers.{
+  Controller,
+  SubmissionQueue,
+  CompletionQueue,
+  no_submission_queues,
+  no_completion_queues,
+}
 use Rattle.nvme_mailbox.specs.Mailboxes.{Mailbox}
 use Rattle.nvme_refinement.specs.Views.{box, received_in}
 use Rattle.nvme_driver.specs.Polls.{waiting_at}
 use Rattle.nvme_spec.specs.Limits.{most_bytes}
 use Rattle.nvme_refinement.specs.Lanes.{Both, host, state, fetched_by, held_by, in_order, aborted_number}
 
--- the mailbox that a driver and its controller stand for
+-- the mailbox of a driver and its controller
 abbrev pub mailbox : Driver → Controller → Mailbox
 mailbox d c = record {
   up = is_up d.state;
@@ -61,7 +66,8 @@ completions_as a i = Some (completion_as Admin a) ∷ Some (completion_as Io i) 
 abbrev pub IsOfLane : FetchedCommand → Type 0
 IsOfLane t = (t.queue ≡ 0) ⊎ (t.queue ≡ 1)
 
--- A controller that its driver has brought up: it is ready, has the queues of both lanes and no others.
+-- A controller that its driver has brought up: it is ready, and has the queues of both lanes (queue pairs) and no
+-- others.
 pub record IsPaired (c : Controller) : Type 0 where
   pub admin : DeviceEnds
   pub io : DeviceEnds
@@ -79,7 +85,7 @@ pub record IsOff (c : Controller) : Type 0 where
   pub off : c.registers.state ≡ Off
   pub disabled : is_enabled c.registers.cc ≡ false
 
--- The fact that is kept of a driver and its controller.
+-- The invariant of a driver and its controller.
 pub record Sound (d : Driver) (c : Controller) : Type 0 where
   pub both : Both d c
   pub fits : (lane : Lane) → EndsFit (ends lane d)

@@ -1,6 +1,24 @@
--- What each event of a host with a driver makes of the driver and its controller, and that it is the step of their
--- mailbox.
-use Rattle.std.specs.Prelude.{◌≡◌, ◌≤◌, length, take, slice_get, ℕ, Bool, true, false, List, [], ◌∷◌, Ok, Err, Option, Some, None}
+-- Statements of laws: each event of a host with a driver, as a change of the driver and its controller, is the step of
+-- their mailbox.
+use Rattle.std.specs.Prelude.{
+  ◌≡◌,
+  ◌≤◌,
+  length,
+  take,
+  slice_get,
+  ℕ,
+  Bool,
+  true,
+  false,
+  List,
+  [],
+  ◌∷◌,
+  Ok,
+  Err,
+  Option,
+  Some,
+  None,
+}
 use Rattle.nvme_wire.specs.Submission.{submission_of, cid}
 use Rattle.nvme_wire.specs.Completion.{FitsCompletion}
 use Rattle.nvme_spec.specs.declared.queues.QueueChange.TheVariants.{Keep}
@@ -24,7 +42,14 @@ use Rattle.nvme_machine.specs.declared.seen.Executed.TheVariants.{Posted}
 use Rattle.nvme_machine.specs.Executing.{Setting, ExecutesNth}
 use Rattle.nvme_machine.specs.Subsystems.{after_completion}
 use Rattle.nvme_event.specs.declared.event.FleetEvent.TheVariants.{Execute}
-use Rattle.nvme_event.specs.declared.seen.FleetSeen.TheVariants.{Placed, Polled, Rung, Fetched, Reset, Executed as ExecutedSeen}
+use Rattle.nvme_event.specs.declared.seen.FleetSeen.TheVariants.{
+  Placed,
+  Polled,
+  Rung,
+  Fetched,
+  Reset,
+  Executed as ExecutedSeen,
+}
 use Rattle.nvme_event.specs.Replies.{Reply}
 use Rattle.nvme_mailbox.specs.Mailboxes.{FetchedItem, new_mailbox, with_marks as mark_mailbox}
 use Rattle.nvme_mailbox.specs.Executions.{RequestExecution, io_judgement, admin_judgement, IsServed, RequestComesTo}
@@ -35,13 +60,34 @@ use Rattle.nvme_driver.specs.Requests.{asked_of}
 use Rattle.nvme_driver.specs.Calls.{Call, Stores, Writes, Reads, Turns}
 use Rattle.nvme_driver.specs.Drivers as driver
 use Rattle.nvme_driver.specs.Polls as poll
-use Rattle.nvme_machine.specs.Controllers.{Controller, new_controller, QueuePair, queues_of, with_marks, open_pair, after_store, after_write32, after_fetch}
+use Rattle.nvme_machine.specs.Controllers.{
+  Controller,
+  new_controller,
+  QueuePair,
+  queues_of,
+  with_marks,
+  open_pair,
+  after_store,
+  after_write32,
+  after_fetch,
+}
 use Rattle.nvme_mailbox.specs.Deliveries as mail
-use Rattle.nvme_mailbox.specs.Fleets.{Fleet, WithDriver, Step, raw_fetch, host_at, settled, site_of, setting_of, marks_in, after_answer}
+use Rattle.nvme_mailbox.specs.Fleets.{
+  Fleet,
+  WithDriver,
+  Step,
+  raw_fetch,
+  host_at,
+  settled,
+  site_of,
+  setting_of,
+  marks_in,
+  after_answer,
+}
 use Rattle.nvme_refinement.specs.Sound.{Sound, mailbox}
 
--- A driver's calls of its port are events of its controller, one after the other. Only bringing up reads and grants
--- turns.
+-- A driver's port calls are events of its controller, in the same order. Only bringing up makes `Reads` and `Turns`
+-- calls.
 abbrev pub after_call : Call → Controller → Controller
 after_call (Stores address bytes) c = (after_store address bytes c).controller
 after_call (Writes offset v) c = after_write32 offset v c
@@ -52,7 +98,8 @@ abbrev pub after_calls : List Call → Controller → Controller
 after_calls [] c = c
 after_calls (call ∷ calls) c = after_calls calls (after_call call c)
 
--- The driver and its controller are sound then, and are the mailbox of a reaction; the event gives this.
+-- The driver and its controller are sound after it, and their mailbox is that of a reaction; the reply is that of the
+-- event.
 pub record IsStep (r : mail.MailboxReaction) (d : driver.Driver) (c : Controller) (reply : Reply) : Type 0 where
   pub sound : Sound d c
   pub mail : r.mailbox ≡ mailbox d c
@@ -64,7 +111,7 @@ FetchIsAStep =
     (d : driver.Driver) (c : Controller) (q : ℕ) → Sound d c
     → IsStep (mail.fetched q (mailbox d c)) d (after_fetch q c).controller (mail.plain (Fetched (raw_fetch c q)))
 
--- A ring writes both lanes' tails to their doorbells, where the driver is up.
+-- A ring writes both lanes' (queue pairs') tails to their doorbells, if the driver is up.
 abbrev pub rung_reply : Bool → Reply
 rung_reply true = mail.plain (Rung (Ok tt))
 rung_reply false = mail.plain (Rung (Err (record {})))
@@ -88,7 +135,7 @@ PollIsAStep =
     (after_calls (poll.polled d oldest c.window).calls c)
     (record { seen = Polled (poll.polled d oldest c.window).answer; bytes = (poll.polled d oldest c.window).bytes })
 
--- A placing that is refused, and one in this slot, whose entry says what the request asks.
+-- A placing that is refused, and one in this slot, whose entry is the command of the request.
 abbrev pub RefusalIsAStep : Type 0
 RefusalIsAStep =
     (d : driver.Driver) (c : Controller) (request : Request) (why : PlaceRefusal) → Sound d c
@@ -103,8 +150,8 @@ PlaceIsAStep =
     → IsStep (mail.placed (mailbox d c) request) (driver.placed d request slot)
     (after_calls (driver.stores_of d request slot) c) (mail.plain (Placed (Ok (record { 0 = d.next }))))
 
--- What an execution stores is in its request's slot: the data that come with the answer, from the slot's place on, as
--- many as the request receives where it succeeded; the queues stay, and the completion's fields are within their width.
+-- An execution stores only into its request's slot: the data of the answer, from the slot's place, as many bytes as the
+-- request receives if it succeeded; the queues stay, and the completion's fields fit their widths.
 pub record AnswersInItsSlot (d : driver.Driver) (c : Controller) (t : FetchedCommand) (p : QueuePair)
     (a : CommandExecution) : Type 0 where
   pub bytes : List ℕ
@@ -121,7 +168,7 @@ pub record AnswersInItsSlot (d : driver.Driver) (c : Controller) (t : FetchedCom
     status = a.outcome.status;
   })
 
--- what it comes to as the mailbox has it
+-- the answer as the mailbox has it
 abbrev pub request_execution_with : driver.Driver → FetchedCommand → CommandExecution → List ℕ → RequestExecution
 request_execution_with d t a bytes = record {
   outcome = a.outcome;
@@ -136,7 +183,7 @@ pub record IsPosted (d : driver.Driver) (c : Controller) (i : ℕ) (t : FetchedC
   pub sound : Sound d new
   pub mail : mailbox d new ≡ after_answer i item (request_execution_with d t a bytes) (mailbox d c)
 
--- An answer that is posted stands at the end of its lane in the mailbox, whatever it is; and it can be posted.
+-- Any posted answer is the last of its lane in the mailbox, and it can be posted.
 abbrev pub PostingIsAStep : Type 0
 PostingIsAStep =
     (d : driver.Driver) (c : Controller) (i : ℕ) (t : FetchedCommand) (p : QueuePair) (a : CommandExecution) → Sound d c
@@ -148,13 +195,13 @@ PostingHasRoom =
     (d : driver.Driver) (c : Controller) (i : ℕ) (t : FetchedCommand) → Sound d c → slice_get c.fetched i ≡ Some t
     → (p : QueuePair) × (open_pair c t ≡ Some p)
 
--- there is no request to execute where there is no command
+-- without a command there is no request to execute
 abbrev pub NothingToExecute : Type 0
 NothingToExecute =
     (d : driver.Driver) (c : Controller) (i : ℕ) → slice_get c.fetched i ≡ None
     → slice_get (mailbox d c).fetched i ≡ None
 
--- Marks reach the mailbox where they reach its controller.
+-- Marks reach the mailbox if they reach its controller.
 pub record IsMarked (d : driver.Driver) (c : Controller) (n : ℕ) : Type 0 where
   pub sound : Sound d (with_marks n c)
   pub mail : mailbox d (with_marks n c) ≡ mark_mailbox n (mailbox d c)
@@ -162,7 +209,7 @@ pub record IsMarked (d : driver.Driver) (c : Controller) (n : ℕ) : Type 0 wher
 abbrev pub MarksAreSteps : Type 0
 MarksAreSteps = (d : driver.Driver) (c : Controller) (n : ℕ) → Sound d c → IsMarked d c n
 
--- A fetched command of the I/O lane is judged as the request that the mailbox has in its place: its data pointer has no
+-- A fetched command of the I/O lane is judged like the request at its place in the mailbox: its data pointer has no
 -- fault.
 abbrev pub JudgedAsItsRequest : Type 0
 JudgedAsItsRequest =
@@ -171,8 +218,8 @@ JudgedAsItsRequest =
     → slice_get c.fetched i ≡ Some t → slice_get (mailbox d c).fetched i ≡ Some x → t.queue ≡ 1
     → spec.io_judgement w cntlid t.entry t.marked c.window ≡ io_judgement w cntlid x.item.asked x.marked
 
--- What an allowed I/O command does to the access state and the medium is what its request does; the data that come with
--- its answer lie in the request's slot, as many as the request receives where it succeeded.
+-- An allowed I/O command has the effect of its request on the access state and the medium; the data of its answer are
+-- in the request's slot, as many as the request receives if it succeeds.
 pub record IsServedInItsSlot (tells : Bool) (d : driver.Driver) (c : Controller) (t : FetchedCommand) (x : FetchedItem)
     (w : World) (device : Device) (cntlid : ℕ) (kind : Command) (a : CommandExecution) : Type 0 where
   pub bytes : List ℕ
@@ -191,8 +238,8 @@ AllowedServesItsRequest =
     → IsPerformed tells plan.kind cntlid t.entry (scene w c.window device) a.left a.outcome
     → IsServedInItsSlot tells d c t x w device cntlid plan.kind a
 
--- What an I/O command may be answered, allowed or denied, its request may be answered; the data that come with the
--- answer lie in the request's slot.
+-- Each answer of an I/O command, allowed or denied, is a possible answer of its request; the data of the answer are in
+-- the request's slot.
 pub record IsAnsweredInItsSlot (tells : Bool) (d : driver.Driver) (c : Controller) (t : FetchedCommand)
     (x : FetchedItem) (w : World) (device : Device) (cntlid : ℕ) (a : CommandExecution) : Type 0 where
   pub bytes : List ℕ
@@ -210,8 +257,8 @@ AnswersItsRequest =
     → Executes tells cntlid t.entry t.marked (scene w c.window device) a.left a.outcome
     → IsAnsweredInItsSlot tells d c t x w device cntlid a
 
--- A fetched command of the admin lane is judged as the request that the mailbox has in its place, by the two pairs of
--- queues that the mailbox's driver has made: its data pointer has no fault.
+-- A fetched command of the admin lane is judged like the request at its place in the mailbox, with the two pairs of
+-- queues that the driver has made: its data pointer has no fault.
 abbrev pub AdminJudgedAsItsRequest : Type 0
 AdminJudgedAsItsRequest =
     (d : driver.Driver) (c : Controller) (i : ℕ) (t : FetchedCommand) (x : FetchedItem) (w : World) (cntlid : ℕ)
@@ -219,7 +266,7 @@ AdminJudgedAsItsRequest =
     → slice_get c.fetched i ≡ Some t → slice_get (mailbox d c).fetched i ≡ Some x → t.queue ≡ 0
     → admin.admin_judgement w (queues_of c) cntlid t.entry c.window ≡ admin_judgement w cntlid x.item.asked
 
--- What an admin command is answered is what its request is answered, its data in the request's slot; the queues stay.
+-- An admin command has the answer of its request, with the data in the request's slot. The queues are unchanged.
 abbrev pub AdminAnswersItsRequest : Type 0
 AdminAnswersItsRequest =
     (tells : Bool) (d : driver.Driver) (c : Controller) (i : ℕ) (t : FetchedCommand) (x : FetchedItem) (w : World)
@@ -228,8 +275,8 @@ AdminAnswersItsRequest =
     → a ≡ admin_command_execution (scene w c.window device) (admin_execution w (queues_of c) cntlid t.entry c.window)
     → (a.change ≡ Keep) × IsAnsweredInItsSlot tells d c t x w device cntlid a
 
--- An execution of an I/O command, in the world and over the medium as they are, is the step of the mailbox: the request
--- in its place has an answer, which stands at the end of the lane then.
+-- An execution of an I/O command, in the present world and over the present medium, is the step of the mailbox: the
+-- request at its place has an answer, which is the last of its lane then.
 pub record IsExecuted (tells : Bool) (d : driver.Driver) (i : ℕ) (old : Setting) (executed : Executed)
     (new : Setting) : Type 0 where
   pub item : FetchedItem
@@ -258,7 +305,7 @@ AdminExecutionIsAStep =
     → slice_get old.controller.fetched i ≡ Some t → t.queue ≡ 0 → ExecutesNth tells i old executed new
     → IsExecuted tells d i old executed new
 
--- So is the execution of any command of a driver, whatever its lane is.
+-- So is the execution of any command of a driver, of either lane.
 abbrev pub ExecutionIsAStep : Type 0
 ExecutionIsAStep =
     (tells : Bool) (d : driver.Driver) (i : ℕ) (t : FetchedCommand) (old : Setting) (executed : Executed)
@@ -267,8 +314,8 @@ ExecutionIsAStep =
     → IsExecuted tells d i old executed new
 
 -- In a fleet whose k-th host is the mailbox of a driver and its controller, an execution of the controller is the
--- fleet's step: the host is the mailbox of the driver and the controller as that leaves it. Where there is no command,
--- nothing changes.
+-- fleet's step: after it, the host is the mailbox of the driver and the controller. If there is no command, nothing
+-- changes.
 abbrev pub ExecutionIsAFleetStep : Type 0
 ExecutionIsAFleetStep =
     (tells : Bool) (f : Fleet) (k : ℕ) (d : driver.Driver) (c : Controller) (i : ℕ) (t : FetchedCommand)
@@ -286,7 +333,7 @@ NoExecutionIsAFleetStep =
     → ExecutesNth tells i (setting_of f c) executed left
     → (left ≡ setting_of f c) × Step tells f (Execute k i) (mail.plain (ExecutedSeen executed)) f
 
--- A driver that never came up, at a controller that was never enabled, is the mailbox of an opening.
+-- A driver that never came up, with a controller that was never enabled, is the mailbox of an opening.
 pub record IsOpening (first cntlid : ℕ) : Type 0 where
   pub sound : Sound (driver.new_driver first) (new_controller cntlid)
   pub mail : mailbox (driver.new_driver first) (new_controller cntlid) ≡ new_mailbox first

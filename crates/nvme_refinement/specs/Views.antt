@@ -1,7 +1,45 @@
--- One lane of a driver and its controller, as far as the requests of that lane go: the slots of the driver with the
--- bytes that lie there, the lane's two queue pages, and the counts of its queues. Places count from the start of the
--- pages: the submission queue lies in the first, the completion queue in the second.
-use Rattle.std.specs.Prelude.{◌≡◌, ℕ, zero, suc, ◌+◌, ◌-◌, ◌*◌, ◌%◌, ◌<◌, ◌≤◌, nat_lt, nat_le, ◌==◌, Bool, true, false, not, ◌&&◌, ◌||◌, is_some, if◌then◌else◌, cond, List, [], ◌∷◌, ◌++◌, length, map, take, drop, remove, replicate, Option, None, Some, slice_get, slice_set}
+-- One lane (queue pair) of a driver and its controller, as far as the requests of that lane matter: the slots of the
+-- driver with their bytes, the lane's two queue pages, and the counts of its queues. Places count from the start of the
+-- pages: the submission queue is in the first, the completion queue in the second.
+use Rattle.std.specs.Prelude.{
+  ◌≡◌,
+  ℕ,
+  zero,
+  suc,
+  ◌+◌,
+  ◌-◌,
+  ◌*◌,
+  ◌%◌,
+  ◌<◌,
+  ◌≤◌,
+  nat_lt,
+  nat_le,
+  ◌==◌,
+  Bool,
+  true,
+  false,
+  not,
+  ◌&&◌,
+  ◌||◌,
+  is_some,
+  if◌then◌else◌,
+  cond,
+  List,
+  [],
+  ◌∷◌,
+  ◌++◌,
+  length,
+  map,
+  take,
+  drop,
+  remove,
+  replicate,
+  Option,
+  None,
+  Some,
+  slice_get,
+  slice_set,
+}
 use Rattle.std.specs.List.{AllByRecursion}
 use Rattle.std.specs.Str.{bytes_eq}
 use Rattle.nvme_wire.specs.Submission.{submission_entry, opcode, cid, nsid, cdw10, cdw11, cdw12}
@@ -9,7 +47,12 @@ use Rattle.nvme_wire.specs.Completion.{Completion, completion_of, completion_ent
 use Rattle.nvme_wire.specs.Entry.{bits}
 use Rattle.nvme_wire.specs.declared.status.Status.{Status}
 use Rattle.nvme_spec.specs.declared.command.Command.TheVariants.{Read, ReservationReport}
-use Rattle.nvme_spec.specs.declared.command.AdminCommand.TheVariants.{Identify, SetFeatures, GetFeatures, NamespaceAttachment}
+use Rattle.nvme_spec.specs.declared.command.AdminCommand.TheVariants.{
+  Identify,
+  SetFeatures,
+  GetFeatures,
+  NamespaceAttachment,
+}
 use Rattle.nvme_spec.specs.Commands as io_commands
 use Rattle.nvme_spec.specs.AdminCommands as admin_commands
 use Rattle.nvme_spec.specs.Bytes.{with_bytes}
@@ -34,8 +77,8 @@ pub record Slot : Type 0 where
 abbrev pub empty : Slot
 empty = record { waiting = None; bytes = []; list = [] }
 
--- The driver's side of a lane: the slots of its requests, the commands that it has put (modulo 8), of these the ones
--- not heard of, and the completions that it has consumed (modulo 64).
+-- The driver's side of a lane: the slots of its requests, the number of commands that it has put (modulo 8), of those
+-- that no completion's head has acknowledged, and of completions that it has consumed (modulo 64).
 pub record Host : Type 0 where
   pub up : Bool
   pub failed : Bool
@@ -75,21 +118,21 @@ the_slot (Some s) = s
 abbrev pub slot_at : List Slot → ℕ → Slot
 slot_at slots k = the_slot (slice_get slots k)
 
--- how many commands the driver put and the controller did not fetch
+-- the number of commands that the driver put and the controller did not fetch
 abbrev pub in_flight : Host → State → ℕ
 in_flight d c = (d.put + 8 - c.fetched) % 8
 
--- so many commands of the submission queue, from a place on
+-- n commands of the submission queue, from a place
 abbrev pub commands : List ℕ → ℕ → ℕ → List (List ℕ)
 commands window from zero = []
 commands window from (suc n) = command_at window from ∷ commands window ((from + 1) % 8) n
 
--- so many completions, from the n-th on
+-- n completions, from the n-th
 abbrev pub completions : List ℕ → ℕ → ℕ → List Completion
 completions window n zero = []
 completions window n (suc k) = completion_of (completion_bytes window n) ∷ completions window ((n + 1) % 64) k
 
--- what a slot's request is known by
+-- the ticket of a slot's request
 abbrev pub ticket_in : Option Waiting → ℕ
 ticket_in None = 0
 ticket_in (Some w) = w.ticket.0
@@ -102,8 +145,8 @@ abbrev pub received_in : Option Waiting → ℕ
 received_in None = 0
 received_in (Some w) = w.received
 
--- The request of a command in a slot: its fields, how many bytes it moves, and the slot's data where they go to the
--- controller.
+-- The request of a command in a slot: its fields, the number of bytes that it transfers, and the slot's data if they go
+-- to the controller.
 abbrev pub asked_in : Slot → List ℕ → Asked
 asked_in s x = record {
   command = record {
@@ -125,8 +168,8 @@ item_in s x = record { ticket = ticket_in s.waiting; asked = asked_in s x }
 abbrev pub item : (ℕ → Slot) → List ℕ → Item
 item slots x = item_in (slots (cid x)) x
 
--- What some request asks for: of the I/O lane a command that receives all that it moves, or nothing, by its kind; of
--- the admin lane Identify, the write protection state set or got, or a Namespace Attachment.
+-- The possible requests: in the I/O lane a command that receives all that it transfers, or nothing, by its kind; in the
+-- admin lane Identify, the write protection state set or read, or a Namespace Attachment.
 abbrev pub received_by : ℕ → ℕ → ℕ
 received_by code moved =
     if io_commands.is_one_of (io_commands.command_of code) (Read ∷ ReservationReport ∷ []) then moved else 0
@@ -146,8 +189,8 @@ is_plain_in Admin a =
 unfoldable pub is_plain : Asked → Bool
 is_plain a = is_plain_in a.command.lane a
 
--- A command is as the driver put it there: its fields and zeros elsewhere, its pointer names the slot's data, and the
--- list is there where the pointer names it.
+-- A command is as the driver put it there: its fields and zeros elsewhere, its data pointer is that of the slot's data,
+-- and the list is stored if the pointer needs it.
 unfoldable pub suits : Slot → List ℕ → Bool
 suits s x =
     let a : Asked = asked_in s x in
@@ -158,7 +201,7 @@ suits s x =
 abbrev pub odd : (ℕ → Slot) → List ℕ → ℕ
 odd slots x = cond (suits (slots (cid x)) x) 0 1
 
--- the answer of a completion, where the slots hold this, and this head was heard before it
+-- the answer of a completion, with these slots, and this head accepted before it
 abbrev pub answer : (ℕ → Slot) → ℕ → Completion → PostedAnswer
 answer slots heard e = record {
   ticket = ticket_in (slots e.cid).waiting;
@@ -177,22 +220,22 @@ abbrev pub last_head : ℕ → List Completion → ℕ
 last_head heard [] = heard
 last_head heard (e ∷ es) = last_head e.sq_head es
 
--- the head that the driver heard last
+-- the head that the driver accepted last
 abbrev pub heard : Host → ℕ
 heard d = (d.put + 8 - d.unheard) % 8
 
 abbrev pub unread : Host → State → List Completion
 unread d c = completions c.window d.consumed c.unread
 
--- how many were fetched since the last completion was posted
+-- the number of fetches since the last completion was posted
 abbrev pub since : Host → State → ℕ
 since d c = (c.fetched + 8 - last_head (heard d) (unread d c)) % 8
 
--- what a lane's slots hold
+-- the contents of a lane's slots
 abbrev pub holds : Host → ℕ → Slot
 holds d = slot_at d.slots
 
--- the part of a mailbox that a lane of a driver and its controller stands for
+-- the part of a mailbox that represents a lane of a driver and its controller
 unfoldable pub box : Host → State → LaneBox
 box d c = record {
   placed = map (item (holds d)) (commands c.window ((c.fetched + c.waiting) % 8) (in_flight d c - c.waiting));
@@ -202,7 +245,7 @@ box d c = record {
   since = since d c;
 }
 
--- the steps of the answers that were not handed up
+-- the fetches counted by the answers that were not delivered
 abbrev pub steps : ℕ → List Completion → ℕ
 steps heard [] = 0
 steps heard (e ∷ es) = (e.sq_head + 8 - heard) % 8 + steps e.sq_head es
@@ -211,14 +254,14 @@ steps heard (e ∷ es) = (e.sq_head + 8 - heard) % 8 + steps e.sq_head es
 abbrev pub IsOf : ℕ → Completion → Type 0
 IsOf q e = (e.sq_id ≡ q) × (e.sq_head < 8)
 
--- whether a command, or a completion, bears this slot, 1 or 0
+-- whether a command, or a completion, uses this slot, 1 or 0
 abbrev pub bears : ℕ → List ℕ → ℕ
 bears slot x = cond (cid x == slot) 1 0
 
 abbrev pub replies : ℕ → Completion → ℕ
 replies slot e = cond (e.cid == slot) 1 0
 
--- how many of these commands, or completions, bear this slot
+-- the number of these commands, or completions, that use this slot
 abbrev pub commands_of : ℕ → List (List ℕ) → ℕ
 commands_of slot xs = total (bears slot) xs
 
@@ -236,15 +279,14 @@ live_in s = live_waiting s.waiting
 abbrev pub live_at : List Slot → ℕ → ℕ
 live_at slots k = live_in (slot_at slots k)
 
--- the 32 completions from the n-th on have the phase of a new one as far as so many are unread, and the old one behind
--- that
+-- of the 32 completions from the n-th, the unread ones have the new phase, and those after them the old one
 abbrev pub Phases : List ℕ → ℕ → ℕ → Type 0
 Phases window n unread =
     (k : ℕ) → k < 32 →
     (completion_of (completion_bytes window (n + k))).phase ≡
     cond (nat_lt k unread) (phase_of (n + k)) (not (phase_of (n + k)))
 
--- each waiting request stands in one place: on its way, fetched, or answered
+-- each waiting request is in one place: in flight, fetched, or answered
 abbrev pub Carried : Host → State → Type 0
 Carried d c =
     (slot : ℕ) →
@@ -252,11 +294,11 @@ Carried d c =
     (unread d c) ≡
     live_at d.slots slot
 
--- each command suits its slot: those that do not are none
+-- each command suits its slot
 abbrev pub Suited : Host → State → Type 0
 Suited d c = total (odd (holds d)) c.taken + total (odd (holds d)) (commands c.window c.fetched (in_flight d c)) ≡ 0
 
--- What holds of a lane whose driver is up.
+-- The invariant of a lane whose driver is up.
 pub record Running (d : Host) (c : State) : Type 0 where
   pub ready : c.ready ≡ true
   pub window : length c.window ≡ 8192
@@ -287,7 +329,7 @@ off c = record {
   taken = [];
 }
 
--- What holds of a lane whose driver is down.
+-- The invariant of a lane whose driver is down.
 pub record Resting (d : Host) (c : State) : Type 0 where
   pub window : length c.window ≡ 8192
   pub slots : length d.slots ≡ 24
@@ -305,7 +347,7 @@ AgeIn first next (Some w) = (cond w.live (first ≤ w.ticket.0) (w.ticket.0 < fi
 abbrev pub Ages : ℕ → ℕ → List Slot → Type 0
 Ages first next slots = (k : ℕ) → AgeIn first next (slot_at slots k).waiting
 
--- What holds of a lane of a driver that came up with this ticket.
+-- The invariant of a lane of a driver that came up with this ticket.
 pub record Holds (first : ℕ) (d : Host) (c : State) : Type 0 where
   pub failed : d.failed ≡ false
   pub begun : first ≤ d.next
@@ -315,7 +357,7 @@ pub record Holds (first : ℕ) (d : Host) (c : State) : Type 0 where
 
 -- Placing.
 
--- a slot where a request was placed, with what then lies there
+-- a slot in which a request was placed, with its bytes
 abbrev pub filled : Waiting → List ℕ → List ℕ → Slot
 filled w bytes list = record { waiting = Some w; bytes = bytes; list = list }
 
@@ -333,7 +375,7 @@ placed_state d c x = record c { window = with_bytes c.window (64 * d.put) x }
 
 -- Executing.
 
--- what a command is answered, and the data that it gives back
+-- the answer to a command, and its data
 pub record Effect : Type 0 where
   pub status : Status
   pub dw0 : ℕ
@@ -381,20 +423,20 @@ rung d c = record c { waiting = in_flight d c }
 abbrev pub front : Host → State → Completion
 front d c = completion_of (completion_bytes c.window d.consumed)
 
--- how many placed entries are unheard of, once this head is heard, and whether it can be heard
+-- the number of placed entries that stay unacknowledged after this head, and whether the head is accepted
 abbrev pub left_after : Host → ℕ → ℕ
 left_after d head = (d.put + 8 - head) % 8
 
 abbrev pub can_hear : Host → ℕ → Bool
 can_hear d head = nat_lt head 8 && nat_le (left_after d head) d.unheard
 
--- the next completion, where it is new
+-- the next completion, if it is new
 abbrev pub next_completion : Host → List ℕ → Option Completion
 next_completion d window =
     let e = completion_of (completion_bytes window d.consumed) in
     cond (cond e.phase (phase_of d.consumed) (not (phase_of d.consumed))) (Some e) None
 
--- the lane once a completion was consumed, and its controller was told
+-- the lane after the driver has consumed a completion and written the doorbell
 abbrev pub consumed : Host → Completion → Host
 consumed d e =
     record d {
@@ -408,7 +450,7 @@ less c = record c { unread = c.unread - 1 }
 
 -- Resetting.
 
--- a slot once its request's controller was reset, and the lane
+-- a slot after its request's controller was reset, and the lane
 abbrev pub abort_slot : Slot → Slot
 abort_slot s = record s { waiting = abort s.waiting }
 
@@ -424,7 +466,7 @@ zeros = replicate 4096 0
 abbrev pub zeroed : List ℕ → List ℕ
 zeroed window = with_bytes (with_bytes window 0 zeros) 4096 zeros
 
--- the lane that was just turned on
+-- the lane that was just enabled
 abbrev pub fresh_host : Host → Host
 fresh_host d = record d { up = true; put = 0; unheard = 0; consumed = 0 }
 
@@ -440,7 +482,7 @@ fresh_state c = record {
   taken = [];
 }
 
--- the lane once one more of the driver's own commands was placed, fetched, answered and heard
+-- the lane after one more of the driver's own commands was placed, fetched, answered and consumed
 abbrev pub own_host : Host → Host
 own_host d = record d { put = (d.put + 1) % 8; consumed = (d.consumed + 1) % 64 }
 

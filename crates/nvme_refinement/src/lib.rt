@@ -1,7 +1,7 @@
-//! Why a host may rely on its mailbox: a driver over its controller, with the raw bytes of the memory between them, is
-//! one. `specs` has which mailbox the two stand for, and the fact that each event keeps; `laws` that each event of the
-//! two is the step of that mailbox. There is no code, and nothing of other controllers or of the calls of a medium. So
-//! it is proved beside the code of controllers, from the definitions that this code keeps to.
+//! Why a host may rely on its mailbox: a driver, its controller and the memory that they share behave as the mailbox.
+//! `specs` defines the mailbox of driver and controller, and the invariant that each event keeps; `laws` shows that
+//! each of their events is the step of the mailbox. The crate has no code, and nothing about other controllers or calls
+//! of a medium. So it is proved in parallel with the code of controllers, from the same definitions.
 #![tactic(auto)]
 
 pub mod laws;

@@ -1,4 +1,4 @@
-//! Subsystems and fleets, and events of them.
+//! Calls of subsystems and fleets.
 
 use crate::Came;
 use crate::opening::{configuration, is_marked, marked};
@@ -9,12 +9,12 @@ use nvme_subsys::{Event, NewFault, Seen, Subsystem};
 use nvme_wire::{NoMemory, Status};
 use std::alloc::Global;
 
-/// The events of one Read, of which so many are made one after the other.
+/// The number of events of one Read. The fleet performs `ROUNDS` Reads in sequence.
 const EVENTS: usize = 5;
 
 const ROUNDS: u64 = 33;
 
-/// What the refusal of a subsystem or a fleet comes to: want of memory, with the medium as it was.
+/// A subsystem or a fleet was not opened: right if the cause is refused memory, and the medium is unchanged.
 fn refused(refusal: &NewFault<MemMedium>) -> Came {
     Came::refused(refusal.fault == ConfigFault::NoMemory && is_marked(&refusal.medium))
 }
@@ -27,13 +27,13 @@ pub(crate) fn subsystem(alloc: Global) -> Result<Came, NoMemory> {
     })
 }
 
-/// Whether a controller of a subsystem is as it is after its admin queues have been named, or as it was before.
+/// Whether a controller of a subsystem has the admin queues that the events name, or still none.
 fn names_queues(subsystem: &mut Subsystem<MemMedium>, are_named: bool) -> bool {
     let value = if are_named { 0x001f_0007 } else { 0 };
     matches!(subsystem.apply(Event::Read32(1, 0x24)), Seen::Value(read) if read == value)
 }
 
-/// Where memory is refused no event has happened.
+/// If memory is refused, no event has happened.
 pub(crate) fn run_of_a_subsystem(alloc: Global) -> Result<Came, NoMemory> {
     let (config, medium) = (configuration(alloc)?, marked(alloc)?);
     let Ok(mut subsystem) = Subsystem::new(alloc, &config, medium) else {
@@ -55,7 +55,7 @@ pub(crate) fn fleet(alloc: Global) -> Result<Came, NoMemory> {
     })
 }
 
-/// A Read of a block, from its placing to its answer.
+/// The events of a Read of one block, from its request to its answer.
 fn round() -> [FleetEvent<'static>; EVENTS] {
     let request = Request::Read {
         nsid: 1,
@@ -71,7 +71,7 @@ fn round() -> [FleetEvent<'static>; EVENTS] {
     ]
 }
 
-/// Whether the last event of a round handed up the answer of its Read, with the block.
+/// Whether the last event of a round delivered the answer to its Read, with the block's data.
 fn is_answered(fleet: &Fleet<MemMedium>, seen: &FleetSeen, ticket: u64) -> bool {
     let is_answer = match seen {
         FleetSeen::Polled(
@@ -90,7 +90,8 @@ fn is_answered(fleet: &Fleet<MemMedium>, seen: &FleetSeen, ticket: u64) -> bool 
     is_answer && fleet.data() == [7; 512].as_slice()
 }
 
-/// Events whose replies were added have happened, and no other: so where memory is refused they go on from there.
+/// Exactly the events whose replies were appended have happened. If memory is refused, each round therefore continues
+/// with the next event.
 pub(crate) fn run_of_a_fleet(alloc: Global) -> Result<Came, NoMemory> {
     let (config, medium) = (configuration(alloc)?, marked(alloc)?);
     let Ok(mut fleet) = Fleet::new(alloc, &config, medium) else {
@@ -110,7 +111,7 @@ pub(crate) fn run_of_a_fleet(alloc: Global) -> Result<Came, NoMemory> {
     Ok(came)
 }
 
-/// One round: by a run of its events, and where that is refused by the rest of them one by one.
+/// One round: a run of its events, and if that is refused, the rest of them one by one.
 fn round_of(alloc: Global, fleet: &mut Fleet<MemMedium>, ticket: u64) -> Came {
     let mut replies = Vec::new(alloc);
     let ran = fleet.run(alloc, &round(), &mut replies);

@@ -1,5 +1,5 @@
-//! Makes each call that takes memory, and says of each whether memory was given or refused, and whether all is then as
-//! it must be. Each request for memory may be refused.
+//! Makes each call that takes memory, and prints of each whether it was given or refused memory, and whether the state
+//! after it is the right one. Each request for memory may be refused.
 #![tactic(auto)]
 
 mod events;
@@ -10,19 +10,19 @@ mod scripts;
 use nvme_wire::NoMemory;
 use std::io;
 
-/// What came of a call.
+/// The result of a call.
 #[derive(Clone, Copy, Debug, PartialEq, Eq)]
 enum Came {
-    /// It was carried out.
+    /// It succeeded.
     Done,
-    /// Memory was refused to it, and all else is as it was.
+    /// It was refused memory, and changed nothing else.
     Refused,
     /// It did something else.
     Wrong,
 }
 
 impl Came {
-    /// What a refusal is, where all else is or isn't as it must be.
+    /// A refused call, by whether all else is unchanged.
     fn refused(is_as_it_was: bool) -> Came {
         if is_as_it_was {
             Came::Refused
@@ -31,7 +31,7 @@ impl Came {
         }
     }
 
-    /// What a call is that was carried out, where all is or isn't as it must be.
+    /// A call that succeeded, by whether its effect is the right one.
     fn done(is_as_it_must_be: bool) -> Came {
         if is_as_it_must_be {
             Came::Done
@@ -63,7 +63,7 @@ fn main(rt: HostRuntime) -> io::Result<()> {
     tell(&rt, "run_script", scripts::script(alloc))
 }
 
-/// Prints what came of a call, or that what it is tried on was refused.
+/// Prints the result of a call; or that memory was refused already for its arguments.
 fn tell(rt: &impl Print, name: &str, came: Result<Came, NoMemory>) -> io::Result<()> {
     let text = match came {
         Ok(came) => came.text(),

@@ -1,16 +1,16 @@
-//! The medium and the configuration that the calls are tried on.
+//! The medium and the configuration that the calls get.
 
 use nvme_medium::MemMedium;
 use nvme_spec::{Config, ControllerConfig, NsConfig};
 use nvme_wire::NoMemory;
 use std::alloc::Global;
 
-/// Eight blocks of bytes 7.
+/// Eight blocks, each byte of which is 7.
 pub(crate) fn marked(alloc: Global) -> Result<MemMedium, NoMemory> {
     MemMedium::new(alloc, &[7; 4096])
 }
 
-/// Whether a medium is the marked one.
+/// Whether a medium is that of `marked`.
 pub(crate) fn is_marked(medium: &MemMedium) -> bool {
     medium.as_bytes() == [7; 4096].as_slice()
 }

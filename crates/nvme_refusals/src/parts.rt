@@ -1,4 +1,4 @@
-//! Windows, media and a controller.
+//! Calls of windows, media and a controller.
 
 use crate::Came;
 use crate::opening::{is_marked, marked};
@@ -11,7 +11,7 @@ use std::fs::File;
 use std::num::NonZeroUsize;
 use std::rt::Files;
 
-/// The image, of two blocks.
+/// The image file, which has two blocks.
 const IMAGE: &str = "image";
 
 pub(crate) fn window(alloc: Global) -> Came {
@@ -35,7 +35,7 @@ pub(crate) fn file<R: Files<File = File>>(rt: &R) -> Came {
     }
 }
 
-/// A refused cache hands the medium back.
+/// A refused cache returns the medium.
 pub(crate) fn cached(alloc: Global) -> Result<Came, NoMemory> {
     let inner = marked(alloc)?;
     let Some(capacity) = NonZeroUsize::new(2) else {
@@ -47,13 +47,13 @@ pub(crate) fn cached(alloc: Global) -> Result<Came, NoMemory> {
     })
 }
 
-/// Whether a block is read as it is, whether it is kept or not.
+/// Whether block `i` is in the medium and reads as its content, from the cache or from memory.
 fn is_read(medium: &mut Cached<MemMedium>, i: u64) -> bool {
     let mut block = [0; 512];
     i < medium.blocks() && medium.read(i, &mut block).is_ok() && block == [7; 512]
 }
 
-/// Whether blocks are read and read again, more of them than are kept.
+/// Whether repeated reads of more blocks than fit in the cache return their content.
 fn reads_twice(medium: &mut Cached<MemMedium>) -> bool {
     is_read(medium, 0)
         && is_read(medium, 0)

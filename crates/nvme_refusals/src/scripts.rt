@@ -1,4 +1,4 @@
-//! A script.
+//! The run of a script.
 
 use crate::Came;
 use crate::opening::{is_marked, marked};
@@ -8,7 +8,7 @@ use std::alloc::Global;
 use std::io;
 use std::io::Write;
 
-/// A block is written, and its transcript has so many bytes.
+/// It writes a block. Its transcript has `TRANSCRIPT` bytes.
 const SCRIPT: &[u8] = b"controller 1 host 0xa1
 namespace 1 blocks 8 shared
 attached 1 1
@@ -23,7 +23,7 @@ poll 1
 
 const TRANSCRIPT: u64 = 90;
 
-/// Counts what is written.
+/// Counts the bytes that are written.
 #[derive(Drop)]
 struct Counting {
     bytes: u64,
@@ -40,7 +40,7 @@ impl Write for Counting {
     }
 }
 
-/// Where memory is refused the medium is handed back, and nothing was written.
+/// If memory is refused, the medium is returned, and nothing was written.
 pub(crate) fn script(alloc: Global) -> Result<Came, NoMemory> {
     let medium = marked(alloc)?;
     let mut written = Counting { bytes: 0 };

@@ -1,4 +1,4 @@
--- What a write of CC leaves: CC, the state and the effect. The other registers stay.
+-- The result of a write of CC, for the contracts of its parts: CC, the state and the effect. The other registers stay.
 use Rattle.std.specs.Prelude.{◌≡◌}
 use Rattle.nvme_spec.specs.Registers.{Registers, Written, written}
 use Rattle.nvme_regs.specs.declared.registers.writes.Configured.{Configured}

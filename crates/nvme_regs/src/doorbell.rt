@@ -9,7 +9,7 @@ use nvme_spec::RegEffect;
 /// The highest queue identifier.
 const LAST_QUEUE: u64 = 4;
 
-/// What a write to this offset rings, or `Nothing` where no doorbell is there.
+/// The effect of a write to this offset, or `Nothing` if no doorbell is there.
 #[tactic(auto, unfolding(nvme_spec::specs::Registers::doorbell))]
 pub fn doorbell(offset: u64, v: u32) -> RegEffect
     ensures { result ≡ register.doorbell offset v }

@@ -1,10 +1,10 @@
-//! The fields of Controller Configuration (CC) and of Admin Queue Attributes (AQA), and the values that an enabling
-//! takes.
+//! The fields of Controller Configuration (CC) and of Admin Queue Attributes (AQA), and the values that a controller
+//! supports.
 
 ghost use Rattle.std.specs.Prelude.{◌≡◌, ◌<◌, ◌≤◌};
 ghost use Rattle.nvme_spec.specs.Registers as register;
 
-/// How many bytes of host memory a controller reaches.
+/// The number of bytes of host memory that a controller can address.
 const WINDOW_LEN: u64 = 4_194_304;
 
 /// CC.EN.
@@ -22,7 +22,7 @@ fn notification(cc: u32) -> u32
     (cc >> 14) & 0b11
 }
 
-/// Whether CC.SHN tells the controller to shut down: 01b normally, 10b abruptly.
+/// Whether CC.SHN asks the controller to shut down: 01b normally, 10b abruptly.
 pub fn is_shutdown(cc: u32) -> bool
     ensures { result ≡ register.is_shutdown cc }
 {
@@ -30,15 +30,15 @@ pub fn is_shutdown(cc: u32) -> bool
     notification == 1 || notification == 2
 }
 
-/// CC with the Shutdown Notification of `v`, and all else as it is.
+/// CC with the Shutdown Notification of `v`, otherwise unchanged.
 pub fn with_notification(cc: u32, v: u32) -> u32
     ensures { result ≡ register.with_notification cc v }
 {
     (cc & 0x3fff) + (notification(v) << 14) + (cc >> 16 << 16)
 }
 
-/// Whether an enabling takes CC: pages of 4 KiB (MPS), the NVM command set (CSS), round robin (AMS), and entries of 64
-/// and of 16 bytes (IOSQES, IOCQES).
+/// Whether the controller supports CC: pages of 4 KiB (MPS), the NVM command set (CSS), round robin (AMS), and entries
+/// of 64 and of 16 bytes (IOSQES, IOCQES).
 pub fn is_supported(cc: u32) -> bool
     ensures { result ≡ register.is_supported cc }
 {
@@ -54,7 +54,7 @@ pub fn is_supported(cc: u32) -> bool
         && completion_entry_size == 4
 }
 
-/// AQA.ASQS: how many entries the admin submission queue has.
+/// AQA.ASQS: the number of entries of the admin submission queue.
 pub fn submission_entries(aqa: u32) -> u16
     ensures entries { result ≡ register.admin_submission_size aqa }
     ensures few { result ≤ 4096 }
@@ -62,7 +62,7 @@ pub fn submission_entries(aqa: u32) -> u16
     (aqa & 0xfff) as u16 + 1
 }
 
-/// AQA.ACQS: how many entries the admin completion queue has.
+/// AQA.ACQS: the number of entries of the admin completion queue.
 pub fn completion_entries(aqa: u32) -> u16
     ensures entries { result ≡ register.admin_completion_size aqa }
     ensures few { result ≤ 4096 }
@@ -70,8 +70,8 @@ pub fn completion_entries(aqa: u32) -> u16
     ((aqa >> 16) & 0xfff) as u16 + 1
 }
 
-/// Whether a queue of so many entries of `width` bytes can be an admin queue at this address: it has 2 to 64 entries,
-/// begins a page, and lies in host memory.
+/// Whether a queue of `entries` entries of `width` bytes can be an admin queue at this address: it has 2 to 64 entries,
+/// begins a page, and is in host memory.
 pub fn is_admin_queue(base: u64, entries: u16, width: u64) -> bool
     requires { width ≤ 64 }
     ensures { result ≡ register.is_admin_queue base entries width }

@@ -1,5 +1,5 @@
 //! The registers of a controller (NVM Express Base Specification 2.0, Controller Registers), in accesses of 32 bits:
-//! what a read gives, what a write leaves, and what a write asks of the controller.
+//! the value of a read, and the effect of a write on registers and controller.
 #![tactic(auto)]
 
 mod doorbell;

@@ -1,4 +1,4 @@
-//! Where the registers lie (Controller Properties), in bytes. Those of 64 bits have a low and a high half.
+//! The offsets of the registers (Controller Properties), in bytes. Those of 64 bits have a low and a high half.
 
 /// Controller Capabilities (CAP), low half.
 pub const CAP_LOW: u64 = 0x00;

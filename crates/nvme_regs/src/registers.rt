@@ -63,7 +63,7 @@ impl Registers {
         }
     }
 
-    /// The value at an offset: 0 where no register is, within a register, and of every doorbell.
+    /// The value at an offset: 0 outside of registers, within a register, and for every doorbell.
     #[tactic(auto, unfolding(nvme_spec::specs::Registers::value_at))]
     pub fn read32(&self, offset: u64) -> u32
         ensures { result ≡ register.value_at self.now offset }
@@ -83,7 +83,7 @@ impl Registers {
         }
     }
 
-    /// Whether the controller runs.
+    /// The state of the controller.
     pub fn state(&self) -> ControllerState
         ensures state { result ≡ self.now.state }
         ensures consistent { IsConsistent self.now }
@@ -91,7 +91,7 @@ impl Registers {
         self.state
     }
 
-    /// The admin queues, where RDY is 1. They begin pages, lie in host memory, and have 2 to 64 entries.
+    /// The admin queues, if RDY is 1. They begin pages, are in host memory, and have 2 to 64 entries.
     pub fn admin_queues(&self) -> Option<AdminQueues>
         ensures queues { result ≡ register.admin_queues self.now }
         ensures placed { IfSome result ArePlaced }

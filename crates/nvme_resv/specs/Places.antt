@@ -1,4 +1,4 @@
--- Where a host is, or would go, among registrants that rise.
+-- The index of a host among registrants in rising order, or the index at which to insert it.
 use Rattle.std.specs.Prelude.{◌≡◌, ℕ, ◌<◌, ◌≤◌, slice_index_or, List, length}
 use Rattle.nvme_spec.specs.declared.access.Registrant.{Registrant}
 

@@ -1,19 +1,19 @@
-//! What an action on a reservation did to other hosts.
+//! The effect of an action on other hosts.
 
 ghost use Rattle.std.specs.Prelude.{◌≡◌, []};
 
 use arrayvec::ArrayVec;
 use nvme_spec::HostId;
 
-/// What an action did to other hosts.
+/// The effect of an action on other hosts.
 #[derive(Drop)]
 pub struct Change {
-    /// The hosts that Preempt unregistered, by rising host identifier. After any other action there are none.
+    /// The hosts that a Preempt unregistered, by rising host identifier; empty for any other action.
     pub removed: ArrayVec<HostId, 16>,
 }
 
 impl Change {
-    /// Nobody was removed.
+    /// No host was removed.
     pub(crate) fn none() -> Self
         ensures { result.removed.items ≡ [] }
     {

@@ -1,6 +1,6 @@
-//! The reservation of one namespace, in a crate of its own so that it is proved alone: which hosts are registered with
-//! it, which of them hold it, and what the commands Reservation Register, Reservation Acquire, Reservation Release and
-//! Reservation Report do and tell (NVM Express Base Specification 2.0, Reservations).
+//! The reservation of one namespace: its registrants, its holder, and the commands Reservation Register, Reservation
+//! Acquire, Reservation Release and Reservation Report (NVM Express Base Specification 2.0, Reservations). It is a
+//! separate crate so that it is proved separately.
 #![tactic(auto)]
 
 mod change;

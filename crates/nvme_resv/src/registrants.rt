@@ -18,14 +18,14 @@ pub(crate) fn is_registered(registrants: &[Registrant], host: HostId) -> bool
     registrants.iter().any(|r| r.host == host)
 }
 
-/// The host's key, where it is registered.
+/// The host's key, if it is registered.
 pub(crate) fn key_of(registrants: &[Registrant], host: HostId) -> Option<u64>
     ensures { result ≡ report.key_of registrants.now host }
 {
     registrants.iter().find(|r| r.host == host).map(|r| r.key)
 }
 
-/// Where the host is, or where it would go.
+/// The index of the host, or the index at which to insert it.
 fn search(registrants: &[Registrant], host: HostId) -> Result<usize, usize>
     requires { resv.IsRising registrants.now }
     ensures found { IfOk result (IsPlaceOf registrants.now host) }
@@ -34,7 +34,7 @@ fn search(registrants: &[Registrant], host: HostId) -> Result<usize, usize>
     registrants.binary_search_by_key(&host, |r| r.host)
 }
 
-/// Gives a host a key. The registrants rise, and stay so.
+/// Gives a host a key. The registrants stay in rising order.
 pub(crate) fn set_key(registrants: &mut Registrants, host: HostId, key: u64)
     requires rising { resv.IsRising registrants.old.items }
     requires room { IsTrue (resv.is_registered registrants.old.items host) ⊎ (length registrants.old.items < 16) }
@@ -53,7 +53,7 @@ pub(crate) fn remove_host(registrants: &mut Registrants, host: HostId)
     registrants.retain(|r| r.host != host);
 }
 
-/// Removes the registrants with this key, or with any, but for the spared host, and answers their hosts.
+/// Removes all registrants, only those with `key` if there is one, except the spared host. Returns their hosts.
 pub(crate) fn expel(
     registrants: &mut Registrants,
     key: Option<u64>,
@@ -72,7 +72,7 @@ pub(crate) fn expel(
     removed
 }
 
-/// Whether a registrant has this key, where one is given, and is not the spared host.
+/// Whether a registrant has this key, if one is given, and is not the spared host.
 fn leaves(r: &Registrant, key: Option<u64>, spared: Option<HostId>) -> bool
     ensures { result ≡ leaves_test key spared r.now }
 {

@@ -12,7 +12,7 @@ use std::marker::Model;
 mod actions;
 mod report;
 
-/// The reservation of one namespace: its registrants with their keys, who holds it, the generation counter, and whether
+/// The reservation of one namespace: its registrants with their keys, its holder, the generation counter, and whether
 /// these persist through power loss.
 #[derive(Drop)]
 pub struct Reservation {
@@ -51,7 +51,7 @@ impl Reservation {
         }
     }
 
-    /// Who holds the reservation, with its type (Reservation Types).
+    /// The holder of the reservation, with its type (Reservation Types).
     pub fn hold(&self) -> Hold
         ensures { result ≡ self.now.hold }
     {
@@ -72,22 +72,22 @@ impl Reservation {
         self.generation
     }
 
-    /// Whether registrants, hold and generation persist through power loss (PTPL).
+    /// Whether registrants, holder and generation persist through power loss (PTPL).
     pub fn ptpl(&self) -> bool
         ensures { result ≡ self.now.ptpl }
     {
         self.ptpl
     }
 
-    /// Says whether registrants, hold and generation are to persist through power loss. Nothing else changes.
+    /// Sets whether registrants, holder and generation persist through power loss. Nothing else changes.
     pub fn set_ptpl(&mut self, ptpl: bool)
         ensures { self.new ≡ record self.old { ptpl = ptpl } }
     {
         self.ptpl = ptpl;
     }
 
-    /// A power cycle: nobody is registered any more, nobody holds the reservation and the generation is 0, but where
-    /// these persist.
+    /// Applies a power cycle: unless they persist, nobody is registered any more, nobody holds the reservation, and the
+    /// generation is 0.
     pub fn power_cycle(&mut self)
         ensures { self.new ≡ cycled_reservation self.old }
     {
@@ -98,7 +98,7 @@ impl Reservation {
         }
     }
 
-    /// What the host is to the namespace. Under types 5 and 6 each registrant is a holder.
+    /// The role of the host. Under types 5 and 6 each registrant is a holder.
     pub fn role(&self, host: HostId) -> Role
         ensures { result ≡ resv.role_of self.now host }
     {
@@ -115,7 +115,7 @@ impl Reservation {
     /// Whether the host is registered or can be: a namespace has at most sixteen registrants.
     pub fn has_room_for(&self, host: HostId) -> bool
         ensures room { IsTrue result ↔ HasRoomFor self.now host }
-        // The registrants rise by host, so that each host is counted once.
+        // The registrants are in rising order, so each host is counted once.
         ensures rising { resv.IsRising self.now.registrants }
     {
         is_registered(&self.registrants, host) || !self.registrants.is_full()

@@ -1,4 +1,4 @@
--- Counts of a ring by cases, where the words of queues divide.
+-- For `counts.rt`: the code computes the counts of a ring by cases, the definitions by division.
 use Rattle.std.proofs.Common.{◌≡◌, ℕ, ◌+◌, ◌-◌, ◌*◌, ◌/◌, ◌%◌, ◌<◌, ◌≤◌, ◌==◌, true, false, ap, ◌∙◌, sym, arith}
 use Rattle.std.proofs.Math.Nat.{mod-eq_of_lt, mod_self, div-eq_of_lt}
 use Rattle.std.proofs.lemmas.Nat.{mod-mul-add, div-mul-add}
@@ -10,7 +10,7 @@ next_within n turn below = sym (mod-eq_of_lt below)
 pub next_round : (n turn : ℕ) → n + 1 ≡ turn → 0 ≡ (n + 1) % turn
 next_round n turn last = sym (ap (λ k. k % turn) last ∙ mod_self turn)
 
--- a number of the second turn
+-- a count in the second pass through the queue
 second : (size n : ℕ) → size ≤ n → n < 2 * size → n ≡ 1 * size + (n - size)
 second size n past below = omega arith
 

@@ -38,7 +38,7 @@ pub fn slot(size: u16, count: u16) -> u16
     if count < size { count } else { count - size }
 }
 
-/// The phase tag of an entry that is counted modulo twice the size: that of the first turn, or its inverse.
+/// The phase tag of the entry with a count modulo twice the size: 1 in the first pass through the queue, then 0.
 #[tactic(auto, using(crate::proofs::Turns::phase_first, crate::proofs::Turns::phase_second))]
 pub fn phase(size: u16, count: u16) -> bool
     requires { count < 2 * size }

@@ -1,9 +1,9 @@
-//! The four ends of queues, in a crate of their own since a controller has two of them and a host the others (NVM
-//! Express Base Specification 2.0, Submission Queue and Completion Queue): where a controller fetches commands and posts
-//! completions, and where a host puts commands and consumes completions.
+//! The four ends of queues (NVM Express Base Specification 2.0, Submission Queue and Completion Queue): a controller
+//! fetches commands at one and posts completions at another, a host puts commands at the third and consumes completions
+//! at the fourth.
 //!
-//! Each end counts entries, modulo the size of its queue where a slot is all that matters, modulo twice the size where
-//! the phase tag is needed too. Counts go on by a comparison and a wrap.
+//! Each end counts entries: modulo the size of its queue if only the slot matters, modulo twice the size if the phase
+//! tag does too. A count is increased by a comparison and a wrap, without a division.
 #![tactic(auto)]
 
 mod counts;

@@ -1,13 +1,20 @@
 //! A submission queue at its controller.
 
 ghost use Rattle.std.specs.Prelude.{◌≡◌, ◌<◌, ◌+◌, ◌↔◌, IsTrue};
-ghost use Rattle.nvme_spec.specs.Queues.{IsQueueSize, FitsSubmissionHead, empty_submission_head, slot_of, after_tail_doorbell, after_fetch};
+ghost use Rattle.nvme_spec.specs.Queues.{
+  IsQueueSize,
+  FitsSubmissionHead,
+  empty_submission_head,
+  slot_of,
+  after_tail_doorbell,
+  after_fetch,
+};
 
 use crate::counts::{self, distance, next};
 use std::marker::Model;
 
-/// The head of a submission queue: how many commands its controller has fetched, modulo the size, and how many wait.
-/// Contracts see it as the record `SubmissionHead` of these numbers.
+/// The head of a submission queue: the number of commands that its controller has fetched, modulo the size, and the
+/// number of those that wait. Contracts see it as the record `SubmissionHead` of these numbers.
 #[derive(Clone, Copy, Debug)]
 pub struct SqHead {
     size: u16,
@@ -28,7 +35,7 @@ impl Model for SqHead {
 }
 
 impl SqHead {
-    /// The head of an empty queue of `size` entries. That there are 2 to 64 is the caller's condition.
+    /// The head of an empty queue of `size` entries, 2 to 64.
     pub fn new(size: u16) -> SqHead
         requires { IsQueueSize size }
         ensures { result ≡ empty_submission_head size }
@@ -40,8 +47,8 @@ impl SqHead {
         }
     }
 
-    /// The host wrote its tail to the doorbell: the commands before the tail wait, whether the tail moved on or back.
-    /// Where the tail is no slot of the queue the answer is false, and nothing changes.
+    /// Takes the tail that the host wrote to the doorbell: the commands before it wait. The tail may move forward or
+    /// back. Returns false, and changes nothing, if the tail is not a slot of the queue.
     pub fn set_doorbell(&mut self, tail: u16) -> bool
         ensures taken { IsTrue result ↔ (tail < self.old.size) }
         ensures after { self.new ≡ after_tail_doorbell self.old tail }
@@ -53,28 +60,28 @@ impl SqHead {
         true
     }
 
-    /// How many entries the queue has.
+    /// The number of entries of the queue.
     pub fn size(&self) -> u16
         ensures { result ≡ self.now.size }
     {
         self.size
     }
 
-    /// The tail: the slot behind the last command that waits.
+    /// The tail: the slot after the last command that waits.
     pub fn tail(&self) -> u16
         ensures { result ≡ slot_of self.now.size (self.now.fetched + self.now.waiting) }
     {
         counts::slot(self.size, self.fetched + self.waiting)
     }
 
-    /// How many commands wait to be fetched.
+    /// The number of commands that wait to be fetched.
     pub fn waiting(&self) -> u16
         ensures { result ≡ self.now.waiting }
     {
         self.waiting
     }
 
-    /// The slot of the command that comes next, which is also the head that completions carry.
+    /// The slot of the next command, which is also the head in completions.
     pub fn slot(&self) -> u16
         ensures slot { result ≡ slot_of self.now.size self.now.fetched }
         ensures below { result < self.now.size }
@@ -83,7 +90,7 @@ impl SqHead {
         self.fetched
     }
 
-    /// The next command was fetched. That one waits is the caller's condition.
+    /// Fetches the next command, which must exist.
     pub fn advance(&mut self)
         requires { 0 < self.old.waiting }
         ensures { self.new ≡ after_fetch self.old }

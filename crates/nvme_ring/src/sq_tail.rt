@@ -1,13 +1,23 @@
 //! A submission queue at its host.
 
 ghost use Rattle.std.specs.Prelude.{◌≡◌, ◌<◌};
-ghost use Rattle.nvme_spec.specs.Queues.{IsQueueSize, FitsSubmissionTail, empty_submission_tail, slot_of, submission_room, can_be_heard, after_head, after_put};
+ghost use Rattle.nvme_spec.specs.Queues.{
+  IsQueueSize,
+  FitsSubmissionTail,
+  empty_submission_tail,
+  slot_of,
+  submission_room,
+  can_be_heard,
+  after_head,
+  after_put,
+};
 
 use crate::counts::{distance, next};
 use std::marker::Model;
 
-/// The tail of a submission queue: how many commands its host has put there, modulo the size, and how many of them it
-/// has not heard to be fetched. Contracts see it as the record `SubmissionTail` of these numbers.
+/// The tail of a submission queue: its size, the number of commands that its host has put there, modulo the size, and
+/// the number of those that no completion has reported as fetched (SQ Head Pointer). Contracts see it as the record
+/// `SubmissionTail` of these numbers.
 #[derive(Clone, Copy, Debug)]
 pub struct SqTail {
     size: u16,
@@ -28,7 +38,7 @@ impl Model for SqTail {
 }
 
 impl SqTail {
-    /// The tail of an empty queue of `size` entries. That there are 2 to 64 is the caller's condition.
+    /// The tail of an empty queue of `size` entries, 2 to 64.
     pub fn new(size: u16) -> SqTail
         requires { IsQueueSize size }
         ensures { result ≡ empty_submission_tail size }
@@ -40,8 +50,8 @@ impl SqTail {
         }
     }
 
-    /// A completion carried this head: the commands before it were fetched. Where the head does not lie between the
-    /// last one heard and the tail the answer is false, and nothing changes.
+    /// Takes the head of a completion: the commands before it were fetched. Returns false, and changes nothing, if the
+    /// head is not between the last accepted one and the tail.
     pub fn hear(&mut self, head: u16) -> bool
         ensures heard { result ≡ can_be_heard self.old head }
         ensures after { self.new ≡ after_head self.old head }
@@ -57,14 +67,14 @@ impl SqTail {
         true
     }
 
-    /// How many commands can be put: one entry of a queue stays free.
+    /// The number of commands that can be put: one entry of a queue stays free.
     pub fn room(&self) -> u16
         ensures { result ≡ submission_room self.now }
     {
         self.size - 1 - self.unheard
     }
 
-    /// The slot of the command that comes next, which is also the tail that the doorbell takes.
+    /// The slot of the next command, which is also the value for the tail doorbell.
     pub fn slot(&self) -> u16
         ensures slot { result ≡ slot_of self.now.size self.now.put }
         ensures below { result < self.now.size }
@@ -73,7 +83,7 @@ impl SqTail {
         self.put
     }
 
-    /// The next command was put. That there is room is the caller's condition.
+    /// Puts the next command, for which there must be room.
     pub fn advance(&mut self)
         requires { 0 < submission_room self.old }
         ensures { self.new ≡ after_put self.old }

@@ -1,10 +1,10 @@
--- What the end of a script's run says of its text.
+-- For the answers of `run_ready` and `run_reasoned`: what the end of a script's run implies for its text.
 use Rattle.std.proofs.Common.{◌≡◌, ℕ, Bool, List, Option, None, Ok, Err, ◌∙◌, sym, ap, subst}
 use Rattle.std.specs.Prelude.{Result, MatchResult}
 use Rattle.script_text.specs.Streams.{ReadCall, WriteCall}
 use Rattle.script_text.specs.declared.reading.ReadFault.{ReadFault}
 use Rattle.nvme_spec.specs.Blocks.{Device}
-use Rattle.nvme_spec.specs.Configuration.{first_config_fault}
+use Rattle.nvme_spec.specs.Configuration.{Capacity, config_fault}
 use Rattle.nvme_spec.specs.declared.config.ConfigFault.{ConfigFault}
 use Rattle.nvme_spec.specs.declared.config.ConfigFault.TheVariants as fault_of
 use Rattle.nvme_ns.specs.Configured.{configuration}
@@ -21,18 +21,24 @@ use Rattle.nvme_script.specs.ScriptWrites.{IsFault, RunsWriting, StopsAtBy, Stop
 use Rattle.script_text.specs.Lines.{text_lines}
 use Rattle.nvme_script.proofs.Preparing.{accepted_script, same_configuration}
 
--- what is said of the text may be said otherwise
-pub read_then-map : {S : Type 0} (step : S → ReadCall → S → Type 0) (remaining : S → Option (List ℕ)) (old new : S) (fault : ScriptFault) (With Then : List ℕ → Type 0)
-    → ((text : List ℕ) → With text → Then text) → ReadsThen step remaining old new fault With → ReadsThen step remaining old new fault Then
+-- the property of the text may be replaced
+pub read_then-map : {S : Type 0} (step : S → ReadCall → S → Type 0) (remaining : S → Option (List ℕ)) (old new : S)
+    (fault : ScriptFault) (With Then : List ℕ → Type 0)
+    → ((text : List ℕ) → With text → Then text) → ReadsThen step remaining old new fault With
+    → ReadsThen step remaining old new fault Then
 read_then-map step remaining old new fault With Then f h = (h.0, h.1, by h.0 h.2)
   where
-    by : (outcome : Result (List ℕ) ReadFault) → MatchResult outcome With (λ reading. fault ≡ of_reading reading) → MatchResult outcome Then (λ reading. fault ≡ of_reading reading)
+    by : (outcome : Result (List ℕ) ReadFault) → MatchResult outcome With (λ reading. fault ≡ of_reading reading)
+        → MatchResult outcome Then (λ reading. fault ≡ of_reading reading)
     by (Ok text) k = f text k
     by (Err reading) k = k
 
 -- a fault before the first event
-module _ {M W : Type 0} (step : M → MediumCall → M → Type 0) (tells : Bool) (device : M → Device) (write : W → WriteCall → W → Type 0) (contents : W → Option (List ℕ)) (text : List ℕ) (size : ℕ) (old new : M) (before after : W) where
-  pub early_fault : (fault : ScriptFault) → (IsWrite fault → ⊥) → IsEarlyFault fault text size → IsFault step tells device write contents fault text size old new before after
+module _ {M W : Type 0} (step : M → MediumCall → M → Type 0) (tells : Bool) (device : M → Device)
+    (write : W → WriteCall → W → Type 0) (contents : W → Option (List ℕ)) (text : List ℕ) (size : Capacity)
+    (old new : M) (before after : W) where
+  pub early_fault : (fault : ScriptFault) → (IsWrite fault → ⊥) → IsEarlyFault fault text size
+      → IsFault step tells device write contents fault text size old new before after
   early_fault (Syntax n) early h = h
   early_fault (Config n f) early h = h
   early_fault TooLong early h = h
@@ -48,26 +54,42 @@ opening_is_early start fault_of.DoesNotFit h = h
 opening_is_early start fault_of.NoMemory h = h
 
 -- Events that ran over the medium.
-module _ {M W : Type 0} (step : M → MediumCall → M → Type 0) (tells : Bool) (device : M → Device) (write : W → WriteCall → W → Type 0) (contents : W → Option (List ℕ)) (text : List ℕ) (size : ℕ) (old new : M) (before after : W) (script : Script)
-    (opened now : OverMedium FleetState M) (ready : IsReady text script) (accepted : first_config_fault (configuration script.config) size ≡ None)
-    (opens : layers_of opened.state ≡ opening_layers (configuration script.config) (device old)) (medium : opened.medium ≡ old) (left : new ≡ now.medium) (leaves : device new ≡ now.state.subsystem.device) where
+module _ {M W : Type 0} (step : M → MediumCall → M → Type 0) (tells : Bool) (device : M → Device)
+    (write : W → WriteCall → W → Type 0) (contents : W → Option (List ℕ)) (text : List ℕ) (size : Capacity)
+    (old new : M) (before after : W) (script : Script)
+    (opened now : OverMedium FleetState M) (ready : IsReady text script)
+    (accepted : config_fault (configuration script.config) size ≡ None)
+    (opens : layers_of opened.state ≡ opening_layers (configuration script.config) (device old))
+    (medium : opened.medium ≡ old) (left : new ≡ now.medium) (leaves : device new ≡ now.state.subsystem.device) where
   both_of_text : over (layers_of opened.state) opened.medium ≡ layers_of_text device text old
-  both_of_text = λ j. over ((opens ∙ ap (λ c. opening_layers c (device old)) (same_configuration (text_lines text) script ready.says)) j) (medium j)
+  both_of_text = λ j.
+      over
+      ((opens ∙ ap (λ c. opening_layers c (device old)) (same_configuration (text_lines text) script ready.says)) j)
+      (medium j)
 
-  pub called_whole : TranscribesBy (RanCalling step tells) write contents (over (layers_of opened.state) opened.medium) (events_in text) (over (layers_of now.state) now.medium) before after
+  pub called_whole : TranscribesBy (RanCalling step tells) write contents (over (layers_of opened.state) opened.medium)
+      (events_in text) (over (layers_of now.state) now.medium) before after
       → IsScript text size × RunsWriting step tells device write contents text old new before after
   called_whole h =
-      let moved = subst (λ m. TranscribesBy (RanCalling step tells) write contents (layers_of_text device text old) (events_in text) (over (layers_of now.state) m) before after) (sym left)
-      (subst (λ s. TranscribesBy (RanCalling step tells) write contents s (events_in text) (over (layers_of now.state) now.medium) before after) both_of_text h) in (
+      let moved = subst (λ m. TranscribesBy (RanCalling step tells) write contents (layers_of_text device text old)
+      (events_in text) (over (layers_of now.state) m) before after) (sym left)
+      (subst (λ s. TranscribesBy (RanCalling step tells) write contents s (events_in text)
+      (over (layers_of now.state) now.medium) before after) both_of_text h) in (
         accepted_script text size script ready accepted,
-        record { ran = record { last = layers_of now.state; transcribed = moved.transcribed; leaves = leaves }; written = moved.written },
+        record {
+          ran = record { last = layers_of now.state; transcribed = moved.transcribed; leaves = leaves };
+          written = moved.written;
+        },
       )
 
-  pub called_in_part : StopsAtBy (RanCalling step tells) write contents (over (layers_of opened.state) opened.medium) (events_in text) (over (layers_of now.state) now.medium) before after
+  pub called_in_part : StopsAtBy (RanCalling step tells) write contents (over (layers_of opened.state) opened.medium)
+      (events_in text) (over (layers_of now.state) now.medium) before after
       → IsScript text size × StopsWriting step tells device write contents text old new before after
   called_in_part h =
-      let moved = subst (λ m. StopsAtBy (RanCalling step tells) write contents (layers_of_text device text old) (events_in text) (over (layers_of now.state) m) before after) (sym left)
-      (subst (λ s. StopsAtBy (RanCalling step tells) write contents s (events_in text) (over (layers_of now.state) now.medium) before after) both_of_text h) in (
+      let moved = subst (λ m. StopsAtBy (RanCalling step tells) write contents (layers_of_text device text old)
+      (events_in text) (over (layers_of now.state) m) before after) (sym left)
+      (subst (λ s. StopsAtBy (RanCalling step tells) write contents s (events_in text)
+      (over (layers_of now.state) now.medium) before after) both_of_text h) in (
         accepted_script text size script ready accepted,
         record {
           ran = record { last = layers_of now.state; stopped = moved.stopped; leaves = leaves };

@@ -1,4 +1,4 @@
--- A run of both layers over a medium is one of the mailboxes.
+-- Proof of the law `run_is_of_mailboxes`: a run of both layers over a medium is one of the mailboxes.
 use Rattle.std.proofs.Common.{◌≡◌, ◌∙◌, ℕ, Bool, List, [], ◌∷◌, ◌++◌, take, map, refl, ap, subst}
 use Rattle.nvme_spec.specs.Blocks.{Device}
 use Rattle.nvme_spec.specs.Configuration.{Configuration}
@@ -18,7 +18,8 @@ use Rattle.nvme_script.specs.RunLaws.{CallingRuns, CallingStops}
 fleet-opened : (c : Configuration) (d : Device) → fleet_in (opening_layers c d) ≡ opening c d
 fleet-opened c d = opened-mailboxes c d (machine.opening c d) (map opening_driver c.controllers) [] refl refl
 
-mailboxes-ran : (tells : Bool) (old new : Layers) (events : List FleetEvent) (replies : List Reply) (calls : List MediumCall) → AreCallsOfRun tells old events replies new calls
+mailboxes-ran : (tells : Bool) (old new : Layers) (events : List FleetEvent) (replies : List Reply)
+    (calls : List MediumCall) → AreCallsOfRun tells old events replies new calls
     → Run tells (fleet_in old) events replies (fleet_in new)
 mailboxes-ran tells old new [] [] calls h = ap fleet_in h.0
 mailboxes-ran tells old new [] (reply ∷ replies) calls h = absurd h
@@ -26,10 +27,13 @@ mailboxes-ran tells old new (event ∷ events) [] calls h = absurd h
 mailboxes-ran tells old new (event ∷ events) (reply ∷ replies) calls (mid, here, behind, step, rest, joined) =
     (fleet_in mid, step.mailboxes, mailboxes-ran tells mid new events replies behind rest)
 
-from-text : (tells : Bool) (text : List ℕ) (d : Device) (last : Layers) (events : List FleetEvent) (replies : List Reply) (calls : List MediumCall)
-    → AreCallsOfRun tells (opening_layers (configuration_of (text_lines text)) d) events replies last calls → Run tells (fleet_of_text text d) events replies (fleet_in last)
+from-text : (tells : Bool) (text : List ℕ) (d : Device) (last : Layers) (events : List FleetEvent)
+    (replies : List Reply) (calls : List MediumCall)
+    → AreCallsOfRun tells (opening_layers (configuration_of (text_lines text)) d) events replies last calls
+    → Run tells (fleet_of_text text d) events replies (fleet_in last)
 from-text tells text d last events replies calls h =
-    subst (λ (f : Fleet). Run tells f events replies (fleet_in last)) (fleet-opened (configuration_of (text_lines text)) d)
+    subst (λ (f : Fleet). Run tells f events replies (fleet_in last))
+    (fleet-opened (configuration_of (text_lines text)) d)
     (mailboxes-ran tells (opening_layers (configuration_of (text_lines text)) d) last events replies calls h)
 
 left-by : (l : Layers) → l.subsystem.device ≡ (fleet_in l).site.device
@@ -42,7 +46,8 @@ module _ {M : Type 0} (step : M → MediumCall → M → Type 0) (tells : Bool) 
     last = fleet_in h.last;
     transcribed = record {
       replies = h.transcribed.replies;
-      ran = from-text tells text (device old) h.last (events_in text) h.transcribed.replies h.transcribed.ran.calls h.transcribed.ran.are;
+      ran = from-text tells text (device old) h.last
+          (events_in text) h.transcribed.replies h.transcribed.ran.calls h.transcribed.ran.are;
       wrote = h.transcribed.wrote;
     };
     leaves = h.leaves ∙ left-by h.last;
@@ -58,7 +63,8 @@ module _ {M : Type 0} (step : M → MediumCall → M → Type 0) (tells : Bool) 
           is = s.is;
           told = s.told;
           cut = s.cut;
-          ran = from-text tells text (device old) h.last (take s.index (events_in text) ++ s.event ∷ []) (s.told ++ s.cut ∷ []) s.ran.calls s.ran.are;
+          ran = from-text tells text (device old) h.last (take s.index (events_in text) ++ s.event ∷ [])
+              (s.told ++ s.cut ∷ []) s.ran.calls s.ran.are;
           bytes = s.bytes;
           part = s.part;
           wrote = s.wrote;

@@ -1,4 +1,4 @@
--- The events of a text, line by line.
+-- For sessions: the events of a text, line by line.
 use Rattle.std.proofs.Common.{◌≡◌, ℕ, List, [], ◌∷◌, ◌++◌, Option, Some, None, refl, ap, ◌∙◌}
 use Rattle.std.proofs.lemmas.List.Elements.{filter_map-append}
 use Rattle.std.specs.List.{filter_map}
@@ -8,7 +8,8 @@ use Rattle.nvme_grammar.specs.Script.{said, event_in, events_of}
 use Rattle.nvme_grammar.specs.declared.line.Line.{Line}
 
 pub events-append : (a b : List (List ℕ)) → events_of (a ++ b) ≡ events_of a ++ events_of b
-events-append a b = ap (filter_map event_in) (filter_map-append line_at a b) ∙ filter_map-append event_in (said a) (said b)
+events-append a b =
+    ap (filter_map event_in) (filter_map-append line_at a b) ∙ filter_map-append event_in (said a) (said b)
 
 -- the event of a line, if it is one
 abbrev pub event_of_line : Option Line → List FleetEvent

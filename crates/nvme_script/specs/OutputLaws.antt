@@ -1,4 +1,4 @@
--- Which calls a script's run makes of its output, by how it ended.
+-- Statements of the law `output_is_called`: the calls of its output that a script's run makes, by how it ended.
 use Rattle.std.specs.Prelude.{◌<◌, ◌⊎◌, ℕ, Bool, true, false, List, ◌++◌, length, take}
 use Rattle.nvme_medium.specs.declared.medium.Medium as medium
 use Rattle.script_text.specs.Pages.{most_text}
@@ -10,14 +10,14 @@ use Rattle.nvme_script.specs.Buffering.{most_held}
 use Rattle.nvme_script.specs.Faults.{events_in}
 use Rattle.nvme_script.specs.ProgramRuns.{RunsBuffered, RunsUnsent, StopsBuffered}
 
--- The output was called for these bytes, by these calls and no others: they went to it in order, each once, and then it was
--- flushed; or a call failed, which was the last.
+-- The output was called for these bytes, by these calls and no others: they were written to it in order, each once, and
+-- then it was flushed; or a call failed, which was the last.
 abbrev pub Gets : {O : Type 0} → sink.Ghosts O → (O → Bool → O → Type 0) → List ℕ → Bool → O → O → Type 0
 Gets out flushes bytes done before after =
     (calls : List OutputCall) × SendsBytes bytes calls done × Calls (StepsOutput out.step flushes) before calls after
 
 module _ {M O : Type 0} (calls : medium.Ghosts M) (out : sink.Ghosts O) (flushes : O → Bool → O → Type 0) where
-  -- The output of a run that is done got its whole transcript, and no call failed.
+  -- The output of a successful run got its whole transcript, and no call failed.
   abbrev pub DoneIsSent : Type 0
   DoneIsSent =
       (text : List ℕ) (old new : M) (before after : O) (h : RunsBuffered calls out flushes text old new before after)
@@ -31,13 +31,13 @@ module _ {M O : Type 0} (calls : medium.Ghosts M) (out : sink.Ghosts O) (flushes
       ++ line_of h.stopped.ran.stopped.event h.stopped.ran.stopped.cut) false before after
       ⊎ (most_text < length (line_of h.stopped.ran.stopped.event h.stopped.ran.stopped.cut))
 
-  -- A run whose lines were all written ends by `Write` only after a call of the output that failed.
+  -- A run whose lines were all written ends with `Write` only after a failed call of the output.
   abbrev pub UnsentByACall : Type 0
   UnsentByACall =
       (text : List ℕ) (old new : M) (before after : O) (h : RunsUnsent calls out flushes text old new before after)
       → Gets out flushes (transcript (events_in text) h.ran.ran.transcribed.replies) false before after
 
--- A run stops at a line only with more bytes than a buffer holds.
+-- A run stops at a line only after more bytes than a buffer holds.
 abbrev pub StopsBeyondABuffer : {M O : Type 0} → medium.Ghosts M → sink.Ghosts O → Type 0
 StopsBeyondABuffer {M} {O} calls out =
     (text : List ℕ) (old new : M) (before after : O) (h : StopsBuffered calls out text old new before after)

@@ -1,5 +1,5 @@
--- A script's run over the medium that it is given. There is one run: its replies are the transcript's, its calls and no
--- others are made of the medium, in their order, and its last state is what the medium has that is given back.
+-- A script's run over its medium: there is one run, whose replies are the transcript's, which makes its calls of the
+-- medium, in order, and no others, and whose last state is that of the medium that is returned.
 use Rattle.std.specs.Prelude.{◌≡◌, ℕ, Bool, List, Option}
 use Rattle.nvme_spec.specs.Blocks.{Device}
 use Rattle.nvme_spec.specs.MediumCalls.{MediumCall, MakesCalls}
@@ -12,19 +12,19 @@ use Rattle.script_text.specs.Lines.{text_lines}
 use Rattle.nvme_grammar.specs.Script.{configuration_of}
 use Rattle.nvme_script.specs.Faults.{Transcribes, StopsAt, events_in}
 
--- events ran in both layers of a fleet, and by exactly their calls the medium became what it is
+-- events ran in both layers of a fleet, and the medium changed by exactly their calls
 abbrev pub RanCalling :
     {M : Type 0} → (M → MediumCall → M → Type 0) → Bool → OverMedium Layers M → List FleetEvent → List Reply
     → OverMedium Layers M → Type 0
 RanCalling step tells old events replies new =
     MakesCalls step (AreCallsOfRun tells old.state events replies new.state) old.medium new.medium
 
--- both layers, as the configuration of a text opens them over a medium
+-- both layers at the opening of a text's configuration over a medium
 abbrev pub layers_of_text : {M : Type 0} → (M → Device) → List ℕ → M → OverMedium Layers M
 layers_of_text device text medium = over (opening_layers (configuration_of (text_lines text)) (device medium)) medium
 
--- A text ran to its end, over this medium, which became that: the transcript, the calls and what is on the medium are
--- those of one run.
+-- A text ran to its end, over this medium, which became that one: the transcript, the calls and the content of the
+-- medium are those of one run.
 pub record RunsCalling {M : Type 0} (step : M → MediumCall → M → Type 0) (tells : Bool) (device : M → Device)
     (text : List ℕ) (old new : M) (before after : Option (List ℕ)) : Type 0 where
   pub last : Layers
@@ -32,8 +32,8 @@ pub record RunsCalling {M : Type 0} (step : M → MediumCall → M → Type 0) (
       (over last new) before after
   pub leaves : device new ≡ last.subsystem.device
 
--- It stopped at a line that could not be written: what was written, the calls and what is on the medium are those of one
--- run of the events up to that one.
+-- It stopped at a line that could not be written: the bytes written, the calls and the content of the medium are those
+-- of one run of the events up to that one.
 pub record StopsCalling {M : Type 0} (step : M → MediumCall → M → Type 0) (tells : Bool) (device : M → Device)
     (text : List ℕ) (old new : M) (before after : Option (List ℕ)) : Type 0 where
   pub last : Layers

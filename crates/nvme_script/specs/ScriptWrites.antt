@@ -1,7 +1,8 @@
--- The lines of a transcript on their way to a writer: each is written whole by its own writes, before the next event.
+-- Writing the lines of a transcript: each is written whole by its own writes, before the next event.
 use Rattle.std.specs.Prelude.{◌≡◌, ℕ, Bool, List, [], ◌∷◌, take, Option, Ok, Err}
 use Rattle.std.specs.declared.io.Error.{Error}
 use Rattle.nvme_spec.specs.Blocks.{Device}
+use Rattle.nvme_spec.specs.Configuration.{Capacity}
 use Rattle.nvme_spec.specs.MediumCalls.{MediumCall}
 use Rattle.nvme_event.specs.declared.event.FleetEvent.{FleetEvent}
 use Rattle.nvme_event.specs.Replies.{Reply}
@@ -20,7 +21,7 @@ lines_of [] replies = []
 lines_of (event ∷ events) [] = []
 lines_of (event ∷ events) (reply ∷ replies) = line_of event reply ∷ lines_of events replies
 
--- lines were written, one after the other, each whole by its writes and no others
+-- lines were written in order, each whole by its own writes and no others
 abbrev pub WritesLines : {W : Type 0} → (W → WriteCall → W → Type 0) → List (List ℕ) → W → W → Type 0
 WritesLines write [] old new = new ≡ old
 WritesLines {W} write (line ∷ lines) old new =
@@ -37,7 +38,7 @@ pub record TranscribesBy {S W : Type 0} (Ran : S → List FleetEvent → List Re
   pub transcribed : Transcribes Ran old events new (contents before) (contents after)
   pub written : WritesLines write (lines_of events transcribed.replies) before after
 
--- the line of an event was not written whole: those before it were, and nothing was written behind the write that failed
+-- the line of an event was not written whole: those before it were, and no write was made after the one that failed
 pub record StopsAtBy {S W : Type 0} (Ran : S → List FleetEvent → List Reply → S → Type 0)
     (write : W → WriteCall → W → Type 0) (contents : W → Option (List ℕ)) (old : S) (events : List FleetEvent) (new : S)
     (before after : W) : Type 0 where
@@ -46,26 +47,28 @@ pub record StopsAtBy {S W : Type 0} (Ran : S → List FleetEvent → List Reply 
   pub written : WritesLines write (lines_of (take stopped.index events) stopped.told) before between
   pub failed : FailsLine write (line_of stopped.event stopped.cut) between after
 
--- a text ran to its end over this medium, and its transcript was written so
+-- a text ran to its end over this medium, and its transcript was written
 pub record RunsWriting {M W : Type 0} (step : M → MediumCall → M → Type 0) (tells : Bool) (device : M → Device)
-    (write : W → WriteCall → W → Type 0) (contents : W → Option (List ℕ)) (text : List ℕ) (old new : M) (before after : W)
+    (write : W → WriteCall → W → Type 0) (contents : W → Option (List ℕ)) (text : List ℕ) (old new : M)
+    (before after : W)
     : Type 0 where
   pub ran : RunsCalling step tells device text old new (contents before) (contents after)
   pub written : WritesLines write (lines_of (events_in text) ran.transcribed.replies) before after
 
 -- it stopped at a line that could not be written
 pub record StopsWriting {M W : Type 0} (step : M → MediumCall → M → Type 0) (tells : Bool) (device : M → Device)
-    (write : W → WriteCall → W → Type 0) (contents : W → Option (List ℕ)) (text : List ℕ) (old new : M) (before after : W)
+    (write : W → WriteCall → W → Type 0) (contents : W → Option (List ℕ)) (text : List ℕ) (old new : M)
+    (before after : W)
     : Type 0 where
   pub ran : StopsCalling step tells device text old new (contents before) (contents after)
   pub between : W
   pub written : WritesLines write (lines_of (take ran.stopped.index (events_in text)) ran.stopped.told) before between
   pub failed : FailsLine write (line_of ran.stopped.event ran.stopped.cut) between after
 
--- what a fault says of the text, of the medium before and after, and of the writer before and after
+-- what a fault implies for the text, for the medium before and after, and for the writer before and after
 abbrev pub IsFault : {M W : Type 0} → (M → MediumCall → M → Type 0) → Bool → (M → Device) → (W → WriteCall → W → Type 0)
-    → (W → Option (List ℕ)) → ScriptFault → List ℕ → ℕ → M → M → W → W → Type 0
-IsFault step tells device write contents Write text medium_blocks old new before after =
-    IsScript text medium_blocks × StopsWriting step tells device write contents text old new before after
-IsFault step tells device write contents fault text medium_blocks old new before after =
-    IsEarlyFault fault text medium_blocks
+    → (W → Option (List ℕ)) → ScriptFault → List ℕ → Capacity → M → M → W → W → Type 0
+IsFault step tells device write contents Write text size old new before after =
+    IsScript text size × StopsWriting step tells device write contents text old new before after
+IsFault step tells device write contents fault text size old new before after =
+    IsEarlyFault fault text size

@@ -9,8 +9,8 @@ use script_text::{FlushedSink, Sink, write_front};
 use std::io;
 use std::marker::Model;
 
-/// What is written to an output by way of a buffer. What the buffer has no room for is written to the output first, from
-/// the first byte on; so is what is left in the end, by `flush`, and nothing behind a write that fails.
+/// Writes to an output through a buffer. When bytes do not fit the buffer, those in it are written to the output first,
+/// in order; `flush` writes those that are left. It makes no write after one that fails.
 #[derive(Drop)]
 pub(crate) struct Buffered<'o, 'h, O> {
     pub(crate) output: &'o mut O,
@@ -28,7 +28,7 @@ impl<'o, 'h, O> Model for Buffered<'o, 'h, O> {
 impl<O: Sink> Buffered<'_, '_, O> {
     ghost use Rattle.nvme_script.specs.Buffering.{buffer_contents, most_held};
 
-    /// Writes what is held back to the output. What could not be written stays.
+    /// Writes the bytes held back to the output. Those that could not be written stay.
     fn pass_on(&mut self) -> io::Result<()>
         ensures name { self.new.name ≡ self.old.name }
         ensures bytes { Keeps (buffer_contents O.contents self.old) (buffer_contents O.contents self.new) }
@@ -45,7 +45,7 @@ impl<O: Sink> Buffered<'_, '_, O> {
 impl<O: FlushedSink> Buffered<'_, '_, O> {
     ghost use Rattle.nvme_script.specs.Buffering.{buffer_contents, most_held};
 
-    /// Writes what is held back to the output, and flushes that.
+    /// Writes the bytes held back to the output, and flushes it.
     pub(crate) fn flush(&mut self) -> io::Result<()>
         ensures name { self.new.name ≡ self.old.name }
         ensures bytes { Keeps (buffer_contents O.contents self.old) (buffer_contents O.contents self.new) }

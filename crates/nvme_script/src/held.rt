@@ -6,14 +6,14 @@ ghost use Rattle.nvme_script.specs.Buffering.{most_held};
 use std::alloc::{AllocError, Global};
 use std::marker::Model;
 
-/// How many bytes are held back at most.
+/// The most bytes that are held back.
 pub(crate) const MOST_HELD: usize = 8192;
 
-/// At most 8,192 bytes, for which there is room.
+/// At most 8,192 bytes, in a buffer of that length.
 #[derive(Drop)]
 pub(crate) struct Held {
     room: Vec<u8>,
-    /// How many bytes of the room are held.
+    /// The number of bytes that are held.
     len: usize,
 }
 
@@ -29,7 +29,7 @@ impl Model for Held {
 }
 
 impl Held {
-    /// None yet.
+    /// No bytes yet.
     pub(crate) fn new(alloc: Global) -> Result<Held, AllocError>
         ensures { IfOk result (λ held. held ≡ []) }
     {
@@ -39,7 +39,7 @@ impl Held {
         })
     }
 
-    /// Those that are held.
+    /// The bytes that are held.
     pub(crate) fn as_bytes(&self) -> &[u8]
         ensures value { result.now ≡ self.now }
         ensures few { length result.now ≤ most_held }
@@ -47,7 +47,7 @@ impl Held {
         &self.room[..self.len]
     }
 
-    /// Adds bytes that have room.
+    /// Appends bytes, which must fit.
     pub(crate) fn add(&mut self, part: &[u8])
         requires { length self.old + length part.now ≤ most_held }
         ensures { self.new ≡ self.old ++ part.now }
@@ -57,7 +57,7 @@ impl Held {
         self.len = end;
     }
 
-    /// Takes the first bytes away.
+    /// Removes the first bytes.
     pub(crate) fn remove_front(&mut self, count: usize)
         requires { count ≤ length self.old }
         ensures { self.new ≡ drop count self.old }

@@ -1,4 +1,4 @@
-//! Scripts: what hosts do to a subsystem, line by line, and the transcript of what it answers.
+//! Scripts: runs the events of a text over a subsystem, line by line, and writes the transcript of the results.
 #![tactic(auto)]
 
 mod buffered;

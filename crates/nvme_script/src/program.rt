@@ -1,9 +1,13 @@
-//! The program: `nvmesim [IMAGE [SCRIPT]]` over streams that are handed in.
+//! The program `nvmesim [--any-size] [IMAGE [SCRIPT]]` over its streams.
 
 ghost use Rattle.std.specs.Prelude.{◌≡◌, ◌≢◌, ◌≤◌, None, map};
 ghost use Rattle.std.specs.String.{string_bytes};
 ghost use Rattle.std.specs.Result.{result_err};
-ghost use Rattle.nvme_program.specs.CommandLines.{word_fault};
+ghost use Rattle.nvme_program.specs.CommandLines.{
+  after_any_size as after_options,
+  max_blocks_in as max_blocks_of,
+  word_fault,
+};
 ghost use Rattle.nvme_program.specs.Failures.{IsOfRun};
 ghost use Rattle.nvme_script.specs.ProgramRuns.{RunsOver, ScriptProgramEnds, ScriptProgramExits};
 
@@ -13,7 +17,7 @@ use nvme_grammar::LineFault;
 use nvme_medium::{Cached, FileMedium, HostFile, Medium};
 use nvme_program::{
     Failure, HostFiles, Lent, Paths, PlacedFault, PlacedRule, Program, Ran, Reason, Runner,
-    ScriptFault, System, USAGE, launch, status_of,
+    ScriptFault, System, USAGE, after_any_size, allows_any_size, launch, max_blocks_in, status_of,
 };
 use nvme_spec::ConfigFault;
 use script_text::{FlushedSink, Source, read_text};
@@ -23,13 +27,13 @@ use std::io::Write;
 use std::marker::Model;
 use std::rt::Files;
 
-/// The program, as it calls itself.
+/// The program, by its own name.
 const NVMESIM: Program = Program {
     name: "nvmesim",
     usage: USAGE,
 };
 
-/// Why a line of a script is refused; where its text begins as an image does, that.
+/// Why a line of a script is refused; if its text begins like an image, that is the reason.
 fn line_reason<'p, 't>(
     text: &[u8],
     line: usize,
@@ -45,7 +49,8 @@ fn line_reason<'p, 't>(
     }
 }
 
-/// Why the configuration of a script is refused over a medium of so many blocks; where an image has none, that.
+/// Why the configuration of a script is refused over a medium of `blocks` blocks; if an image has none, that is the
+/// reason.
 fn configuration_reason<'p, 't>(
     fault: ConfigFault,
     reason: Option<LineReason<'t>>,
@@ -71,7 +76,7 @@ fn configuration_reason<'p, 't>(
     })
 }
 
-/// Tells why a script was not run to its end.
+/// Reports why a script was not run to its end.
 fn refused<E: Write>(
     errors: &mut E,
     paths: Paths<'_>,
@@ -97,10 +102,11 @@ fn refused<E: Write>(
     NVMESIM.tell(errors, failure, reason)
 }
 
-/// Runs a script over a medium, and writes its transcript through a buffer. Its text is read first, and kept: where it
-/// is refused, the reason is of it.
+/// Runs a script over a medium, and writes its transcript through a buffer. It reads the whole text first, which the
+/// reason of a refusal quotes.
 fn run_over<I: Source, O: FlushedSink, E: Write, M: Medium>(
     alloc: Global,
+    max_blocks: u64,
     paths: Paths<'_>,
     input: &mut I,
     output: &mut O,
@@ -108,7 +114,7 @@ fn run_over<I: Source, O: FlushedSink, E: Write, M: Medium>(
     medium: M,
 ) -> Ran<M>
     ensures end { IsOfRun (result_err result.outcome) }
-    ensures ran { RunsOver I.Source M.Medium O.Sink O.flushes input.old input.new medium result.medium
+    ensures ran { RunsOver I.Source M.Medium O.Sink O.flushes max_blocks input.old input.new medium result.medium
         output.old (result_err result.outcome) output.new }
 {
     let text = match read_text(alloc, input) {
@@ -119,7 +125,7 @@ fn run_over<I: Source, O: FlushedSink, E: Write, M: Medium>(
             return Ran { medium, outcome };
         }
     };
-    match run_through(alloc, text.as_slice(), output, medium) {
+    match run_through(alloc, max_blocks, text.as_slice(), output, medium) {
         Ok(medium) => Ran {
             medium,
             outcome: Ok(()),
@@ -132,12 +138,13 @@ fn run_over<I: Source, O: FlushedSink, E: Write, M: Medium>(
     }
 }
 
-/// The streams of the program.
+/// The streams of the program, and the most blocks that a namespace may have.
 #[derive(Drop)]
 struct Streams<'i, 'o, 'e, I, O, E> {
     input: Lent<'i, I>,
     output: Lent<'o, O>,
     errors: &'e mut E,
+    max_blocks: u64,
 }
 
 impl<'i, 'o, 'e, I, O, E> Model for Streams<'i, 'o, 'e, I, O, E> {
@@ -145,7 +152,7 @@ impl<'i, 'o, 'e, I, O, E> Model for Streams<'i, 'o, 'e, I, O, E> {
 
     ghost Value = { Streams I O };
 
-    ghost view = { λ s. streams s.input s.output };
+    ghost view = { λ s. streams s.input s.output s.max_blocks };
 }
 
 /// Without a named script it is the input.
@@ -171,8 +178,21 @@ impl<I: Source, O: FlushedSink, E: Write> Runner for Streams<'_, '_, '_, I, O, E
         script: &mut T,
         medium: M,
     ) -> Ran<M> {
-        let Streams { output, errors, .. } = self;
-        run_over(alloc, paths, script, output.stream, errors, medium)
+        let Streams {
+            output,
+            errors,
+            max_blocks,
+            ..
+        } = self;
+        run_over(
+            alloc,
+            *max_blocks,
+            paths,
+            script,
+            output.stream,
+            errors,
+            medium,
+        )
     }
 
     fn run_unnamed<M: Medium + Drop>(
@@ -185,8 +205,17 @@ impl<I: Source, O: FlushedSink, E: Write> Runner for Streams<'_, '_, '_, I, O, E
             input,
             output,
             errors,
+            max_blocks,
         } = self;
-        run_over(alloc, paths, input.stream, output.stream, errors, medium)
+        run_over(
+            alloc,
+            *max_blocks,
+            paths,
+            input.stream,
+            output.stream,
+            errors,
+            medium,
+        )
     }
 
     fn tell(&mut self, failure: Failure, reason: Option<Reason<'_, '_>>) -> Failure {
@@ -201,18 +230,19 @@ fn launch_over<S: System, I: Source, O: FlushedSink, E: Write>(
     streams: &mut Streams<'_, '_, '_, I, O, E>,
     words: &[String],
 ) -> Result<(), Failure>
+    requires allowed { streams.old.max_blocks ≡ max_blocks_of (map string_bytes words.now) }
     ensures ends { ScriptProgramEnds S.step S.Image.Medium ⟦<Cached<S::Image> as Medium>⟧ S.Script.Source
         I.Source O.Sink O.flushes (map string_bytes words.now) system.old streams.old.input streams.old.output
         (result_err result) system.new streams.new.input streams.new.output }
     ensures input { streams.new.input_name ≡ streams.old.input_name }
     ensures output { streams.new.output_name ≡ streams.old.output_name }
 {
-    launch(alloc, system, streams, words)
+    let options = usize::from(allows_any_size(words));
+    launch(alloc, system, streams, after_any_size(words), options)
 }
 
-/// The program in any system: which files it opens, in which order, and what ends it. Its words are those of
-/// `run_program`. For a failure one line goes to `errors`, and behind it a second, which gives the reason, for all but
-/// out of memory.
+/// Runs the program in any system: opens its files in order, until something ends it. Its words are those of
+/// `run_program`. A failure writes one line to `errors`, and a second with the reason, unless it is out of memory.
 pub fn run_in<S: System, I: Source, O: FlushedSink, E: Write>(
     alloc: Global,
     system: &mut S,
@@ -229,18 +259,20 @@ pub fn run_in<S: System, I: Source, O: FlushedSink, E: Write>(
         input: Lent { stream: input },
         output: Lent { stream: output },
         errors,
+        max_blocks: max_blocks_in(words),
     };
     let outcome = launch_over(alloc, system, &mut streams, words);
-    // Taken apart, so that what it leaves of the input and the output is known.
+    // Destructured, so that the state of the input and the output afterwards is known.
     let Streams { input, output, .. } = streams;
     let Lent { stream: _input } = input;
     let Lent { stream: _output } = output;
     outcome
 }
 
-/// The program over the streams that it is handed: its words, the first of which is its name, its standard input,
-/// output and error. The answer is its exit status: 0 done; 1 a fault of the script; 2 a file or stream that can't be
-/// opened, read or written; 3 a refused command line; 4 out of memory.
+/// Runs the program over its streams: `words`, the first of which is its name, and its standard input, output and
+/// error. After a first word `--any-size` a namespace may have more than 65,536 blocks. Returns the exit status: 0
+/// success; 1 a fault of the script; 2 a file or stream that can't be opened, read or written; 3 a refused command
+/// line; 4 out of memory.
 #[tactic(auto, using(crate::proofs::Launching::refused_status, crate::proofs::Launching::taken_status))]
 pub fn run_program<R: Files<File = File> + AllocGlobal, I: Source, O: FlushedSink, E: Write>(
     rt: &R,
@@ -253,8 +285,8 @@ pub fn run_program<R: Files<File = File> + AllocGlobal, I: Source, O: FlushedSin
     ensures run { ScriptProgramExits ⟦<HostFiles<'static, R> as System>⟧.step ⟦<FileMedium<HostFile> as Medium>⟧
         ⟦<Cached<FileMedium<HostFile>> as Medium>⟧ ⟦<File as Source>⟧ I.Source O.Sink O.flushes
         (map string_bytes words.now) input.old output.old result input.new output.new }
-    ensures refused { word_fault (map string_bytes words.now) ≢ None → result ≡ 3 }
-    ensures taken { word_fault (map string_bytes words.now) ≡ None → result ≢ 3 }
+    ensures refused { word_fault (after_options (map string_bytes words.now)) ≢ None → result ≡ 3 }
+    ensures taken { word_fault (after_options (map string_bytes words.now)) ≡ None → result ≢ 3 }
 {
     status_of(run_in(
         rt.alloc(),

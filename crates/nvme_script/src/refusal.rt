@@ -1,7 +1,10 @@
-//! Why a text is not run to its end, with what of it is at fault.
+//! Why a text is not run to its end, with the line at fault.
 
 ghost use Rattle.nvme_program.specs.FaultKinds.{of_grammar};
-ghost use Rattle.nvme_program.specs.declared.fault.ScriptFault.TheVariants.{NoMemory as MemoryRefused, Write as Unwritten};
+ghost use Rattle.nvme_program.specs.declared.fault.ScriptFault.TheVariants.{
+  NoMemory as MemoryRefused,
+  Write as Unwritten,
+};
 ghost use Rattle.std.specs.Prelude.{◌≡◌};
 
 use nvme_grammar::{LineFault, ParseFault};
@@ -9,7 +12,7 @@ use nvme_ns::BrokenRule;
 use nvme_program::ScriptFault;
 use std::alloc::AllocError;
 
-/// What is at fault in a line of a text, which was found as the text was read.
+/// The fault of a line, found while its text was read.
 #[derive(Clone, Copy)]
 pub(crate) enum LineReason<'t> {
     /// The line is outside the grammar.
@@ -18,7 +21,7 @@ pub(crate) enum LineReason<'t> {
     Breaks(usize, BrokenRule),
 }
 
-/// Why a text is not run to its end, and what is at fault in the line that is, where one is.
+/// Why a text is not run to its end, and the fault of its line, if there is one.
 #[derive(Clone, Copy)]
 pub(crate) struct Refusal<'t> {
     pub(crate) fault: ScriptFault,

@@ -1,8 +1,9 @@
-//! A script from its text to its transcript.
+//! Runs a script from its text to its transcript.
 
 ghost use Rattle.std.specs.Prelude.{◌≡◌, ◌≤◌, ◌⊎◌, ◌∷◌, [], ℕ, List, IfOk, IfErr, OnOk, OnErr, Ok, length};
 ghost use Rattle.script_text.specs.Reading.{IsRead, longest};
 ghost use Rattle.nvme_grammar.specs.Room.{HasTextRoom, HasWordsRoom};
+ghost use Rattle.nvme_spec.specs.Configuration.{Capacity, capacity, script_capacity};
 ghost use Rattle.nvme_spec.specs.Execution.{no_marks};
 ghost use Rattle.nvme_fleet.specs.FleetStates.{layers_of};
 ghost use Rattle.nvme_subsys.specs.OverMedium.{over};
@@ -17,7 +18,7 @@ use crate::refusal::{LineReason, Refusal};
 use nvme_fleet::{Fleet, NewFault};
 use nvme_grammar::{Buffers, KeptEvent, Script, parse};
 use nvme_medium::Medium;
-use nvme_ns::{ConfigReason, refusal_of};
+use nvme_ns::{ConfigReason, MAX_BLOCKS, refusal_of};
 use nvme_program::{ScriptFault, number_in};
 use nvme_spec::{ConfigFault, Marks};
 use nvme_transcript::{TranscriptLine, write_line};
@@ -25,7 +26,7 @@ use script_text::{Sink, Source, Text, read_text};
 use std::alloc::Global;
 use std::io;
 
-/// What a text says, and the room that its events work in: no memory is taken after its fleet is made.
+/// A script that was read, and the buffers for its events: no memory is taken after its fleet is made.
 #[derive(Drop)]
 struct Ready {
     script: Script,
@@ -34,13 +35,13 @@ struct Ready {
     line: Text,
 }
 
-/// Judges a text, and makes the room that its events work in.
+/// Checks a text, and makes the buffers for its events.
 fn prepare(alloc: Global, text: &[u8]) -> Result<Ready, Refusal<'_>>
     requires short { length text.now ≤ longest }
     ensures script { IfOk result (λ ready. IsReady text.now ready.script) }
     ensures bytes_room { IfOk result (λ ready. HasTextRoom text.now ready.buffers.bytes.items) }
     ensures identifiers_room { IfOk result (λ ready. HasWordsRoom text.now ready.buffers.identifiers.items) }
-    ensures fault { IfErr result (λ refusal. (size : ℕ) → IsEarlyFault refusal.fault text.now size) }
+    ensures fault { IfErr result (λ refusal. (size : Capacity) → IsEarlyFault refusal.fault text.now size) }
     ensures early { IfErr result (λ refusal. ¬ IsWrite refusal.fault) }
 {
     let mut buffers = Buffers::for_text(alloc, text)?;
@@ -63,18 +64,23 @@ fn refused_at(start: Option<usize>, fault: ConfigFault) -> ScriptFault
     }
 }
 
-/// The line of a text whose configuration is refused over so many blocks, and the rule that it breaks.
-fn broken_rule<'t>(text: &[u8], ready: &mut Ready, blocks: u64) -> Option<LineReason<'t>>
+/// The line of a text whose configuration is refused, and the rule that it breaks.
+fn broken_rule<'t>(
+    text: &[u8],
+    ready: &mut Ready,
+    max_blocks: u64,
+    medium_blocks: u64,
+) -> Option<LineReason<'t>>
     requires bytes_room { HasTextRoom text.now ready.old.buffers.bytes.items }
     requires identifiers_room { HasWordsRoom text.now ready.old.buffers.identifiers.items }
 {
-    let ConfigReason { line, rule } = refusal_of(&ready.script.config, blocks)?;
+    let ConfigReason { line, rule } = refusal_of(&ready.script.config, max_blocks, medium_blocks)?;
     let buffers = &mut ready.buffers;
     let number = number_in(line, text, &mut buffers.bytes, &mut buffers.identifiers)?;
     Some(LineReason::Breaks(number, rule))
 }
 
-/// Empties the room for what an event marks, of which a transcript says nothing.
+/// Empties the list of an event's marks, which a transcript does not show.
 fn unmark(marks: &mut Marks)
     ensures { marks.new ≡ no_marks }
 {
@@ -82,9 +88,9 @@ fn unmark(marks: &mut Marks)
     marks.hosts.clear();
 }
 
-/// Lets an event happen that was kept of a text, and writes its line of the transcript, which has room in what is lent.
-/// What it marks has room there too, which is empty before and afterwards: it is not cleared for each event. Nothing
-/// happens where the line that it is kept as says no event.
+/// Applies a stored event of a text, and writes its line of the transcript, with the borrowed buffers. `marks` must be
+/// empty, and is empty afterwards, so that it need not be cleared for each event. Nothing happens if the line in which
+/// it is stored is not an event.
 fn run_event<W: Sink, M: Medium>(
     text: &[u8],
     kept: KeptEvent,
@@ -109,7 +115,7 @@ fn run_event<W: Sink, M: Medium>(
     let Some(event) = kept.event(text, bytes, identifiers) else {
         return Ok(());
     };
-    let seen = fleet.apply_marking(event, marks);
+    let seen = fleet.apply_into(event, marks);
     unmark(marks);
     let data = fleet.data();
     let shown = TranscriptLine {
@@ -120,7 +126,7 @@ fn run_event<W: Sink, M: Medium>(
     write_line(writer, line, &shown)
 }
 
-/// Lets the events happen that were kept of a text, in their order, and writes the line of each before the next one.
+/// Applies the stored events of a text, in order, and writes the line of each before the next one.
 pub fn run_events<W: Sink, M: Medium>(
     text: &[u8],
     events: &[KeptEvent],
@@ -155,9 +161,10 @@ pub fn run_events<W: Sink, M: Medium>(
     Ok(())
 }
 
-/// Runs a script that was judged: opens its configuration over the medium, and lets its events happen.
+/// Runs a script that was checked: opens its configuration over the medium, and applies its events.
 fn run_ready<'t, W: Sink, M: Medium>(
     alloc: Global,
+    max_blocks: u64,
     text: &'t [u8],
     ready: &mut Ready,
     writer: &mut W,
@@ -166,18 +173,18 @@ fn run_ready<'t, W: Sink, M: Medium>(
     requires script { IsReady text.now ready.old.script }
     requires bytes_room { HasTextRoom text.now ready.old.buffers.bytes.items }
     requires identifiers_room { HasWordsRoom text.now ready.old.buffers.identifiers.items }
-    ensures ok { IfOk result (λ after. IsScript text.now (M.size medium)
+    ensures ok { IfOk result (λ after. IsScript text.now (capacity max_blocks (M.size medium))
         × RunsWriting M.step M.tells M.device W.step W.contents text.now medium after writer.old writer.new) }
     ensures fault { IfErr result (λ e. IsFault M.step M.tells M.device W.step W.contents e.0.fault text.now
-        (M.size medium) medium e.1 writer.old writer.new) }
+        (capacity max_blocks (M.size medium)) medium e.1 writer.old writer.new) }
     ensures early { IfErr result (λ e. IsWrite e.0.fault ⊎ ((e.1 ≡ medium) × (writer.new ≡ writer.old))) }
 {
-    let mut fleet = match Fleet::new(alloc, &ready.script.config, medium) {
+    let mut fleet = match Fleet::within(alloc, &ready.script.config, max_blocks, medium) {
         Ok(fleet) => fleet,
         Err(NewFault { fault, medium }) => {
             let refusal = Refusal {
                 fault: refused_at(ready.script.start, fault),
-                reason: broken_rule(text, ready, medium.blocks()),
+                reason: broken_rule(text, ready, max_blocks, medium.blocks()),
             };
             return Err((refusal, medium));
         }
@@ -197,32 +204,33 @@ fn run_ready<'t, W: Sink, M: Medium>(
     }
 }
 
-/// Runs a script as `run_text` does; where a line of it is refused, what is at fault there comes with the fault.
+/// Runs a script as `run_text` does; if a line of it is refused, the fault comes with the line's.
 pub(crate) fn run_reasoned<'t, W: Sink, M: Medium>(
     alloc: Global,
+    max_blocks: u64,
     text: &'t [u8],
     writer: &mut W,
     medium: M,
 ) -> Result<M, (Refusal<'t>, M)>
     requires short { length text.now ≤ longest }
-    ensures ok { IfOk result (λ after. IsScript text.now (M.size medium)
+    ensures ok { IfOk result (λ after. IsScript text.now (capacity max_blocks (M.size medium))
         × RunsWriting M.step M.tells M.device W.step W.contents text.now medium after writer.old writer.new) }
     ensures fault { IfErr result (λ e. IsFault M.step M.tells M.device W.step W.contents e.0.fault text.now
-        (M.size medium) medium e.1 writer.old writer.new) }
+        (capacity max_blocks (M.size medium)) medium e.1 writer.old writer.new) }
     ensures early { IfErr result (λ e. IsWrite e.0.fault ⊎ ((e.1 ≡ medium) × (writer.new ≡ writer.old))) }
 {
     match prepare(alloc, text) {
-        Ok(mut ready) => run_ready(alloc, text, &mut ready, writer, medium),
+        Ok(mut ready) => run_ready(alloc, max_blocks, text, &mut ready, writer, medium),
         Err(refusal) => Err((refusal, medium)),
     }
 }
 
-/// Runs a script whose text was read: opens its configuration over the medium, and lets its events happen in their
-/// order, each of which adds its line to the transcript. `run_script` reads the text too.
+/// Runs a script whose text was read: opens its configuration over the medium, and applies its events in order, each of
+/// which writes its line of the transcript. `run_script` reads the text too.
 ///
 /// The text has at most 4,194,304 bytes. Faults are found in the order grammar (`Syntax`), configuration (`Config`),
-/// writing (`Write`). `NoMemory` may come at any point before the first event, and never later. What holds after each of
-/// them is what `run_script` says.
+/// writing (`Write`). `NoMemory` may come at any point before the first event, and never later. The state after each of
+/// them is as for `run_script`.
 pub fn run_text<W: Sink, M: Medium>(
     alloc: Global,
     text: &[u8],
@@ -231,32 +239,32 @@ pub fn run_text<W: Sink, M: Medium>(
 ) -> Result<M, (ScriptFault, M)>
     requires short { length text.now ≤ longest }
     // One run of the text's events: the transcript is that of its replies, written line by line, exactly its calls are
-    // made of the medium, and the medium has what it left.
-    ensures ok { IfOk result (λ after. IsScript text.now (M.size medium)
+    // made of the medium, and the medium is the one that it left.
+    ensures ok { IfOk result (λ after. IsScript text.now (script_capacity (M.size medium))
         × RunsWriting M.step M.tells M.device W.step W.contents text.now medium after writer.old writer.new) }
-    // What each fault says of the text.
+    // What each fault implies for the text.
     ensures fault { IfErr result (λ e. IsFault M.step M.tells M.device W.step W.contents e.0 text.now
-        (M.size medium) medium e.1 writer.old writer.new) }
-    // Each fault but one of the writer comes before the first event, and no call is made of the medium.
+        (script_capacity (M.size medium)) medium e.1 writer.old writer.new) }
+    // Each fault except one of the writer comes before the first event, and no call is made of the medium.
     ensures early { IfErr result (λ e. IsWrite e.0 ⊎ ((e.1 ≡ medium) × (writer.new ≡ writer.old))) }
 {
-    match run_reasoned(alloc, text, writer, medium) {
+    match run_reasoned(alloc, MAX_BLOCKS, text, writer, medium) {
         Ok(medium) => Ok(medium),
         Err((refusal, medium)) => Err((refusal.fault, medium)),
     }
 }
 
-/// Runs a script: reads it whole, opens its configuration over the medium, and lets its events happen in their order,
-/// each of which adds its line to the transcript.
+/// Runs a script: reads it whole, opens its configuration over the medium, and applies its events in order, each of
+/// which writes its line of the transcript.
 ///
-/// The text that the reader gives is answered exactly as the definitions say. It is read by the reads of `read_text`,
-/// and nothing behind them. Faults are found in the order reading (`Read`, `TooLong`), grammar (`Syntax`),
-/// configuration (`Config`), writing (`Write`). `Read` comes only where a read failed. `NoMemory` may come at any point
-/// before the first event, and never later. After all but `Write` nothing was written and the medium is as it was, with
-/// no call made of it; after `Write` exactly the events up to and including the one whose line could not be written have
-/// happened, the lines before that one were written whole, and of its own line not all. Of the medium exactly the calls
-/// of the events that happened are made, in their order. Each line is written by writes of all that is left of it, and
-/// `Write` comes only where one of them failed, or where a line is longer than a text may be.
+/// The definitions determine the transcript of the text. It is read by the reads of `read_text`, and by none after
+/// them. Faults are found in the order reading (`Read`, `TooLong`), grammar (`Syntax`), configuration (`Config`),
+/// writing (`Write`). `Read` comes only if a read failed. `NoMemory` may come at any point before the first event, and
+/// never later. After all faults except `Write`, nothing was written, no call was made of the medium, and it is
+/// unchanged. After `Write`, exactly the events up to and including the one whose line could not be written have
+/// happened; the lines before that one were written whole, and of its own line not all. Exactly the calls of the events
+/// that happened are made of the medium, in order. Each line is written by writes of all that is left of it, and
+/// `Write` comes only if one of them failed, or if a line is longer than a text may be.
 pub fn run_script<R: Source, W: Sink, M: Medium>(
     alloc: Global,
     reader: &mut R,
@@ -264,14 +272,15 @@ pub fn run_script<R: Source, W: Sink, M: Medium>(
     medium: M,
 ) -> Result<M, (ScriptFault, M)>
     // One run of the events of the text that was read: the transcript is that of its replies, written line by line,
-    // exactly its calls are made of the medium, and the medium has what it left.
+    // exactly its calls are made of the medium, and the medium is the one that it left.
     ensures ok { IfOk result (λ after. (text : List ℕ) × IsRead R.step R.remaining reader.old (Ok text) reader.new
-        × IsScript text (M.size medium)
+        × IsScript text (script_capacity (M.size medium))
         × RunsWriting M.step M.tells M.device W.step W.contents text medium after writer.old writer.new) }
-    // What each fault says of the reads, and of the text that they gave.
+    // What each fault implies for the reads, and for the text that they gave.
     ensures fault { IfErr result (λ e. ReadsThen R.step R.remaining reader.old reader.new e.0 (λ text.
-        IsFault M.step M.tells M.device W.step W.contents e.0 text (M.size medium) medium e.1 writer.old writer.new)) }
-    // Each fault but one of the writer comes before the first event, and no call is made of the medium.
+        IsFault M.step M.tells M.device W.step W.contents e.0 text
+        (script_capacity (M.size medium)) medium e.1 writer.old writer.new)) }
+    // Each fault except one of the writer comes before the first event, and no call is made of the medium.
     ensures early { IfErr result (λ e. IsWrite e.0 ⊎ ((e.1 ≡ medium) × (writer.new ≡ writer.old))) }
 {
     match read_text(alloc, reader) {

@@ -1,5 +1,23 @@
--- The laws of attachments.
-use Rattle.std.proofs.Common.{◌≡◌, ℕ, ◌==◌, Bool, true, false, cond, not, ◌&&◌, List, [], ◌∷◌, filter, map, refl, ap, ◌∙◌}
+-- Proofs of the laws in `laws/attachments.rt`.
+use Rattle.std.proofs.Common.{
+  ◌≡◌,
+  ℕ,
+  ◌==◌,
+  Bool,
+  true,
+  false,
+  cond,
+  not,
+  ◌&&◌,
+  List,
+  [],
+  ◌∷◌,
+  filter,
+  map,
+  refl,
+  ap,
+  ◌∙◌,
+}
 use Rattle.std.specs.Prelude.{◌||◌}
 use Rattle.std.specs.List.{list_any}
 use Rattle.std.proofs.Math.Bool.{and-false}
@@ -30,7 +48,7 @@ adds_the_listed w nsid controllers cntlid n =
     list_any-append (names cntlid n) w.attachments (map (λ c. (c, nsid)) controllers)
     ∙ ap (λ later. list_any (names cntlid n) w.attachments || later) (listed nsid cntlid n controllers)
 
--- one step of a list whose elements that fail a test are kept, where the elements that are sought are all tested alike
+-- one step of a list without the elements that fail a test, if all elements of interest have the same test result
 step : (found tested alike kept later : Bool) → (found ≡ true → tested ≡ alike) → kept ≡ (later && not alike)
     → cond (not tested) (found || kept) kept ≡ ((found || later) && not alike)
 step true true true kept later h e = e ∙ and-false later
@@ -40,7 +58,8 @@ step true false false kept later h e = refl
 step false true alike kept later h e = e
 step false false alike kept later h e = e
 
-any-cond : (p : ℕ × ℕ → Bool) → (b : Bool) → (xs ys : List (ℕ × ℕ)) → list_any p (cond b xs ys) ≡ cond b (list_any p xs) (list_any p ys)
+any-cond : (p : ℕ × ℕ → Bool) → (b : Bool) → (xs ys : List (ℕ × ℕ))
+    → list_any p (cond b xs ys) ≡ cond b (list_any p xs) (list_any p ys)
 any-cond p true xs ys = refl
 any-cond p false xs ys = refl
 
@@ -49,12 +68,14 @@ kept_alike : (p q : ℕ × ℕ → Bool) → (alike : Bool) → ((a : ℕ × ℕ
 kept_alike p q alike h [] = refl
 kept_alike p q alike h (a ∷ rest) =
     any-cond p (not (q a)) (a ∷ filter (λ x. not (q x)) rest) (filter (λ x. not (q x)) rest)
-    ∙ step (p a) (q a) alike (list_any p (filter (λ x. not (q x)) rest)) (list_any p rest) (h a) (kept_alike p q alike h rest)
+    ∙ step (p a) (q a) alike (list_any p (filter (λ x. not (q x)) rest)) (list_any p rest) (h a)
+    (kept_alike p q alike h rest)
 
 pub removes_the_listed : RemovesTheListed
 unfolding is_attached
 removes_the_listed w nsid controllers cntlid n =
-    kept_alike (names cntlid n) (λ (a : ℕ × ℕ). (a.1 == nsid) && list_any (λ c. c == a.0) controllers) (n == nsid && is_one_of cntlid controllers)
+    kept_alike (names cntlid n) (λ (a : ℕ × ℕ). (a.1 == nsid) && list_any (λ c. c == a.0) controllers)
+    (n == nsid && is_one_of cntlid controllers)
     (λ (a : ℕ × ℕ) found.
     let parts : ((a.0 == cntlid) ≡ true) × ((a.1 == n) ≡ true) = and_parts (a.0 == cntlid) (a.1 == n) found in
     ap (λ k. (k == nsid) && list_any (λ c. c == a.0) controllers) (eqb-true a.1 n parts.1)

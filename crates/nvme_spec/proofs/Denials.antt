@@ -1,11 +1,36 @@
--- The statuses that rules deny an I/O command with.
-use Rattle.std.proofs.Common.{ℕ, ◌==◌, not, ◌&&◌, ◌||◌, filter, Bool, true, false, List, [], ◌∷◌, ◌++◌, Option, None, Some, Result, Ok, Err, refl}
+-- For laws about statuses and calls: the statuses with which rules deny an I/O command.
+use Rattle.std.proofs.Common.{
+  ℕ,
+  ◌==◌,
+  not,
+  ◌&&◌,
+  ◌||◌,
+  filter,
+  Bool,
+  true,
+  false,
+  List,
+  [],
+  ◌∷◌,
+  ◌++◌,
+  Option,
+  None,
+  Some,
+  Result,
+  Ok,
+  Err,
+  refl,
+}
 use Rattle.std.specs.Prelude.{if◌then◌else◌}
 use Rattle.std.specs.List.{AllByRecursion}
 use Rattle.nvme_wire.specs.Submission.{opcode, nsid}
 use Rattle.nvme_wire.specs.declared.status.Status.{Status}
 use Rattle.nvme_spec.specs.declared.command.Command.{Command}
-use Rattle.nvme_spec.specs.declared.command.Command.TheVariants.{ReservationRegister, ReservationAcquire, ReservationRelease}
+use Rattle.nvme_spec.specs.declared.command.Command.TheVariants.{
+  ReservationRegister,
+  ReservationAcquire,
+  ReservationRelease,
+}
 use Rattle.nvme_spec.specs.declared.pointer.DataFault.{DataFault}
 use Rattle.nvme_spec.specs.declared.pointer.DataFault.TheVariants.{Offset, Outside}
 use Rattle.nvme_spec.specs.declared.verdict.Verdict.{Verdict}
@@ -14,10 +39,43 @@ use Rattle.nvme_spec.specs.Reservation as resv
 use Rattle.nvme_spec.specs.World.{World, Namespace, host_of, namespace_of}
 use Rattle.nvme_spec.specs.declared.access.Hold.TheVariants.{Free}
 use Rattle.nvme_spec.specs.Commands.{command_of, data_length_of, action, iekey, rtype, cptpl}
-use Rattle.nvme_spec.specs.Rules.{Rule, Test, Judgement, judgement_by, denial_by, first_failure, first_failing, else_by, refusal_tests}
-use Rattle.nvme_spec.specs.IoRules.{mark_rule, opcode_rule, form_rule, nsid_rule, attachment_rule, field_rule, reservation_rule, protection_rule, range_rule, conclusion}
+use Rattle.nvme_spec.specs.Rules.{
+  Rule,
+  Test,
+  Judgement,
+  judgement_by,
+  denial_by,
+  first_failure,
+  first_failing,
+  else_by,
+  refusal_tests,
+}
+use Rattle.nvme_spec.specs.IoRules.{
+  mark_rule,
+  opcode_rule,
+  form_rule,
+  nsid_rule,
+  attachment_rule,
+  field_rule,
+  reservation_rule,
+  protection_rule,
+  range_rule,
+  conclusion,
+}
 use Rattle.nvme_spec.specs.DataRules.{pointer_rule, data_fault, fault_tests}
-use Rattle.nvme_spec.specs.IoData.{current_key, other_key, action_outcome, outcome_in, outcome_tests, reservation_outcome, action_rule, io_judgement, io_rules, io_verdict, data_of}
+use Rattle.nvme_spec.specs.IoData.{
+  current_key,
+  other_key,
+  action_outcome,
+  outcome_in,
+  outcome_tests,
+  reservation_outcome,
+  action_rule,
+  io_judgement,
+  io_rules,
+  io_verdict,
+  data_of,
+}
 use Rattle.nvme_spec.specs.Statuses as status
 use Rattle.nvme_spec.specs.StatusLaws.{IsAmong, denials}
 
@@ -40,7 +98,8 @@ abbrev pub FailureRefuses : Option Status → Type 0
 FailureRefuses None = Unit {0}
 FailureRefuses (Some s) = Refuses s
 
-if-refuses : (b : Bool) (s : Status) (o : Option Status) → Refuses s → FailureRefuses o → FailureRefuses (if b then Some s else o)
+if-refuses : (b : Bool) (s : Status) (o : Option Status)
+    → Refuses s → FailureRefuses o → FailureRefuses (if b then Some s else o)
 if-refuses true s o f g = f
 if-refuses false s o f g = g
 
@@ -74,7 +133,8 @@ unfoldable pub RefusalRefuses : {T : Type 0} → Result T Status → Type 0
 RefusalRefuses (Ok next) = Unit {0}
 RefusalRefuses (Err s) = Refuses s
 
-pub if-refusal : {T : Type 0} (b : Bool) (x y : Result T Status) → RefusalRefuses x → RefusalRefuses y → RefusalRefuses (if b then x else y)
+pub if-refusal : {T : Type 0} (b : Bool) (x y : Result T Status) → RefusalRefuses x → RefusalRefuses y
+    → RefusalRefuses (if b then x else y)
 if-refusal true x y f g = f
 if-refusal false x y f g = g
 
@@ -104,25 +164,31 @@ invalid = refl
 register-refuses : (r : resv.Reservation) (host key : ℕ) → RefusalRefuses (resv.register r host key)
 register-refuses r host key = if-refusal _ _ _ conflict (becoming _)
 
-unregister-refuses : (r : resv.Reservation) (host : ℕ) (ignore : Bool) (key : ℕ) → RefusalRefuses (resv.unregister r host ignore key)
+unregister-refuses : (r : resv.Reservation) (host : ℕ) (ignore : Bool) (key : ℕ)
+    → RefusalRefuses (resv.unregister r host ignore key)
 unregister-refuses r host ignore key = if-refusal _ _ _ (becoming _) conflict
 
-replace-refuses : (r : resv.Reservation) (host : ℕ) (ignore : Bool) (key new : ℕ) → RefusalRefuses (resv.replace r host ignore key new)
+replace-refuses : (r : resv.Reservation) (host : ℕ) (ignore : Bool) (key new : ℕ)
+    → RefusalRefuses (resv.replace r host ignore key new)
 replace-refuses r host ignore key new = if-refusal _ _ _ (becoming _) conflict
 
 acquire-refuses : (r : resv.Reservation) (host type key : ℕ) → RefusalRefuses (resv.acquire r host type key)
 acquire-refuses r host type key =
     if-refusal _ _ _ conflict
     (if-refusal (resv.is_free r.hold) (resv.becomes (record r { hold = resv.taken_by host type })) _ (becoming _)
-    (if-refusal (resv.is_of_type r.hold type && resv.is_holder r host) (resv.becomes r) (Err status.reservation_conflict) (becoming _) conflict))
+    (if-refusal (resv.is_of_type r.hold type && resv.is_holder r host) (resv.becomes r)
+    (Err status.reservation_conflict) (becoming _) conflict))
 
 -- key 0, and any other key
 all-refuses : (r : resv.Reservation) (host type : ℕ)
-    → RefusalRefuses (if resv.is_of_all r.hold then resv.preempts r (resv.next_generation r (filter (λ x. x.host == host) r.registrants) (resv.taken_by host type)) else Err status.invalid_field_in_command)
+    → RefusalRefuses (if resv.is_of_all r.hold
+    then resv.preempts r (resv.next_generation r (filter (λ x. x.host == host) r.registrants) (resv.taken_by host type))
+    else Err status.invalid_field_in_command)
 all-refuses r host type = if-refusal _ _ _ (becoming _) invalid
 
 in-use-refuses : (r : resv.Reservation) (other : ℕ)
-    → RefusalRefuses (if resv.is_key_in_use r.registrants other then resv.preempts r (resv.remaining r (filter (λ x. not (x.key == other)) r.registrants)) else Err status.reservation_conflict)
+    → RefusalRefuses (if resv.is_key_in_use r.registrants other then resv.preempts r
+    (resv.remaining r (filter (λ x. not (x.key == other)) r.registrants)) else Err status.reservation_conflict)
 in-use-refuses r other = if-refusal _ _ _ (becoming _) conflict
 
 preempt-refuses : (r : resv.Reservation) (host type key other : ℕ) → RefusalRefuses (resv.preempt r host type key other)
@@ -130,35 +196,43 @@ preempt-refuses r host type key other =
     if-refusal _ _ _ conflict
     (if-refusal (other == 0) _ _ (all-refuses r host type)
     (if-refusal (resv.is_holders_key r other)
-    (resv.preempts r (resv.next_generation r (filter (λ x. (x.host == host) || not (x.key == other)) r.registrants) (resv.taken_by host type))) _ (becoming _)
+    (resv.preempts r (resv.next_generation r (filter (λ x. (x.host == host) || not (x.key == other)) r.registrants)
+    (resv.taken_by host type))) _ (becoming _)
     (in-use-refuses r other)))
 
 release-refuses : (r : resv.Reservation) (host type key : ℕ) → RefusalRefuses (resv.release r host type key)
 release-refuses r host type key =
     if-refusal _ _ _ conflict
     (if-refusal (not (resv.is_holder r host)) (resv.becomes r) _ (becoming _)
-    (if-refusal (resv.is_of_type r.hold type) (resv.becomes (record r { hold = Free })) (Err status.invalid_field_in_command) (becoming _) invalid))
+    (if-refusal (resv.is_of_type r.hold type) (resv.becomes (record r { hold = Free }))
+    (Err status.invalid_field_in_command) (becoming _) invalid))
 
 clear-refuses : (r : resv.Reservation) (host key : ℕ) → RefusalRefuses (resv.clear r host key)
 clear-refuses r host key = if-refusal _ _ _ (becoming _) conflict
 
-persisting-refuses : (change : ℕ) (o : resv.ActionOutcome) → RefusalRefuses o → RefusalRefuses (resv.persisting change o)
+persisting-refuses : (change : ℕ) (o : resv.ActionOutcome)
+    → RefusalRefuses o → RefusalRefuses (resv.persisting change o)
 unfolding RefusalRefuses
 persisting-refuses change (Ok t) h = tt
 persisting-refuses change (Err s) h = h
 
-action-refuses : (command : Command) (r : resv.Reservation) (host : ℕ) (e keys : List ℕ) → ActionRefuses (action_outcome command r host e keys)
+action-refuses : (command : Command) (r : resv.Reservation) (host : ℕ) (e keys : List ℕ)
+    → ActionRefuses (action_outcome command r host e keys)
 unfolding action_outcome
 action-refuses ReservationRegister r host e keys =
     persisting-refuses (cptpl e) _ (if-refusal (action e == 0) _ _ (register-refuses r host (other_key keys))
-    (if-refusal (action e == 1) _ _ (unregister-refuses r host (iekey e) (current_key keys)) (replace-refuses r host (iekey e) (current_key keys) (other_key keys))))
+    (if-refusal (action e == 1) _ _ (unregister-refuses r host (iekey e) (current_key keys))
+    (replace-refuses r host (iekey e) (current_key keys) (other_key keys))))
 action-refuses ReservationAcquire r host e keys =
-    if-refusal (action e == 0) _ _ (acquire-refuses r host (rtype e) (current_key keys)) (preempt-refuses r host (rtype e) (current_key keys) (other_key keys))
+    if-refusal (action e == 0) _ _ (acquire-refuses r host (rtype e) (current_key keys))
+    (preempt-refuses r host (rtype e) (current_key keys) (other_key keys))
 action-refuses ReservationRelease r host e keys =
-    if-refusal (action e == 0) _ _ (release-refuses r host (rtype e) (current_key keys)) (clear-refuses r host (current_key keys))
+    if-refusal (action e == 0) _ _ (release-refuses r host (rtype e) (current_key keys))
+    (clear-refuses r host (current_key keys))
 action-refuses command r host e keys = tt
 
-outcome-refuses : (command : Option Command) (n : Option Namespace) (host : Option ℕ) (e keys : List ℕ) → ActionRefuses (outcome_in command n host e keys)
+outcome-refuses : (command : Option Command) (n : Option Namespace) (host : Option ℕ) (e keys : List ℕ)
+    → ActionRefuses (outcome_in command n host e keys)
 outcome-refuses None n host e keys = tt
 outcome-refuses (Some c) None host e keys = tt
 outcome-refuses (Some c) (Some n) None e keys = tt
@@ -175,8 +249,10 @@ fault-refuses (Some Outside) = (refl, tt)
 
 -- The rules of I/O commands.
 
-pub io-refuses : (w : World) (k : ℕ) (e : List ℕ) (marked : Bool) (window : List ℕ) → JudgementRefuses (io_judgement w k e marked window)
-unfolding io_judgement mark_rule opcode_rule form_rule nsid_rule attachment_rule field_rule reservation_rule protection_rule range_rule pointer_rule action_rule reservation_outcome
+pub io-refuses : (w : World) (k : ℕ) (e : List ℕ) (marked : Bool) (window : List ℕ)
+    → JudgementRefuses (io_judgement w k e marked window)
+unfolding io_judgement mark_rule opcode_rule form_rule nsid_rule attachment_rule field_rule reservation_rule
+    protection_rule range_rule pointer_rule action_rule reservation_outcome
 io-refuses w k e marked window =
     rules-refuse (io_rules w k e marked window) (
       (refl, tt),
@@ -199,8 +275,10 @@ io-refuses w k e marked window =
                       (
                         fault-refuses (data_fault (data_length_of (command_of (opcode e)) e) window e),
                         (
-                          action-tests (outcome_in (command_of (opcode e)) (namespace_of w (nsid e)) (host_of w k) e (data_of window e))
-                              (outcome-refuses (command_of (opcode e)) (namespace_of w (nsid e)) (host_of w k) e (data_of window e)),
+                          action-tests (outcome_in (command_of (opcode e)) (namespace_of w (nsid e)) (host_of w k) e
+                              (data_of window e))
+                              (outcome-refuses (command_of (opcode e)) (namespace_of w (nsid e)) (host_of w k) e
+                              (data_of window e)),
                           tt,
                         ),
                       ),
@@ -218,10 +296,13 @@ abbrev pub VerdictRefuses : Verdict → Type 0
 VerdictRefuses (Allowed plan) = Unit {0}
 VerdictRefuses (Denied number why) = Refuses why
 
-conclusion-refuses : (j : Judgement) (o : Option Command) (e : List ℕ) → JudgementRefuses j → VerdictRefuses (conclusion j o e)
+conclusion-refuses : (j : Judgement) (o : Option Command) (e : List ℕ)
+    → JudgementRefuses j → VerdictRefuses (conclusion j o e)
 conclusion-refuses (Err d) o e h = h
 conclusion-refuses (Ok u) None e h = refl
 conclusion-refuses (Ok u) (Some c) e h = tt
 
-pub verdict-refuses : (w : World) (k : ℕ) (e : List ℕ) (marked : Bool) (window : List ℕ) → VerdictRefuses (io_verdict w k e marked window)
-verdict-refuses w k e marked window = conclusion-refuses (io_judgement w k e marked window) (command_of (opcode e)) e (io-refuses w k e marked window)
+pub verdict-refuses : (w : World) (k : ℕ) (e : List ℕ) (marked : Bool) (window : List ℕ)
+    → VerdictRefuses (io_verdict w k e marked window)
+verdict-refuses w k e marked window =
+    conclusion-refuses (io_judgement w k e marked window) (command_of (opcode e)) e (io-refuses w k e marked window)

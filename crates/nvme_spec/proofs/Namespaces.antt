@@ -1,5 +1,27 @@
--- Which changes of a world keep its controllers, its attachments, and its namespaces but for their reservations.
-use Rattle.std.proofs.Common.{◌≡◌, ◌≢◌, ℕ, ◌==◌, Bool, true, false, cond, List, [], ◌∷◌, Option, None, Some, Ok, Err, refl, sym, ap, ◌∙◌}
+-- For laws about worlds: the changes of a world that keep its controllers, its attachments, and its namespaces except
+-- for their reservations.
+use Rattle.std.proofs.Common.{
+  ◌≡◌,
+  ◌≢◌,
+  ℕ,
+  ◌==◌,
+  Bool,
+  true,
+  false,
+  cond,
+  List,
+  [],
+  ◌∷◌,
+  Option,
+  None,
+  Some,
+  Ok,
+  Err,
+  refl,
+  sym,
+  ap,
+  ◌∙◌,
+}
 use Rattle.std.specs.Prelude.{map, find, option_map, if◌then◌else◌}
 use Rattle.std.proofs.lemmas.Bool.{eqb-true, ne_eqb}
 use Rattle.nvme_spec.specs.Reservation as resv
@@ -7,13 +29,15 @@ use Rattle.nvme_spec.specs.World.{World, Namespace, host_of, namespace_of, with_
 use Rattle.nvme_spec.specs.Layout.{Extent, extent_of, reservation_of, unreserved_one, HasSameLayout}
 use Rattle.nvme_spec.specs.Execution.{world_after}
 
--- what every namespace has, and a change keeps
-pub found-still : {X : Type 0} (f : Namespace → X) (change : Namespace → Namespace) → ((m : Namespace) → f (change m) ≡ f m)
+-- a property of every namespace that a change keeps
+pub found-still : {X : Type 0} (f : Namespace → X) (change : Namespace → Namespace)
+    → ((m : Namespace) → f (change m) ≡ f m)
     → ((m : Namespace) → (change m).nsid ≡ m.nsid) → (a n : ℕ) (ns : List Namespace)
     → option_map f (find (λ m. m.nsid == n) (with_namespace change a ns)) ≡ option_map f (find (λ m. m.nsid == n) ns)
 found-still f change same named a n [] = refl
 found-still f change same named a n (m ∷ ms) =
-    elim (m.nsid == a) as (λ b. option_map f (find (λ x. x.nsid == n) (if b then change m ∷ ms else m ∷ with_namespace change a ms))
+    elim (m.nsid == a) as (λ b.
+    option_map f (find (λ x. x.nsid == n) (if b then change m ∷ ms else m ∷ with_namespace change a ms))
     ≡ option_map f (find (λ x. x.nsid == n) (m ∷ ms))) [
       | true ↦ ap (λ (i : ℕ). option_map f (cond (i == n) (Some (change m)) (find (λ x. x.nsid == n) ms))) (named m)
           ∙ (elim (m.nsid == n) as (λ b. option_map f (cond b (Some (change m)) (find (λ x. x.nsid == n) ms))
@@ -21,15 +45,17 @@ found-still f change same named a n (m ∷ ms) =
             | true ↦ ap Some (same m)
             | false ↦ refl
           ])
-      | false ↦ elim (m.nsid == n) as (λ b. option_map f (cond b (Some m) (find (λ x. x.nsid == n) (with_namespace change a ms)))
+      | false ↦ elim (m.nsid == n) as (λ b.
+          option_map f (cond b (Some m) (find (λ x. x.nsid == n) (with_namespace change a ms)))
           ≡ option_map f (cond b (Some m) (find (λ x. x.nsid == n) ms))) [
             | true ↦ refl
             | false ↦ found-still f change same named a n ms
           ]
     ]
 
--- the same of all namespaces
-pub all-still : {X : Type 0} (f : Namespace → X) (change : Namespace → Namespace) → ((m : Namespace) → f (change m) ≡ f m)
+-- the same for all namespaces
+pub all-still : {X : Type 0} (f : Namespace → X) (change : Namespace → Namespace)
+    → ((m : Namespace) → f (change m) ≡ f m)
     → (a : ℕ) (ns : List Namespace) → map f (with_namespace change a ns) ≡ map f ns
 all-still f change same a [] = refl
 all-still f change same a (m ∷ ms) =
@@ -38,11 +64,13 @@ all-still f change same a (m ∷ ms) =
       | false ↦ ap (λ xs. f m ∷ xs) (all-still f change same a ms)
     ]
 
--- another namespace is as it was
-others-at : (change : Namespace → Namespace) → ((m : Namespace) → (change m).nsid ≡ m.nsid) → (a n : ℕ) → n ≢ a → (m : Namespace) (ms : List Namespace)
+-- another namespace is unchanged
+others-at : (change : Namespace → Namespace) → ((m : Namespace) → (change m).nsid ≡ m.nsid) → (a n : ℕ)
+    → n ≢ a → (m : Namespace) (ms : List Namespace)
     → find (λ x. x.nsid == n) (with_namespace change a ms) ≡ find (λ x. x.nsid == n) ms
     → (b : Bool) → (m.nsid == a) ≡ b
-    → find (λ x. x.nsid == n) (if b then change m ∷ ms else m ∷ with_namespace change a ms) ≡ find (λ x. x.nsid == n) (m ∷ ms)
+    → find (λ x. x.nsid == n) (if b then change m ∷ ms else m ∷ with_namespace change a ms)
+    ≡ find (λ x. x.nsid == n) (m ∷ ms)
 others-at change named a n other m ms later true e =
     let here : m.nsid ≡ a = eqb-true m.nsid a e in
     let no_one : (m.nsid == n) ≡ false = ne_eqb m.nsid n (λ f. other (sym f ∙ here)) in
@@ -52,9 +80,11 @@ others-at change named a n other m ms later true e =
 others-at change named a n other m ms later false e = ap (λ o. cond (m.nsid == n) (Some m) o) later
 
 pub others-still : (change : Namespace → Namespace) → ((m : Namespace) → (change m).nsid ≡ m.nsid)
-    → (a n : ℕ) → n ≢ a → (ns : List Namespace) → find (λ m. m.nsid == n) (with_namespace change a ns) ≡ find (λ m. m.nsid == n) ns
+    → (a n : ℕ) → n ≢ a → (ns : List Namespace)
+    → find (λ m. m.nsid == n) (with_namespace change a ns) ≡ find (λ m. m.nsid == n) ns
 others-still change named a n other [] = refl
-others-still change named a n other (m ∷ ms) = others-at change named a n other m ms (others-still change named a n other ms) (m.nsid == a) refl
+others-still change named a n other (m ∷ ms) =
+    others-at change named a n other m ms (others-still change named a n other ms) (m.nsid == a) refl
 
 abbrev extent : Namespace → Extent
 extent space = record { first = space.first; blocks = space.blocks }
@@ -78,7 +108,8 @@ layout-reserved w a r = record {
   extents = λ n. found-still extent (λ m. record m { reservation = r }) (λ m. refl) (λ m. refl) a n w.namespaces;
 }
 
-pub others-reserved : (w : World) (a : ℕ) (r : resv.Reservation) (n : ℕ) → n ≢ a → namespace_of (with_reservation w a r) n ≡ namespace_of w n
+pub others-reserved : (w : World) (a : ℕ) (r : resv.Reservation) (n : ℕ)
+    → n ≢ a → namespace_of (with_reservation w a r) n ≡ namespace_of w n
 unfolding namespace_of
 others-reserved w a r n other = others-still (λ m. record m { reservation = r }) (λ m. refl) a n other w.namespaces
 
@@ -96,5 +127,6 @@ is-reserved w a None = is-same a w w refl
 is-reserved w a (Some (Err refusal)) = is-same a w w refl
 is-reserved w a (Some (Ok transition)) = record {
   layout = layout-reserved w a transition.next;
-  others = λ n other. ap (λ o. option_map (λ (m : Namespace). m.reservation) o) (others-reserved w a transition.next n other);
+  others = λ n other.
+      ap (λ o. option_map (λ (m : Namespace). m.reservation) o) (others-reserved w a transition.next n other);
 }

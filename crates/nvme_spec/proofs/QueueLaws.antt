@@ -1,14 +1,63 @@
--- The laws of queues.
-use Rattle.std.proofs.Common.{◌≡◌, ◌≢◌, ◌↔◌, ℕ, ◌+◌, ◌-◌, ◌*◌, ◌/◌, ◌%◌, ◌<◌, ◌≤◌, ◌==◌, true, false, not, nat_lt, nat_le, ◌&&◌, inl, inr, sym, ap, ◌∙◌, arith}
+-- Proofs of the laws in `laws/queues.rt`.
+use Rattle.std.proofs.Common.{
+  ◌≡◌,
+  ◌≢◌,
+  ◌↔◌,
+  ℕ,
+  ◌+◌,
+  ◌-◌,
+  ◌*◌,
+  ◌/◌,
+  ◌%◌,
+  ◌<◌,
+  ◌≤◌,
+  ◌==◌,
+  true,
+  false,
+  not,
+  nat_lt,
+  nat_le,
+  ◌&&◌,
+  inl,
+  inr,
+  sym,
+  ap,
+  ◌∙◌,
+  arith,
+}
 use Rattle.std.specs.Prelude.{if◌then◌else◌}
 use Rattle.std.proofs.Math.Nat.{mul-le-mul_left, add-mod_right, add-div_right, mod_self, mod-mod}
 use Rattle.std.proofs.Math.Arith.{mod-mul}
 use Rattle.std.proofs.lemmas.Nat.{mod-mul-add, div-mul-add, mod_below}
 use Rattle.std.proofs.lemmas.Bool.{cases_lt, lt-ltb, le-leb}
-use Rattle.nvme_spec.specs.Queues.{ahead, IsQueueSize, slot_of, SubmissionHead, FitsSubmissionHead, CompletionTail, FitsCompletionTail, SubmissionTail, FitsSubmissionTail, can_be_heard}
-use Rattle.nvme_spec.specs.QueueLaws.{NextTurn, TwoTurns, TailAtHead, HeadAtTail, AllFetched, SubmissionHeadStays, CompletionTailStays, SubmissionTailStays, CompletionHeadStays, EntryIsInside, CompletionRoom, SubmissionRoom}
+use Rattle.nvme_spec.specs.Queues.{
+  ahead,
+  IsQueueSize,
+  slot_of,
+  SubmissionHead,
+  FitsSubmissionHead,
+  CompletionTail,
+  FitsCompletionTail,
+  SubmissionTail,
+  FitsSubmissionTail,
+  can_be_heard,
+}
+use Rattle.nvme_spec.specs.QueueLaws.{
+  NextTurn,
+  TwoTurns,
+  TailAtHead,
+  HeadAtTail,
+  AllFetched,
+  SubmissionHeadStays,
+  CompletionTailStays,
+  SubmissionTailStays,
+  CompletionHeadStays,
+  EntryIsInside,
+  CompletionRoom,
+  SubmissionRoom,
+}
 
--- one more turns an even number odd, and an odd one even
+-- the successor of an even number is odd, and that of an odd one even
 odd_next : (x : ℕ) → ((x + 1) % 2 == 0) ≡ not (x % 2 == 0)
 odd_next x =
     elim (cases_lt (x % 2) 1) [
@@ -76,7 +125,8 @@ pub all_fetched : AllFetched
 all_fetched q fits =
     let heard : SubmissionTail = record q { unheard = ahead q.size q.put q.put } in
     let low : ahead q.size q.put q.put ≤ q.unheard = omega (arith, ahead_self q.size q.put) in
-    ap (λ b. (if b && nat_le (ahead q.size q.put q.put) q.unheard then heard else q).unheard) (lt-ltb q.put q.size fits.put)
+    ap (λ b. (if b && nat_le (ahead q.size q.put q.put) q.unheard then heard else q).unheard)
+    (lt-ltb q.put q.size fits.put)
     ∙ ap (λ b. (if b then heard else q).unheard) (le-leb (ahead q.size q.put q.put) q.unheard low)
     ∙ ahead_self q.size q.put
 
@@ -87,7 +137,8 @@ pub submission_head_stays : SubmissionHeadStays
 submission_head_stays = (
   λ q tail fits.
       let heard : SubmissionHead = record q { waiting = ahead q.size tail q.fetched } in
-      let bounds : FitsSubmissionHead heard = record { size = fits.size; fetched = fits.fetched; waiting = ahead_below q.size tail q.fetched fits.size } in
+      let bounds : FitsSubmissionHead heard =
+      record { size = fits.size; fetched = fits.fetched; waiting = ahead_below q.size tail q.fetched fits.size } in
       elim (nat_lt tail q.size) as (λ b. FitsSubmissionHead (if b then heard else q)) [ true ↦ bounds | false ↦ fits ],
   λ q fits. record {
     size = fits.size;
@@ -101,7 +152,8 @@ completion_tail_stays = (
   λ q head fits.
       let tail : ℕ = slot_of q.size q.posted in
       let heard : CompletionTail = record q { unread = ahead q.size tail head } in
-      let bounds : FitsCompletionTail heard = record { size = fits.size; posted = fits.posted; unread = ahead_below q.size tail head fits.size } in
+      let bounds : FitsCompletionTail heard =
+      record { size = fits.size; posted = fits.posted; unread = ahead_below q.size tail head fits.size } in
       elim (nat_lt head q.size) as (λ b. FitsCompletionTail (if b then heard else q)) [ true ↦ bounds | false ↦ fits ],
   λ q fits room. record {
     size = fits.size;
@@ -114,7 +166,8 @@ pub submission_tail_stays : SubmissionTailStays
 submission_tail_stays = (
   λ q head fits.
       let heard : SubmissionTail = record q { unheard = ahead q.size q.put head } in
-      let bounds : FitsSubmissionTail heard = record { size = fits.size; put = fits.put; unheard = ahead_below q.size q.put head fits.size } in
+      let bounds : FitsSubmissionTail heard =
+      record { size = fits.size; put = fits.put; unheard = ahead_below q.size q.put head fits.size } in
       elim (can_be_heard q head) as (λ b. FitsSubmissionTail (if b then heard else q)) [ true ↦ bounds | false ↦ fits ],
   λ q fits room. record {
     size = fits.size;

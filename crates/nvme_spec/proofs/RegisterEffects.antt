@@ -1,16 +1,73 @@
--- What the effect of a register write tells.
-use Rattle.std.proofs.Common.{◌≡◌, ◌↔◌, ℕ, zero, suc, ◌+◌, ◌-◌, ◌*◌, ◌/◌, ◌%◌, ◌≤◌, ◌==◌, nat_lt, ◌&&◌, ◌||◌, Bool, true, false, refl, sym, ap, subst, ◌∙◌, arith}
+-- For the answers of `effects` and of `nvme_regs`: what the effect of a register write implies.
+use Rattle.std.proofs.Common.{
+  ◌≡◌,
+  ◌↔◌,
+  ℕ,
+  zero,
+  suc,
+  ◌+◌,
+  ◌-◌,
+  ◌*◌,
+  ◌/◌,
+  ◌%◌,
+  ◌≤◌,
+  ◌==◌,
+  nat_lt,
+  ◌&&◌,
+  ◌||◌,
+  Bool,
+  true,
+  false,
+  refl,
+  sym,
+  ap,
+  subst,
+  ◌∙◌,
+  arith,
+}
 use Rattle.std.specs.Prelude.{if◌then◌else◌}
 use Rattle.std.proofs.lemmas.Bool.{eqb-true, eqb-false, ltb-false, and_parts, and_from, or_parts, both_ways, ne_eqb}
 use Rattle.nvme_spec.specs.declared.registers.RegEffect.{RegEffect}
 use Rattle.nvme_spec.specs.declared.registers.RegEffect.TheVariants.{Nothing, Enable, Disable, Shutdown, SqTail, CqHead}
 use Rattle.nvme_spec.specs.declared.registers.ControllerState.{ControllerState}
 use Rattle.nvme_spec.specs.declared.registers.ControllerState.TheVariants.{Off, Ready, ShutDown, Failed}
-use Rattle.nvme_spec.specs.Registers.{Registers, Written, written, after_write, configured, prepared, notified, doorbell, can_enable, is_enabled, is_shutdown, is_ready, is_off, doorbell_value}
-use Rattle.nvme_spec.specs.RegisterLaws.{IsConsistent, IsToldToShutDown, TellsItsEffect, EffectsTell, TailRings, HeadRings, NamesQueue, DoorbellsNameQueues}
-use Rattle.nvme_spec.proofs.RegisterLaws.{enabled-if, notified-if, configured-if, off-ready, not-enabled, enabled-already, prepared-keeps}
+use Rattle.nvme_spec.specs.Registers.{
+  Registers,
+  Written,
+  written,
+  after_write,
+  configured,
+  prepared,
+  notified,
+  doorbell,
+  can_enable,
+  is_enabled,
+  is_shutdown,
+  is_ready,
+  is_off,
+  doorbell_value,
+}
+use Rattle.nvme_spec.specs.RegisterLaws.{
+  IsConsistent,
+  IsToldToShutDown,
+  TellsItsEffect,
+  EffectsTell,
+  TailRings,
+  HeadRings,
+  NamesQueue,
+  DoorbellsNameQueues,
+}
+use Rattle.nvme_spec.proofs.RegisterLaws.{
+  enabled-if,
+  notified-if,
+  configured-if,
+  off-ready,
+  not-enabled,
+  enabled-already,
+  prepared-keeps,
+}
 
--- the doorbell rings
+-- the write rings a doorbell
 abbrev rings : RegEffect → Bool
 rings Nothing = false
 rings Enable = false
@@ -19,7 +76,7 @@ rings Shutdown = false
 rings (SqTail q tail) = true
 rings (CqHead q head) = true
 
--- nothing happens to the state of the controller
+-- the write leaves the controller's state
 abbrev is_quiet : RegEffect → Bool
 is_quiet Nothing = true
 is_quiet Enable = false
@@ -30,7 +87,7 @@ is_quiet (CqHead q head) = true
 
 -- Doorbells.
 
--- what a write to a doorbell gives, by its tests: it is none of a queue that can be, or a tail's, or a head's
+-- the effect of a write to a doorbell, by its tests: no queue, a tail, or a head
 abbrev doorbell-if : Bool → Bool → Bool → ℕ → ℕ → RegEffect
 doorbell-if none tail head q value =
     if none then Nothing else (if tail then SqTail q value else (if head then CqHead q value else Nothing))
@@ -54,7 +111,7 @@ configured-silent r v = by (is_enabled r.cc) (is_enabled v)
     by false true = enabled-silent (can_enable (record r { cc = v })) (record r { cc = v })
     by false false = refl
 
--- where a write rings a doorbell, the controller is ready
+-- a write rings a doorbell only if the controller is ready
 rings-ready : (r : Registers) (offset v : ℕ) (e : RegEffect) → rings e ≡ true → (after_write r offset v).effect ≡ e
     → (is_ready r.state ≡ true) × (doorbell offset v ≡ e)
 unfolding after_write
@@ -80,12 +137,12 @@ abbrev bell : Bool → ℕ → ℕ → RegEffect
 bell false q value = SqTail q value
 bell true q value = CqHead q value
 
--- where that of queue 0 lies
+-- the offset of queue 0's doorbell
 abbrev first-bell : Bool → ℕ
 first-bell false = 0x1000
 first-bell true = 0x1004
 
--- where the test of the doorbells finds a queue
+-- the test of the doorbells finds a queue
 queue-found : (offset q : ℕ) → (nat_lt offset 0x1000 || nat_lt 4 ((offset - 0x1000) / 8)) ≡ false
     → (offset - 0x1000) / 8 ≡ q → (offset ≡ 0x1000 + offset % 8 + 8 * q) × (q ≤ 4)
 queue-found offset q found same =
@@ -184,7 +241,7 @@ doorbells_name_queues r offset v = by (after_write r offset v).effect refl
 
 -- Changes of the state.
 
--- what a write to a consistent controller does, by cases
+-- the effect of a write on a consistent controller, by cases
 data Change (r : Registers) (offset v : ℕ) (w : Written) : Type 0 where
   enables : is_off r.state ≡ true → is_ready w.registers.state ≡ true → w.effect ≡ Enable → Change r offset v w
   fails : is_off r.state ≡ true → w.registers.state ≡ Failed → is_quiet w.effect ≡ true → Change r offset v w

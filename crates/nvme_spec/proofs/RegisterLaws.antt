@@ -1,5 +1,28 @@
--- Registers stay consistent.
-use Rattle.std.proofs.Common.{◌≡◌, ℕ, ◌+◌, ◌*◌, ◌/◌, ◌%◌, ◌^◌, ◌==◌, nat_le, ◌&&◌, Bool, true, false, not, Some, None, refl, sym, ap, subst, ◌∙◌, arith}
+-- For laws about registers: writes keep registers consistent.
+use Rattle.std.proofs.Common.{
+  ◌≡◌,
+  ℕ,
+  ◌+◌,
+  ◌*◌,
+  ◌/◌,
+  ◌%◌,
+  ◌^◌,
+  ◌==◌,
+  nat_le,
+  ◌&&◌,
+  Bool,
+  true,
+  false,
+  not,
+  Some,
+  None,
+  refl,
+  sym,
+  ap,
+  subst,
+  ◌∙◌,
+  arith,
+}
 use Rattle.std.specs.Prelude.{if◌then◌else◌, IfSome}
 use Rattle.std.proofs.lemmas.Bool.{leb-true, eqb-true, and_parts, not-true, not-false, both_ways}
 use Rattle.nvme_spec.specs.declared.registers.RegEffect.TheVariants.{Nothing, Enable, Disable, Shutdown}
@@ -7,11 +30,36 @@ use Rattle.nvme_spec.specs.declared.registers.ControllerState.{ControllerState}
 use Rattle.nvme_spec.specs.declared.registers.ControllerState.TheVariants.{Off, Ready, ShutDown, Failed}
 use Rattle.nvme_spec.specs.declared.registers.AdminQueues.{AdminQueues}
 use Rattle.nvme_spec.specs.Memory.{window_size}
-use Rattle.nvme_spec.specs.Registers.{Registers, Written, written, initial_registers, after_write, configured, prepared, enabled, notified, with_notification, notification, with_low, with_high, doorbell, can_enable, is_supported, is_admin_queue, admin_submission_size, admin_completion_size, ready_state, is_enabled, is_shutdown, is_ready, is_off}
+use Rattle.nvme_spec.specs.Registers.{
+  Registers,
+  Written,
+  written,
+  initial_registers,
+  after_write,
+  configured,
+  prepared,
+  enabled,
+  notified,
+  with_notification,
+  notification,
+  with_low,
+  with_high,
+  doorbell,
+  can_enable,
+  is_supported,
+  is_admin_queue,
+  admin_submission_size,
+  admin_completion_size,
+  ready_state,
+  is_enabled,
+  is_shutdown,
+  is_ready,
+  is_off,
+}
 use Rattle.nvme_spec.specs.RegisterLaws.{IsQueuePlace, ArePlaced, IsConsistent, BeginsConsistent, StaysConsistent}
 
--- What a write of CC leaves, by its tests: an enabling is taken or not, a notification comes to a ready controller or
--- doesn't, and CC.EN was 1 and is 1 or not.
+-- The result of a write of CC, by its tests: whether the controller can be enabled, whether a ready controller gets a
+-- shutdown notification, and CC.EN before and after.
 
 abbrev pub enabled-if : Bool → Registers → Written
 enabled-if taken r =
@@ -63,7 +111,7 @@ enabled-places r h =
       completion = queue-place r.acq (admin_completion_size r.aqa) 16 outer.1;
     }
 
--- where there are such, exactly while RDY is 1
+-- there are admin queues exactly while RDY is 1
 abbrev PlacedIf : Bool → AdminQueues → Type 0
 PlacedIf ready q = IfSome (if ready then Some q else None) ArePlaced
 
@@ -75,7 +123,7 @@ if-placed : (b : Bool) (q : AdminQueues) → PlacedIf b q → b ≡ true → Are
 if-placed true q h e = h
 if-placed false q h e = absurd (cc)
 
--- What CC.EN tells.
+-- What CC.EN implies.
 
 pub off-ready : (s : ControllerState) → is_off s ≡ true → is_ready s ≡ false
 off-ready Off e = refl
@@ -144,7 +192,7 @@ either : (r : Registers) (b : Bool) (x y : Registers) → Keeps r x → Keeps r 
 either r true x y h k = h
 either r false x y h k = k
 
--- the registers of the admin queues are not CC, and tell no state
+-- a write of an admin queue register changes neither CC nor the state
 pub prepared-keeps : (r : Registers) (offset v : ℕ) → Keeps r (prepared r offset v)
 unfolding prepared
 prepared-keeps r offset v =
@@ -160,7 +208,7 @@ prepared-keeps r offset v =
     (either r (offset == 0x30) (record r { acq = with_low r.acq v }) high (refl, refl)
     (either r (offset == 0x34) (record r { acq = with_high r.acq v }) r (refl, refl) (refl, refl))))))
 
--- while EN is 1 they stay
+-- while EN is 1 they are unchanged
 prepared-enabled : (r : Registers) (offset v : ℕ) → is_enabled r.cc ≡ true → prepared r offset v ≡ r
 unfolding prepared
 prepared-enabled r offset v on = rw (on) refl

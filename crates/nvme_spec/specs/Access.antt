@@ -1,4 +1,5 @@
--- What a reservation lets a host read and write (NVM Express Base Specification 2.0, "Reservation Types").
+-- The access that a reservation gives to hosts, for the rule on reservations (NVM Express Base Specification 2.0,
+-- "Reservation Types").
 use Rattle.std.specs.Prelude.{ℕ, Bool, true, false, if◌then◌else◌, ◌==◌}
 use Rattle.nvme_spec.specs.declared.access.Hold.{Hold}
 use Rattle.nvme_spec.specs.declared.access.Hold.TheVariants.{Free, One, All}
@@ -7,7 +8,7 @@ use Rattle.nvme_spec.specs.declared.access.Role.TheVariants.{Outsider, Registran
 use Rattle.nvme_spec.specs.declared.access.Group.{Group}
 use Rattle.nvme_spec.specs.declared.access.Group.TheVariants.{Read, Write}
 
--- which groups of commands a host may send
+-- the groups of commands that a host may send
 pub record Rights : Type 0 where
   pub reads : Bool
   pub writes : Bool
@@ -21,7 +22,8 @@ read_only = record { reads = true; writes = false }
 abbrev pub read_write : Rights
 read_write = record { reads = true; writes = true }
 
--- a row of the table: the rights of an outsider, of a registrant that is no holder, and of a holder
+-- a row of the table: the rights of a host that is not registered, of a registrant that is not a holder, and of a
+-- holder
 pub record Row : Type 0 where
   pub outsider : Rights
   pub registrant : Rights
@@ -32,7 +34,7 @@ row outsider_rights registrant_rights holder_rights =
     record { outsider = outsider_rights; registrant = registrant_rights; holder = holder_rights }
 
 -- The table of reservation types: the rights under each. No type is above 6.
---             outsider, registrant, holder
+--             not registered, registrant, holder
 abbrev pub rights_table : ℕ → Row
 rights_table type =
     -- Write Exclusive
@@ -57,11 +59,11 @@ abbrev pub allows : Rights → Group → Bool
 allows rights Read = rights.reads
 allows rights Write = rights.writes
 
--- under a hold of this type
+-- under a reservation of this type
 abbrev pub is_permitted_under : ℕ → Role → Group → Bool
 is_permitted_under type role group = allows (rights_of (rights_table type) role) group
 
--- a command of this group is permitted to a host in this role; without a hold everything is
+-- whether a command of this group is permitted to a host in this role; without a reservation every command is
 abbrev pub is_permitted : Hold → Role → Group → Bool
 is_permitted Free role group = true
 is_permitted (One type host) role group = is_permitted_under type role group

@@ -1,5 +1,5 @@
--- The admin commands: their opcodes, their fields and the data that they move (Base Specification: Admin Command Set;
--- Create and Delete I/O Completion Queue, Create and Delete I/O Submission Queue, Identify, Set Features and Get
+-- The admin commands: their opcodes, their fields and the data that they transfer (Base Specification: Admin Command
+-- Set; Create and Delete I/O Completion Queue, Create and Delete I/O Submission Queue, Identify, Set Features and Get
 -- Features with Number of Queues, Host Identifier and Namespace Write Protection Config, Namespace Attachment).
 use Rattle.std.specs.Prelude.{ℕ, ◌+◌, ◌==◌, Bool, ◌&&◌, if◌then◌else◌, List, [], ◌∷◌, Option, None, Some}
 use Rattle.nvme_wire.specs.Entry.{bits}
@@ -8,7 +8,16 @@ use Rattle.nvme_wire.specs.Submission.{cdw10, cdw11}
 use Rattle.nvme_spec.specs.declared.access.Protection.{Protection}
 use Rattle.nvme_spec.specs.declared.access.Protection.TheVariants.{Open, Protected, UntilCycle}
 use Rattle.nvme_spec.specs.declared.command.AdminCommand.{AdminCommand}
-use Rattle.nvme_spec.specs.declared.command.AdminCommand.TheVariants.{DeleteSubmissionQueue, CreateSubmissionQueue, DeleteCompletionQueue, CreateCompletionQueue, Identify, SetFeatures, GetFeatures, NamespaceAttachment}
+use Rattle.nvme_spec.specs.declared.command.AdminCommand.TheVariants.{
+  DeleteSubmissionQueue,
+  CreateSubmissionQueue,
+  DeleteCompletionQueue,
+  CreateCompletionQueue,
+  Identify,
+  SetFeatures,
+  GetFeatures,
+  NamespaceAttachment,
+}
 
 abbrev pub opcode_of : AdminCommand → ℕ
 opcode_of DeleteSubmissionQueue = 0x00
@@ -39,7 +48,7 @@ is_one_of command commands = is_among opcode_of command commands
 unfoldable pub qid : List ℕ → ℕ
 qid e = bits (cdw10 e) 15 0
 
--- how many entries: one more than Queue Size (QSIZE), bits 31:16
+-- the number of entries: one more than Queue Size (QSIZE), bits 31:16
 unfoldable pub queue_size : List ℕ → ℕ
 queue_size e = bits (cdw10 e) 31 16 + 1
 
@@ -47,7 +56,7 @@ queue_size e = bits (cdw10 e) 31 16 + 1
 unfoldable pub pc : List ℕ → Bool
 pc e = bits (cdw11 e) 0 0 == 1
 
--- Completion Queue Identifier (CQID), of a submission queue: bits 31:16 of double word 11
+-- Completion Queue Identifier (CQID) of a submission queue: bits 31:16 of double word 11
 unfoldable pub cqid : List ℕ → ℕ
 cqid e = bits (cdw11 e) 31 16
 
@@ -90,7 +99,8 @@ nsqr e = bits (cdw11 e) 15 0
 unfoldable pub ncqr : List ℕ → ℕ
 ncqr e = bits (cdw11 e) 31 16
 
--- Write Protection State (WPS): bits 2:0 of double word 11; 0 is none, 1 write protected, 2 that until a power cycle
+-- Write Protection State (WPS): bits 2:0 of double word 11; 0 is none, 1 write protected, 2 write protected until a
+-- power cycle
 unfoldable pub wps : List ℕ → ℕ
 wps e = bits (cdw11 e) 2 0
 
@@ -106,7 +116,7 @@ state_of UntilCycle = 2
 unfoldable pub exhid : List ℕ → Bool
 exhid e = bits (cdw11 e) 0 0 == 1
 
--- Select (SEL), of Namespace Attachment: bits 3:0 of double word 10; 0 attaches, 1 detaches
+-- Select (SEL) of Namespace Attachment: bits 3:0 of double word 10; 0 attaches, 1 detaches
 unfoldable pub sel : List ℕ → ℕ
 sel e = bits (cdw10 e) 3 0
 
@@ -114,11 +124,11 @@ sel e = bits (cdw10 e) 3 0
 abbrev pub names_feature : Option AdminCommand → ℕ → List ℕ → Bool
 names_feature command feature e = is_one_of command (SetFeatures ∷ GetFeatures ∷ []) && fid e == feature
 
--- the command asks for this cns
+-- the command is an Identify with this cns
 abbrev pub asks_for : Option AdminCommand → ℕ → List ℕ → Bool
 asks_for command which e = is_one_of command (Identify ∷ []) && cns e == which
 
--- the bytes that a command moves between host and controller
+-- the length of the data that a command transfers between host and controller
 abbrev pub data_length : AdminCommand → List ℕ → ℕ
 data_length DeleteSubmissionQueue e = 0
 data_length CreateSubmissionQueue e = 0

@@ -1,4 +1,4 @@
--- Words of the worked examples of admin commands.
+-- Worlds, queues and windows of the worked examples of admin commands.
 use Rattle.std.specs.Prelude.{ℕ, true, false, List, [], ◌∷◌, ◌++◌, length, flat_map, Some, None, Err}
 use Rattle.std.specs.Int.{w16, to_le_bytes}
 use Rattle.nvme_wire.specs.declared.status.Status.{Status}
@@ -16,18 +16,18 @@ denied number answer = Err (record { rule = number; status = answer })
 unfoldable pub cluster_world : World
 cluster_world = opening_world cluster
 
--- the same, where host a1h holds namespace 1 by Write Exclusive
+-- the same, after host a1h acquired namespace 1 with Write Exclusive
 unfoldable pub reserved_world : World
 reserved_world = with_reservation (opening_world cluster) 1 (state (a1 0x11 ∷ []) (One 1 0xa1) 1)
 
--- I/O completion queue 1 beside the admin queues
+-- I/O completion queue 1 and the admin queues
 abbrev pub one_completion_queue : Queues
 one_completion_queue = record {
   cq = true ∷ true ∷ false ∷ false ∷ false ∷ [];
   sq = Some 0 ∷ None ∷ None ∷ None ∷ None ∷ [];
 }
 
--- I/O submission queue 1 too, whose completions go there
+-- also I/O submission queue 1, whose completions go to it
 abbrev pub one_queue_pair : Queues
 one_queue_pair = record {
   cq = true ∷ true ∷ false ∷ false ∷ false ∷ [];

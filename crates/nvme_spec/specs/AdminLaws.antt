@@ -1,5 +1,6 @@
--- What no admin command changes (Base Specification: Admin Command Set, Namespace Attachment command, Reservations,
--- Namespace Write Protection). No admin command is given a medium, so none changes a block.
+-- What no admin command changes: statements of `laws/admin.rt` (Base Specification: Admin Command Set, Namespace
+-- Attachment command, Reservations, Namespace Write Protection). No admin command has a medium, so none changes a
+-- block.
 use Rattle.std.specs.Prelude.{◌≡◌, ◌⊎◌, ℕ, List, map, Some, Ok, Err, option_map}
 use Rattle.nvme_wire.specs.Submission.{opcode}
 use Rattle.nvme_spec.specs.declared.access.Protection.TheVariants.{Open}
@@ -12,11 +13,11 @@ use Rattle.nvme_spec.specs.AdminCommands.{command_of}
 use Rattle.nvme_spec.specs.AdminRules.{admin_judgement}
 use Rattle.nvme_spec.specs.AdminEffects.{AdminExecution, admin_execution}
 
--- a namespace, but for its write protection
+-- a namespace without its write protection
 abbrev pub besides_protection : Namespace → Namespace
 besides_protection n = record n { protection = Open }
 
--- the controllers are the same, and of the namespaces all but their write protection
+-- the controllers are the same, and so are the namespaces without their write protection
 pub record KeepsAllBut (w next : World) : Type 0 where
   pub controllers : next.controllers ≡ w.controllers
   pub namespaces : map besides_protection next.namespaces ≡ map besides_protection w.namespaces
@@ -33,7 +34,7 @@ KeepsReservations =
     → option_map (λ (n : Namespace). n.reservation) (namespace_of (admin_execution w queues cntlid e window).world nsid)
     ≡ option_map (λ (n : Namespace). n.reservation) (namespace_of w nsid)
 
--- attachments change by an allowed Namespace Attachment alone
+-- only an allowed Namespace Attachment changes attachments
 abbrev pub AttachesByCommand : Type 0
 AttachesByCommand =
     (w : World) → (queues : Queues) → (cntlid : ℕ) → (e window : List ℕ)

@@ -1,7 +1,32 @@
--- The rules that an admin command is judged by, in their order. A rule passes for a command that it doesn't name. The
--- order of the rules and tests is this subsystem's; each is the standard's (Base Specification: Admin Command Set,
--- Namespace Identifier Usage, Features, Reservations, Physical Region Page Entry and List, Controller List).
-use Rattle.std.specs.Prelude.{ℕ, ◌+◌, ◌*◌, ◌%◌, ◌==◌, nat_lt, nat_le, Bool, true, false, not, ◌&&◌, ◌||◌, if◌then◌else◌, List, [], ◌∷◌, ◌++◌, map, Option, None, Some, is_none, is_some}
+-- The rules for admin commands, in order. A rule passes for a command that it doesn't name. The order of the rules and
+-- tests is this subsystem's; each rule is the standard's (Base Specification: Admin Command Set, Namespace Identifier
+-- Usage, Features, Reservations, Physical Region Page Entry and List, Controller List).
+use Rattle.std.specs.Prelude.{
+  ℕ,
+  ◌+◌,
+  ◌*◌,
+  ◌%◌,
+  ◌==◌,
+  nat_lt,
+  nat_le,
+  Bool,
+  true,
+  false,
+  not,
+  ◌&&◌,
+  ◌||◌,
+  if◌then◌else◌,
+  List,
+  [],
+  ◌∷◌,
+  ◌++◌,
+  map,
+  Option,
+  None,
+  Some,
+  is_none,
+  is_some,
+}
 use Rattle.std.specs.List.{range_with_len}
 use Rattle.nvme_wire.specs.Entry.{word_at}
 use Rattle.nvme_wire.specs.Submission.{opcode, nsid, prp1}
@@ -9,7 +34,16 @@ use Rattle.nvme_spec.specs.declared.access.Group.TheVariants.{Write as Writing}
 use Rattle.nvme_spec.specs.declared.access.Protection.{Protection}
 use Rattle.nvme_spec.specs.declared.access.Protection.TheVariants.{Open, Protected, UntilCycle}
 use Rattle.nvme_spec.specs.declared.command.AdminCommand.{AdminCommand}
-use Rattle.nvme_spec.specs.declared.command.AdminCommand.TheVariants.{DeleteSubmissionQueue, CreateSubmissionQueue, DeleteCompletionQueue, CreateCompletionQueue, Identify, SetFeatures, GetFeatures, NamespaceAttachment}
+use Rattle.nvme_spec.specs.declared.command.AdminCommand.TheVariants.{
+  DeleteSubmissionQueue,
+  CreateSubmissionQueue,
+  DeleteCompletionQueue,
+  CreateCompletionQueue,
+  Identify,
+  SetFeatures,
+  GetFeatures,
+  NamespaceAttachment,
+}
 use Rattle.nvme_spec.specs.declared.queues.Queues.{Queues}
 use Rattle.nvme_spec.specs.Limits.{highest_queue, fewest_entries, most_entries}
 use Rattle.nvme_spec.specs.Memory.{window_size}
@@ -19,7 +53,30 @@ use Rattle.nvme_spec.specs.IoRules.{opcode_rule, form_rule, is_no_nsid, permits_
 use Rattle.nvme_spec.specs.DataRules.{data_in, pointer_rule}
 use Rattle.nvme_spec.specs.Attachments.{AttachmentOutcome, attach, detach}
 use Rattle.nvme_spec.specs.ExistingQueues.{has_completion_queue, has_submission_queue, is_used, has_io_queue}
-use Rattle.nvme_spec.specs.AdminCommands.{command_of, is_one_of, qid, queue_size, pc, cqid, cns, namespace_structure, namespace_list_structure, fid, number_of_queues, host_identifier, write_protection, sv, nsqr, ncqr, wps, exhid, sel, names_feature, asks_for, data_length_of}
+use Rattle.nvme_spec.specs.AdminCommands.{
+  command_of,
+  is_one_of,
+  qid,
+  queue_size,
+  pc,
+  cqid,
+  cns,
+  namespace_structure,
+  namespace_list_structure,
+  fid,
+  number_of_queues,
+  host_identifier,
+  write_protection,
+  sv,
+  nsqr,
+  ncqr,
+  wps,
+  exhid,
+  sel,
+  names_feature,
+  asks_for,
+  data_length_of,
+}
 use Rattle.nvme_spec.specs.Statuses as status
 
 -- the command names one namespace
@@ -45,13 +102,13 @@ attachment_rule command w cntlid e =
     rule 5 (names_feature command write_protection e
     && not (is_some (namespace_of w (nsid e)) && is_attached w cntlid (nsid e))) status.invalid_field_in_command
 
--- 6, of each command: a field has a value that the command does not take.
+-- 6, for each command: a field has a value that the command does not take.
 
--- the identifier is no I/O queue's
+-- the identifier is not that of an I/O queue
 abbrev pub is_foreign : ℕ → Bool
 is_foreign identifier = (identifier == 0) || nat_lt highest_queue identifier
 
--- a queue of this address, whose entries have this width
+-- the tests of a queue at this address, whose entries have this width
 abbrev pub base_tests : ℕ → List ℕ → List Test
 base_tests width e =
     test (not (prp1 e % 4096 == 0)) status.prp_offset_invalid
@@ -154,13 +211,13 @@ field_rule (Some SetFeatures) queues namespace e = set_features_rule queues name
 field_rule (Some GetFeatures) queues namespace e = get_features_rule e
 field_rule (Some NamespaceAttachment) queues namespace e = selection_rule namespace e
 
--- 7: the reservation does not permit the issuing host to write
+-- 7: the reservation does not permit its host to write
 unfoldable pub reservation_rule : Option AdminCommand → Option Namespace → Option ℕ → Rule
 reservation_rule command namespace host =
     rule 7 (is_one_of command (NamespaceAttachment ∷ [])
     && not (permits_group namespace host Writing)) status.reservation_conflict
 
--- the rules before those that look at the data
+-- the rules before those on the data
 abbrev pub admin_access_rules : World → Queues → ℕ → List ℕ → List Rule
 admin_access_rules w queues cntlid e =
     let command = command_of (opcode e) in
@@ -173,15 +230,15 @@ admin_access_rules w queues cntlid e =
     ∷ reservation_rule command namespace (host_of w cntlid)
     ∷ []
 
--- how many controllers a Controller List says that it has: its first two bytes
+-- the number of controllers of a Controller List: its first two bytes
 unfoldable pub list_count : List ℕ → ℕ
 list_count bytes = word_at bytes 0
 
--- these controllers: two bytes each
+-- the controllers of a list: two bytes each
 unfoldable pub listed_controllers : List ℕ → List ℕ
 listed_controllers bytes = map (λ i. word_at bytes (2 + 2 * i)) (range_with_len 0 (list_count bytes))
 
--- what becomes of the world where a namespace is attached to the listed controllers, or detached from them
+-- the world after a namespace is attached to the listed controllers, or detached from them
 abbrev pub attachment_outcome : World → List ℕ → List ℕ → AttachmentOutcome
 attachment_outcome w e sent =
     if sel e == 0 then attach w (nsid e) (listed_controllers sent) else detach w (nsid e) (listed_controllers sent)
@@ -192,11 +249,11 @@ list_rule (Some NamespaceAttachment) w e sent =
     record { number = 11; tests = refusal_tests (attachment_outcome w e sent) }
 list_rule command w e sent = record { number = 11; tests = [] }
 
--- the data that a command finds in its host's memory
+-- the data of a command in its host's memory
 abbrev pub data_of : List ℕ → List ℕ → List ℕ
 data_of window e = data_in (data_length_of (command_of (opcode e)) e) window e
 
--- all rules of an admin command, in their order
+-- all rules for an admin command, in order
 abbrev pub admin_rules : World → Queues → ℕ → List ℕ → List ℕ → List Rule
 admin_rules w queues cntlid e window =
     let command = command_of (opcode e) in
@@ -205,6 +262,6 @@ admin_rules w queues cntlid e window =
     ∷ list_rule command w e (data_of window e)
     ∷ []
 
--- what all rules answer to an admin command of a controller, with its queues and its host's memory
+-- the verdict of all rules on an admin command of a controller, by its queues and its host's memory
 unfoldable pub admin_judgement : World → Queues → ℕ → List ℕ → List ℕ → Judgement
 admin_judgement w queues cntlid e window = first_failing (admin_rules w queues cntlid e window)

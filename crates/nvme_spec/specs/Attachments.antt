@@ -1,6 +1,32 @@
--- Attaching a namespace to controllers, and detaching it (Base Specification: Namespace Attachment command, Controller
--- List, Shared and Private Namespaces). A list is taken whole, or refused by its first fault.
-use Rattle.std.specs.Prelude.{ℕ, ◌==◌, nat_lt, Bool, true, false, not, ◌&&◌, ◌||◌, List, [], ◌∷◌, ◌++◌, length, map, filter, flat_map, Option, None, Some, is_some, Result, Ok, Err}
+-- Attaching a namespace to controllers, and detaching it, for the command Namespace Attachment (Base Specification:
+-- Namespace Attachment command, Controller List, Shared and Private Namespaces). A list is applied whole, or refused by
+-- its first fault.
+use Rattle.std.specs.Prelude.{
+  ℕ,
+  ◌==◌,
+  nat_lt,
+  Bool,
+  true,
+  false,
+  not,
+  ◌&&◌,
+  ◌||◌,
+  List,
+  [],
+  ◌∷◌,
+  ◌++◌,
+  length,
+  map,
+  filter,
+  flat_map,
+  Option,
+  None,
+  Some,
+  is_some,
+  Result,
+  Ok,
+  Err,
+}
 use Rattle.std.specs.List.{list_any}
 use Rattle.nvme_wire.specs.declared.status.Status.{Status}
 use Rattle.nvme_spec.specs.Limits.{longest_controller_list}
@@ -30,14 +56,14 @@ is_shared (Some n) = n.shared
 unfoldable pub has_controller : World → ℕ → Bool
 has_controller w nsid = list_any (λ (a : ℕ × ℕ). a.1 == nsid) w.attachments
 
--- a controller can be attached: it is not yet, and a private namespace has no other one
+-- a controller can be attached: it is not attached yet, and if the namespace is private, no other is
 unfoldable pub attach_tests : World → ℕ → Bool → ℕ → List Test
 attach_tests w nsid has_other cntlid =
     test (is_attached w cntlid nsid) status.namespace_already_attached
     ∷ test (not (is_shared (namespace_of w nsid)) && has_other) status.namespace_is_private
     ∷ []
 
--- each of a list can be, one after the other: the first is another one to those behind it
+-- the controllers of a list can be attached one after the other: for those after the first, another one is attached
 abbrev pub attach_each : World → ℕ → Bool → List ℕ → List Test
 attach_each w nsid has_other [] = []
 attach_each w nsid has_other (cntlid ∷ rest) = attach_tests w nsid has_other cntlid ++ attach_each w nsid true rest

@@ -1,19 +1,52 @@
--- What each command on blocks does, command by command: to the medium, whatever of its calls fails; by which calls; and
--- over a medium none of whose calls fails, as functions (NVM Command Set Specification: Read, Write, Compare, Write
--- Zeroes, Flush; Base Specification: Media and Data Integrity Errors).
-use Rattle.std.specs.Prelude.{◌≡◌, ◌≢◌, ◌<◌, ◌≤◌, ◌⊎◌, ℕ, zero, suc, ◌+◌, ◌*◌, Bool, true, ◌&&◌, if◌then◌else◌, List, [], ◌∷◌, length, replicate, Result, Ok, Err}
+-- The effect of each command on blocks: on the medium, whichever of its calls fail; which calls it makes; and, without
+-- faults, as functions (NVM Command Set Specification: Read, Write, Compare, Write Zeroes, Flush; Base Specification:
+-- Media and Data Integrity Errors).
+use Rattle.std.specs.Prelude.{
+  ◌≡◌,
+  ◌≢◌,
+  ◌<◌,
+  ◌≤◌,
+  ◌⊎◌,
+  ℕ,
+  zero,
+  suc,
+  ◌+◌,
+  ◌*◌,
+  Bool,
+  true,
+  ◌&&◌,
+  if◌then◌else◌,
+  List,
+  [],
+  ◌∷◌,
+  length,
+  replicate,
+  Result,
+  Ok,
+  Err,
+}
 use Rattle.std.specs.Str.{bytes_eq}
 use Rattle.nvme_wire.specs.declared.status.Status.{Status}
 use Rattle.nvme_spec.specs.declared.command.Command.{Command}
 use Rattle.nvme_spec.specs.declared.command.Command.TheVariants.{Flush, Write, Read, Compare, WriteZeroes}
 use Rattle.nvme_spec.specs.Bytes.{with_bytes}
 use Rattle.nvme_spec.specs.Blocks.{Device, block_at, blocks_from}
-use Rattle.nvme_spec.specs.MediumCalls.{MediumAnswer, MediumCall, Reads, Flushes, read_answer, passing, course, EndsAt, reads_from, writes_from}
+use Rattle.nvme_spec.specs.MediumCalls.{
+  MediumAnswer,
+  MediumCall,
+  Reads,
+  Flushes,
+  read_answer,
+  passing,
+  course,
+  EndsAt,
+  reads_from,
+  writes_from,
+}
 use Rattle.nvme_spec.specs.Effects.{ReadEffect, WriteEffect, CompareEffect, FlushEffect}
 use Rattle.nvme_spec.specs.Statuses as status
 
--- What a command on so many blocks, from `first` on, does to the medium, by the data that its host has sent; and the
--- data that return to the host.
+-- The effect of a command on blocks from `first` on the medium, by the data from its host; and the data for the host.
 abbrev pub BlockEffect : Bool → Command → ℕ → ℕ → List ℕ → Device → Device → Status → List ℕ → Type 0
 BlockEffect tells Flush first blocks sent old new answer returned = FlushEffect tells old new answer × (returned ≡ [])
 BlockEffect tells Write first blocks sent old new answer returned =
@@ -26,8 +59,8 @@ BlockEffect tells WriteZeroes first blocks sent old new answer returned =
     WriteEffect tells first (replicate (512 * blocks) 0) old new answer × (returned ≡ [])
 BlockEffect tells command first blocks sent old new answer returned = ⊥
 
--- The calls of a command on so many blocks, from `first` on, with the data that its host has sent: so many of them
--- passed, the reads among them answered these blocks, and the last one answered this. Other commands make none.
+-- The calls of a command on blocks from `first`, by the data from its host: `passed` calls succeeded, the reads among
+-- them returned these blocks, and the last call returned this answer. Other commands make no calls.
 abbrev pub calls_of : Command → ℕ → ℕ → List ℕ → List ℕ → ℕ → MediumAnswer → List MediumCall
 calls_of Flush first blocks sent read passed answer = Flushes answer ∷ []
 calls_of Write first blocks sent read passed answer = course (writes_from first sent) passed answer
@@ -37,16 +70,16 @@ calls_of Read first blocks sent read passed answer = course (reads_from first re
 calls_of Compare first blocks sent read passed answer = course (reads_from first read) passed answer
 calls_of command first blocks sent read passed answer = []
 
--- a call of the medium succeeded, or is answered with this status
+-- a call of the medium succeeded, or the command is answered with this status
 abbrev pub answer_of : {E : Type 0} → Result (Unit {0}) E → Status → Status
 answer_of (Ok u) fault = status.successful_completion
 answer_of (Err e) fault = fault
 
--- the first so many blocks are the same
+-- the first `blocks` blocks are the same
 abbrev pub AreSame : ℕ → List ℕ → List ℕ → Type 0
 AreSame blocks read bytes = (k : ℕ) → k < blocks → block_at read k ≡ block_at bytes k
 
--- the last of so many blocks differs, and only it
+-- of these blocks only the last one differs
 pub record OnlyLastDiffers (blocks : ℕ) (read bytes : List ℕ) : Type 0 where
   pub same : ℕ
   pub last : blocks ≡ same + 1
@@ -62,8 +95,8 @@ ComparesUpTo blocks bytes passed read (Ok done) answered =
 ComparesUpTo blocks bytes passed read (Err fault) answered =
     (passed < blocks) × AreSame passed read bytes × (answered ≡ status.unrecovered_read_error)
 
--- how far a command on so many blocks comes, by the data that its host has sent, and what it is answered; a Read has
--- stored what its calls answered
+-- the number of blocks that a command on blocks processes, by the data from its host, and its answer; a Read has stored
+-- the blocks that its calls returned
 abbrev pub Reaches : Command → ℕ → List ℕ → (ℕ → List ℕ → Type 0) → List ℕ → ℕ → MediumAnswer → Status → Type 0
 Reaches Flush blocks sent stored read passed answer answered = answered ≡ answer_of answer status.write_fault
 Reaches Write blocks sent stored read passed answer answered =
@@ -75,12 +108,11 @@ Reaches Read blocks sent stored read passed answer answered =
 Reaches Compare blocks sent stored read passed answer answered = ComparesUpTo blocks sent passed read answer answered
 Reaches command blocks sent stored read passed answer answered = Unit {0}
 
--- the status of a comparison
+-- the status of a Compare
 abbrev pub compared : Bool → Status
 compared same = if same then status.successful_completion else status.compare_failure
 
--- Over a medium none of whose calls fails: its content behind a command, the status that the command is answered with,
--- and the data that return to the host.
+-- Without faults: the content after a command, its status, and the data for the host.
 abbrev pub content_after : Command → ℕ → ℕ → List ℕ → List ℕ → List ℕ
 content_after Write first blocks sent content = with_bytes content (512 * first) sent
 content_after WriteZeroes first blocks sent content = with_bytes content (512 * first) (replicate (512 * blocks) 0)
@@ -98,19 +130,19 @@ data_read command first blocks content = []
 abbrev pub reads_of : ℕ → List ℕ → ℕ → MediumAnswer → MediumCall
 reads_of first content j answer = Reads (first + j) (read_answer answer (block_at content (first + j)))
 
--- the first so many blocks of a comparison are the same
+-- the first blocks of a Compare are the same
 abbrev pub are_same : ℕ → List ℕ → List ℕ → ℕ → Bool
 are_same first sent content zero = true
 are_same first sent content (suc n) =
     are_same first sent content n && bytes_eq (block_at content (first + n)) (block_at sent n)
 
--- how many of so many blocks a comparison reads: one more where all before it are the same
+-- the number of blocks that a Compare reads: one more while all before it are the same
 abbrev pub blocks_compared : ℕ → List ℕ → List ℕ → ℕ → ℕ
 blocks_compared first sent content zero = zero
 blocks_compared first sent content (suc n) =
     if are_same first sent content n then suc n else blocks_compared first sent content n
 
--- the calls of a command over a medium of this content none of whose calls fails
+-- the calls of a command over this content, if none of them fails
 abbrev pub passing_calls : Command → ℕ → ℕ → List ℕ → List ℕ → List MediumCall
 passing_calls Flush first blocks sent content = Flushes (Ok tt) ∷ []
 passing_calls Write first blocks sent content = passing (writes_from first sent) blocks

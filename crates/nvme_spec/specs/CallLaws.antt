@@ -1,6 +1,6 @@
--- What holds of the calls of every I/O command: each execution has calls; over a medium that tells its content and none
--- of whose calls fails they are one list, which leaves what the execution leaves; and no denied command is answered
--- Successful Completion, so that a Flush that is answered so was one flush.
+-- Statements of `laws/calls.rt` on the calls of every I/O command. Each execution has calls. Over a medium that reveals
+-- its content, without faults, they are one list, which leaves the content of the execution. No denied command is
+-- answered Successful Completion, so a Flush with that answer was one flush.
 use Rattle.std.specs.Prelude.{◌≡◌, ◌≢◌, ℕ, Bool, List, [], ◌∷◌, Ok}
 use Rattle.nvme_wire.specs.Submission.{opcode}
 use Rattle.nvme_wire.specs.declared.status.Status.{Status}
@@ -18,26 +18,26 @@ use Rattle.nvme_spec.specs.MediumCalls.{MediumCall, Flushes, Calls}
 use Rattle.nvme_spec.specs.Statuses as status
 use Rattle.nvme_spec.specs.World.{World}
 
--- these are calls of an I/O command of a controller, by what it is answered and what host memory is after it
+-- these are calls of an I/O command of a controller, by its status and by host memory after it
 abbrev pub AreCallsOfCommand : ℕ → List ℕ → Bool → Scene → Status → List ℕ → List MediumCall → Type 0
 AreCallsOfCommand cntlid e marked s answered after calls =
     AreCallsBy (io_verdict s.world cntlid e marked s.window) s.world s.window e answered after calls
 
--- Whatever the medium does, and whether or not it tells: each execution has calls.
+-- Whatever the medium does, and whether or not it reveals its content, each execution has calls.
 abbrev pub ExecutionsHaveCalls : Type 0
 ExecutionsHaveCalls =
     (tells : Bool) → (cntlid : ℕ) → (e : List ℕ) → (marked : Bool) → (old new : Scene) → (outcome : Outcome)
     → Executes tells cntlid e marked old new outcome
     → (calls : List MediumCall) × AreCallsOfCommand cntlid e marked old outcome.status new.window calls
 
--- Those that a medium with this content passes are one list.
+-- Over this content, without faults, they are one list.
 abbrev pub PassingCallsAreUnique : Type 0
 PassingCallsAreUnique =
     (cntlid : ℕ) → (e : List ℕ) → (marked : Bool) → (s : Scene) → (answered : Status) → (after : List ℕ)
     → (calls : List MediumCall) → (left : List ℕ) → AreCallsOfCommand cntlid e marked s answered after calls
     → Calls content_step s.device.content calls left → calls ≡ command_calls cntlid e marked s
 
--- And that list is the calls of the execution without a fault, is passed, and leaves the content that this leaves.
+-- And that list is the calls of the execution without faults, can be made, and leaves the content of the execution.
 abbrev pub PassingCallsExist : Type 0
 PassingCallsExist =
     (cntlid : ℕ) → (e : List ℕ) → (marked : Bool) → (s : Scene) → IsLaidOut s.world s.device.content
@@ -52,7 +52,7 @@ DeniedIsNoSuccess =
     (w : World) → (cntlid : ℕ) → (e : List ℕ) → (marked : Bool) → (window : List ℕ) → (number : ℕ) → (why : Status)
     → io_verdict w cntlid e marked window ≡ Denied number why → why ≢ status.successful_completion
 
--- A Flush that is answered so has made one flush of the medium, which passed, and no other call.
+-- A Flush answered Successful Completion has made one flush of the medium, which succeeded, and no other call.
 abbrev pub FlushedIsOneFlush : Type 0
 FlushedIsOneFlush =
     (tells : Bool) → (cntlid : ℕ) → (e : List ℕ) → (marked : Bool) → (old new : Scene) → (outcome : Outcome)

@@ -1,4 +1,4 @@
--- Words of the worked examples of I/O commands of several hosts.
+-- Commands, worlds and results of the worked examples of several hosts.
 use Rattle.std.specs.Prelude.{ℕ, ◌+◌, ◌*◌, ◌^◌, false, List, [], ◌∷◌, ◌++◌, Option}
 use Rattle.std.specs.Int.{w64, to_le_bytes}
 use Rattle.nvme_wire.specs.Submission.{nsid}
@@ -22,7 +22,8 @@ pub record Sent : Type 0 where
 abbrev pub keys : ℕ → ℕ → List ℕ
 keys current other = to_le_bytes w64 current ++ to_le_bytes w64 other
 
--- Reservation Register, Acquire and Release on namespace 1: the controller, the action, and what the action takes
+-- Reservation Register, Acquire and Release on namespace 1: the controller, the action, and the action's keys and
+-- fields
 abbrev pub registers : ℕ → ℕ → ℕ → ℕ → Sent
 registers c action crkey nrkey = record {
   cntlid = c;
@@ -47,11 +48,11 @@ releases c action rtype crkey = record {
 abbrev pub verdict_on : World → Sent → Verdict
 verdict_on w s = io_verdict w s.cntlid s.entry false s.window
 
--- what a reservation command makes of the reservation
+-- the outcome of a reservation command
 abbrev pub outcome_on : World → Sent → Option resv.ActionOutcome
 outcome_on w s = reservation_outcome w s.cntlid s.entry (data_of s.window s.entry)
 
--- the world after a command, by what the rules answer to it
+-- the world after a command, by the verdict of the rules
 abbrev pub after_verdict : World → Sent → Verdict → World
 after_verdict w s (Allowed plan) = world_after w (nsid s.entry) (outcome_on w s)
 after_verdict w s (Denied number why) = w
@@ -61,7 +62,7 @@ unfoldable pub after_sent : World → List Sent → World
 after_sent w [] = w
 after_sent w (s ∷ rest) = after_sent (after_verdict w s (verdict_on w s)) rest
 
--- what a report of a namespace says
+-- the report of a namespace
 abbrev pub report_on : World → ℕ → ℕ → List ℕ
 report_on w n size = report_of (namespace_of w n) w.controllers size
 

@@ -1,5 +1,5 @@
--- The I/O commands: their opcodes, their fields and the data that they move (NVM Command Set Specification:
--- Flush, Write, Read, Compare, Write Zeroes; Base Specification: Reservation Register, Report, Acquire, Release).
+-- The I/O commands: their opcodes, their fields and the data that they transfer (NVM Command Set Specification: Flush,
+-- Write, Read, Compare, Write Zeroes; Base Specification: Reservation Register, Report, Acquire, Release).
 use Rattle.std.specs.Prelude.{ℕ, ◌+◌, ◌*◌, ◌%◌, ◌^◌, ◌==◌, Bool, if◌then◌else◌, List, [], ◌∷◌, Option, None, Some}
 use Rattle.nvme_wire.specs.Entry.{bits}
 use Rattle.nvme_spec.specs.Opcodes.{command_with, is_among}
@@ -7,7 +7,17 @@ use Rattle.nvme_wire.specs.Submission.{cdw10, cdw11, cdw12}
 use Rattle.nvme_spec.specs.declared.access.Group.{Group}
 use Rattle.nvme_spec.specs.declared.access.Group.TheVariants.{Read as Reading, Write as Writing}
 use Rattle.nvme_spec.specs.declared.command.Command.{Command}
-use Rattle.nvme_spec.specs.declared.command.Command.TheVariants.{Flush, Write, Read, Compare, WriteZeroes, ReservationRegister, ReservationReport, ReservationAcquire, ReservationRelease}
+use Rattle.nvme_spec.specs.declared.command.Command.TheVariants.{
+  Flush,
+  Write,
+  Read,
+  Compare,
+  WriteZeroes,
+  ReservationRegister,
+  ReservationReport,
+  ReservationAcquire,
+  ReservationRelease,
+}
 use Rattle.nvme_spec.specs.declared.command.CommandKind.{CommandKind}
 use Rattle.nvme_spec.specs.declared.command.CommandKind.TheVariants.{OnBlocks, OnReservation, OnReport}
 use Rattle.nvme_spec.specs.declared.verdict.Plan.{Plan}
@@ -43,7 +53,7 @@ is_one_of command commands = is_among opcode_of command commands
 unfoldable pub starting_lba : List ℕ → ℕ
 starting_lba e = cdw10 e + 2 ^ 32 * cdw11 e
 
--- how many blocks: one more than Number of Logical Blocks (NLB), bits 15:0 of double word 12
+-- the number of blocks: one more than Number of Logical Blocks (NLB), bits 15:0 of double word 12
 unfoldable pub block_count : List ℕ → ℕ
 block_count e = cdw12 e % 2 ^ 16 + 1
 
@@ -67,11 +77,11 @@ rtype e = bits (cdw10 e) 15 8
 unfoldable pub eds : List ℕ → Bool
 eds e = bits (cdw11 e) 0 0 == 1
 
--- the bytes of a report: 4 for each double word, of which there is one more than Number of Dwords (NUMD) says
+-- the bytes of a report: 4 for each double word, one more than Number of Dwords (NUMD)
 unfoldable pub report_length : List ℕ → ℕ
 report_length e = 4 * (cdw10 e + 1)
 
--- the bytes that a command moves between host and controller
+-- the length of the data that a command transfers between host and controller
 abbrev pub data_length : Command → List ℕ → ℕ
 data_length Flush e = 0
 data_length Write e = block_size * block_count e
@@ -87,7 +97,7 @@ abbrev pub data_length_of : Option Command → List ℕ → ℕ
 data_length_of None e = 0
 data_length_of (Some command) e = data_length command e
 
--- the commands that a reservation judges as reading, and as writing
+-- the commands that count as reading, and as writing, for a reservation
 abbrev pub readers : List Command
 readers = Read ∷ Compare ∷ []
 
@@ -99,7 +109,7 @@ group_of command =
     if is_one_of (Some command) readers then Some Reading
     else (if is_one_of (Some command) writers then Some Writing else None)
 
--- the commands whose blocks go between host and controller
+-- the commands that transfer blocks between host and controller
 abbrev pub moving : List Command
 moving = Read ∷ Write ∷ Compare ∷ []
 

@@ -1,5 +1,5 @@
--- The data of a command, of any kind: where its two PRP entries say that they lie, and the rule that looks at them
--- (Base Specification: Data Pointer of the Common Command Format, Physical Region Page Entry and List).
+-- The data of any command: their addresses by its two PRP entries, and the rule that tests these (Base Specification:
+-- Data Pointer of the Common Command Format, Physical Region Page Entry and List).
 use Rattle.std.specs.Prelude.{ℕ, ◌==◌, true, if◌then◌else◌, List, [], ◌∷◌, Option, None, Some}
 use Rattle.nvme_wire.specs.Submission.{prp1, prp2}
 use Rattle.nvme_wire.specs.declared.status.Status.{Status}
@@ -10,7 +10,7 @@ use Rattle.nvme_spec.specs.Transfers.{addresses, pieces_of, gathered_bytes}
 use Rattle.nvme_spec.specs.Rules.{Rule, Test, test}
 use Rattle.nvme_spec.specs.Statuses as status
 
--- the transfer of so many bytes of data
+-- the transfer of the data
 abbrev pub data_transfer : ℕ → List ℕ → List ℕ → Transfer
 data_transfer bytes window e = transfer window (prp1 e) (prp2 e) bytes
 
@@ -18,7 +18,7 @@ data_transfer bytes window e = transfer window (prp1 e) (prp2 e) bytes
 unfoldable pub data_addresses : ℕ → List ℕ → List ℕ → List ℕ
 data_addresses bytes window e = addresses (pieces_of (data_transfer bytes window e))
 
--- the data that host memory holds
+-- the data in host memory
 abbrev pub data_in : ℕ → List ℕ → List ℕ → List ℕ
 data_in bytes window e = gathered_bytes window (data_addresses bytes window e)
 
@@ -30,7 +30,7 @@ abbrev pub fault_tests : Option DataFault → List Test
 fault_tests None = []
 fault_tests (Some fault) = test true (fault_status fault) ∷ []
 
--- what is wrong with the data pointer; where there are no data, nothing is
+-- the fault of the data pointer, if the command has data
 abbrev pub data_fault : ℕ → List ℕ → List ℕ → Option DataFault
 data_fault bytes window e = if bytes == 0 then None else pointer_fault (data_transfer bytes window e)
 

@@ -1,11 +1,11 @@
--- Queue entries as bytes, field by field (Base Specification: Common Command Format, Completion Queue Entry; NVM
--- Command Set Specification: Read, Write). Completions, and entries of any fields, are defined beside the readers of
--- their bytes, in `Completion` and `Submission` of `nvme_wire`.
+-- Queue entries as bytes, one field after the other, for examples and for the definitions of controllers (Base
+-- Specification: Common Command Format, Completion Queue Entry; NVM Command Set Specification: Read, Write).
+-- `Completion` and `Submission` of `nvme_wire` define completions, and entries of any fields.
 use Rattle.std.specs.Prelude.{ℕ, ◌-◌, List, ◌++◌, replicate}
 use Rattle.std.specs.Int.{w32, w64, to_le_bytes}
 pub use Rattle.nvme_wire.specs.Completion.{Completion, completion_entry}
 
--- a command, by its first double word, on so many blocks, one at least, from logical block `first` on; all else is 0
+-- a command, by its first double word, on one or more blocks from logical block `first`; all else is 0
 unfoldable pub transfer_entry : ℕ → ℕ → ℕ → ℕ → List ℕ
 transfer_entry cdw0 nsid first blocks =
     to_le_bytes w32 cdw0 ++ (to_le_bytes w32 nsid ++ (replicate 32 0

@@ -1,4 +1,4 @@
--- Configurations and worlds that the worked examples speak of.
+-- Configurations and worlds of worked examples.
 use Rattle.std.specs.Prelude.{ℕ, Bool, true, false, [], ◌∷◌}
 use Rattle.nvme_spec.specs.declared.config.ControllerConfig.{ControllerConfig}
 use Rattle.nvme_spec.specs.declared.config.NsConfig.{NsConfig}
@@ -22,8 +22,8 @@ single = record {
   attached = (1, 1) ∷ [];
 }
 
--- Four controllers of three hosts; a shared namespace of 64 blocks that all are attached to, and a private one of
--- 8 blocks that controller 1 alone is attached to.
+-- Four controllers of three hosts; a shared namespace of 64 blocks, attached to all, and a private one of 8 blocks,
+-- attached to controller 1.
 abbrev pub cluster : Configuration
 cluster = record {
   controllers = controller 1 0xa1 ∷ controller 2 0xb2 ∷ controller 3 0xa1 ∷ controller 4 0xc3 ∷ [];

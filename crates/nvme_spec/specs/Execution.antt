@@ -1,6 +1,25 @@
--- The execution of one I/O command: whether it is allowed, what it does then, and what it is answered (NVM Command Set
--- Specification: I/O commands; Base Specification: Reservations).
-use Rattle.std.specs.Prelude.{◌≡◌, ◌==◌, ℕ, ◌+◌, Bool, ◌&&◌, if◌then◌else◌, List, [], ◌∷◌, length, take, Option, None, Some, Ok, Err, IsTrue}
+-- The execution of one I/O command: whether it is allowed, its effect, and its answer (NVM Command Set Specification:
+-- I/O commands; Base Specification: Reservations).
+use Rattle.std.specs.Prelude.{
+  ◌≡◌,
+  ◌==◌,
+  ℕ,
+  ◌+◌,
+  Bool,
+  ◌&&◌,
+  if◌then◌else◌,
+  List,
+  [],
+  ◌∷◌,
+  length,
+  take,
+  Option,
+  None,
+  Some,
+  Ok,
+  Err,
+  IsTrue,
+}
 use Rattle.std.specs.List.{list_any, AllByRecursion}
 use Rattle.nvme_wire.specs.Submission.{nsid}
 use Rattle.nvme_wire.specs.declared.status.Status.{Status}
@@ -33,34 +52,34 @@ pub record Scene : Type 0 where
 abbrev pub scene : World → List ℕ → Device → Scene
 scene w memory medium = record { world = w; window = memory; device = medium }
 
--- where a namespace begins on the medium. A command that names none is refused by its rules
+-- the first block of a namespace on the medium. The rules refuse a command that names none
 abbrev pub start_of : Option Namespace → ℕ
 start_of None = 0
 start_of (Some n) = n.first
 
--- the block of the medium that a command begins at
+-- the first block of a command, on the medium
 abbrev pub medium_block : World → List ℕ → ℕ
 medium_block w e = start_of (namespace_of w (nsid e)) + starting_lba e
 
--- the world, where the reservation of a namespace has become so
+-- the world after an action on the reservation of a namespace
 abbrev pub world_after : World → ℕ → Option resv.ActionOutcome → World
 world_after w n None = w
 world_after w n (Some (Err refusal)) = w
 world_after w n (Some (Ok transition)) = with_reservation w n transition.next
 
--- what a report of a namespace says, in so many bytes. A command that names none is refused by its rules
+-- a namespace's report of this length. The rules refuse a command that names none
 abbrev pub report_of : Option Namespace → List ControllerHost → ℕ → List ℕ
 report_of None controllers size = []
 report_of (Some n) controllers size = report_data n.reservation controllers size
 
--- A command on blocks changes the medium alone.
+-- A command on blocks changes only the medium.
 pub record ActsOnBlocks (tells : Bool) (command : Command) (e sent : List ℕ) (old new : Scene) (answer : Status)
     (returned : List ℕ) : Type 0 where
   pub world : new.world ≡ old.world
   pub effect : BlockEffect tells command (medium_block old.world e) (block_count e) sent old.device new.device
       answer returned
 
--- A reservation command changes the reservation of its namespace alone.
+-- A reservation command changes only the reservation of its namespace.
 pub record ActsOnReservation (cntlid : ℕ) (e sent : List ℕ) (old new : Scene) (answer : Status)
     (returned : List ℕ) : Type 0 where
   pub answered : answer ≡ status.successful_completion
@@ -83,8 +102,8 @@ PerformsAs OnReservation tells command cntlid e sent old new answer returned =
     ActsOnReservation cntlid e sent old new answer returned
 PerformsAs OnReport tells command cntlid e sent old new answer returned = Reports e old new answer returned
 
--- What an allowed command of a controller does to the access state and the medium, by the data that its host has sent;
--- the status that it is answered with; and the data that return to the host.
+-- The effect of an allowed command of a controller on the access state and the medium, by the data from its host; its
+-- status; and the data for the host.
 abbrev pub Performs : Bool → Command → ℕ → List ℕ → List ℕ → Scene → Scene → Status → List ℕ → Type 0
 Performs tells command cntlid e sent old new answer returned =
     PerformsAs (kind_of command) tells command cntlid e sent old new answer returned
@@ -96,7 +115,7 @@ no_marks = record { nsid = 0; hosts = record { items = [] } }
 abbrev pub is_preempt_and_abort : Command → List ℕ → Bool
 is_preempt_and_abort command e = is_one_of (Some command) (ReservationAcquire ∷ []) && action e == 2
 
--- the fetched commands of these hosts on a namespace are to be marked
+-- the fetched commands of these hosts on a namespace have to be marked
 abbrev pub marks_on : ℕ → List ℕ → Marks
 marks_on n [] = no_marks
 marks_on n (host ∷ rest) = record { nsid = n; hosts = record { items = host ∷ rest } }
@@ -107,7 +126,7 @@ removed_by None = []
 removed_by (Some (Err refusal)) = []
 removed_by (Some (Ok transition)) = transition.removed
 
--- a Preempt and Abort marks what the hosts that it removed have fetched; other commands mark nothing
+-- a Preempt and Abort marks the fetched commands of the hosts that it removed; other commands mark nothing
 abbrev pub marks_for : Command → List ℕ → List ℕ → Marks
 marks_for command e removed = if is_preempt_and_abort command e then marks_on (nsid e) removed else no_marks
 
@@ -118,8 +137,8 @@ marks_of command e outcome = marks_for command e (removed_by outcome)
 abbrev pub denial_outcome : ℕ → Status → Outcome
 denial_outcome number why = record { status = why; dw0 = 0; rule = number; marks = no_marks }
 
--- An allowed command is performed. Its data stand in host memory then, the first byte at the first address, and no
--- other byte there has changed.
+-- An allowed command is performed. Then its data are in host memory, the first byte at the first address, and no other
+-- byte of it has changed.
 pub record IsPerformed (tells : Bool) (command : Command) (cntlid : ℕ) (e : List ℕ) (old new : Scene)
     (outcome : Outcome) : Type 0 where
   pub returned : List ℕ
@@ -131,7 +150,7 @@ pub record IsPerformed (tells : Bool) (command : Command) (cntlid : ℕ) (e : Li
   pub rule : outcome.rule ≡ 0
   pub marks : outcome.marks ≡ marks_of command e (reservation_outcome old.world cntlid e (data_of old.window e))
 
--- by what the rules answer: a denied command changes nothing
+-- by the verdict of the rules: a denied command changes nothing
 abbrev pub ExecutesBy : Verdict → Bool → ℕ → List ℕ → Scene → Scene → Outcome → Type 0
 ExecutesBy (Denied number why) tells cntlid e old new outcome = (new ≡ old) × (outcome ≡ denial_outcome number why)
 ExecutesBy (Allowed plan) tells cntlid e old new outcome = IsPerformed tells plan.kind cntlid e old new outcome

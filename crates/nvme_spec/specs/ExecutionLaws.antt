@@ -1,5 +1,5 @@
--- What holds of the execution of every I/O command: it is determined but for faults of the medium, it leaves all but
--- what the policy allows it, and so a host that its reservation keeps from writing writes nothing.
+-- Statements of `laws/executions.rt` on the execution of every I/O command. It is determined except for faults of the
+-- medium. It changes only what the policy allows, so a host that a reservation has fenced off writes nothing.
 use Rattle.std.specs.Prelude.{◌≡◌, ◌≢◌, ◌⊎◌, ◌<◌, ◌≤◌, ◌-◌, ◌^◌, ℕ, Bool, true, false, List, length}
 use Rattle.nvme_wire.specs.Submission.{nsid}
 use Rattle.nvme_spec.specs.declared.command.Command.{Command}
@@ -14,20 +14,20 @@ use Rattle.nvme_spec.specs.FaultFree.{fault_free_execution}
 use Rattle.nvme_spec.specs.Layout.{IsLaidOut, HasSameLayout, bytes_of, reservation_of, may_write}
 use Rattle.std.specs.Prelude.{Some}
 
--- the count of failures never falls
+-- the failure count never falls
 abbrev pub FailuresNeverFall : Type 0
 FailuresNeverFall =
     (tells : Bool) → (cntlid : ℕ) → (e : List ℕ) → (marked : Bool) → (old new : Scene) → (outcome : Outcome)
     → Executes tells cntlid e marked old new outcome → old.device.failures ≤ new.device.failures
 
--- where the namespaces lie on the medium, each command can be executed without a fault
+-- if the namespaces are on the medium, each command can be executed without a fault
 abbrev pub FaultFreeExecutes : Type 0
 FaultFreeExecutes =
     (cntlid : ℕ) → (e : List ℕ) → (marked : Bool) → (s : Scene) → IsLaidOut s.world s.device.content
     → Executes true cntlid e marked s (fault_free_execution cntlid e marked s).left
     (fault_free_execution cntlid e marked s).outcome
 
--- and that is the one execution without a fault: all of what is left and answered is determined
+-- and that is the only execution without a fault: the state after it and its answer are determined
 abbrev pub ExecutesAlone : Type 0
 ExecutesAlone =
     (cntlid : ℕ) → (e : List ℕ) → (marked : Bool) → (old new : Scene) → (outcome : Outcome)
@@ -36,8 +36,8 @@ ExecutesAlone =
     → (new ≡ (fault_free_execution cntlid e marked old).left)
     × (outcome ≡ (fault_free_execution cntlid e marked old).outcome)
 
--- Whatever a medium tells, an execution leaves controllers, attachments, namespaces but for one's reservation, and the
--- length of host memory.
+-- Whatever the medium reveals, an execution leaves controllers, attachments, namespaces except for one's reservation,
+-- and the length of host memory.
 pub record KeepsTheRest (n : ℕ) (old new : Scene) : Type 0 where
   pub layout : HasSameLayout old.world new.world
   pub reservations : (other : ℕ) → other ≢ n → reservation_of new.world other ≡ reservation_of old.world other
@@ -71,7 +71,7 @@ OnlyAllowedActionsReserve =
     → (reservation_of new.world n ≡ reservation_of old.world n)
     ⊎ ((nsid e ≡ n) × IsAllowed reserving old.world cntlid e marked old.window)
 
--- A host that the reservation of a namespace keeps from writing changes no byte of it.
+-- A host that may not write to a namespace by its reservation changes no byte of it.
 abbrev pub FencedCommandsWriteNothing : Type 0
 FencedCommandsWriteNothing =
     (cntlid : ℕ) → (e : List ℕ) → (marked : Bool) → (old new : Scene) → (outcome : Outcome) → (n : ℕ)
@@ -79,7 +79,7 @@ FencedCommandsWriteNothing =
     → may_write old.world cntlid n ≡ false
     → bytes_of new.world new.device.content n ≡ bytes_of old.world old.device.content n
 
--- The medium keeps its size, and the namespaces lie on it as before.
+-- The medium keeps its size, and the namespaces keep their places on it.
 abbrev pub LayoutStays : Type 0
 LayoutStays =
     (cntlid : ℕ) → (e : List ℕ) → (marked : Bool) → (old new : Scene) → (outcome : Outcome)

@@ -1,6 +1,22 @@
--- Which queues of a controller exist (Base Specification: Create and Delete I/O Completion Queue, Create and Delete I/O
+-- The queues of a controller (Base Specification: Create and Delete I/O Completion Queue, Create and Delete I/O
 -- Submission Queue). Queues 0 are the admin queues; I/O queues have the identifiers 1 to 4.
-use Rattle.std.specs.Prelude.{ℕ, Bool, true, false, ◌||◌, ◌==◌, List, [], ◌∷◌, Option, None, Some, is_some, slice_index_or, slice_set}
+use Rattle.std.specs.Prelude.{
+  ℕ,
+  Bool,
+  true,
+  false,
+  ◌||◌,
+  ◌==◌,
+  List,
+  [],
+  ◌∷◌,
+  Option,
+  None,
+  Some,
+  is_some,
+  slice_index_or,
+  slice_set,
+}
 use Rattle.std.specs.List.{list_any}
 use Rattle.nvme_spec.specs.declared.queues.Queues.{Queues}
 use Rattle.nvme_spec.specs.declared.queues.QueueChange.{QueueChange}
@@ -28,7 +44,7 @@ io_queues = 1 ∷ 2 ∷ 3 ∷ 4 ∷ []
 abbrev pub has_io_queue : Queues → Bool
 has_io_queue queues = list_any (λ qid. has_completion_queue queues qid || has_submission_queue queues qid) io_queues
 
--- the admin queues alone
+-- only the admin queues
 abbrev pub only_admin_queues : Queues
 only_admin_queues = record {
   cq = true ∷ false ∷ false ∷ false ∷ false ∷ [];

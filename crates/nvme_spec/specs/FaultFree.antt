@@ -1,5 +1,5 @@
--- The execution of one I/O command over a medium none of whose calls fails, as a function: what is left, and what is
--- answered (NVM Command Set Specification: I/O commands; Base Specification: Reservations).
+-- The execution of one I/O command without faults of the medium, as a function: the state after it, and its answer (NVM
+-- Command Set Specification: I/O commands; Base Specification: Reservations).
 use Rattle.std.specs.Prelude.{ℕ, Bool, List, [], length, take}
 use Rattle.nvme_wire.specs.Submission.{nsid}
 use Rattle.nvme_wire.specs.declared.status.Status.{Status}
@@ -19,7 +19,7 @@ use Rattle.nvme_spec.specs.IoData.{data_of, reservation_outcome, io_verdict}
 use Rattle.nvme_spec.specs.Execution.{Scene, medium_block, report_of, world_after, marks_of, denial_outcome}
 use Rattle.nvme_spec.specs.Statuses as status
 
--- what an allowed command gives: its status, the data that return to the host, the access state, the medium's content
+-- the result of an allowed command: its status, the data for the host, the access state, the medium's content
 pub record Performance : Type 0 where
   pub status : Status
   pub returned : List ℕ
@@ -46,12 +46,12 @@ performance_as OnReport command cntlid e sent s = record {
   content = s.device.content;
 }
 
--- an executed command: what is left, and what is answered
+-- an executed command: the state after it, and its answer
 pub record Execution : Type 0 where
   pub left : Scene
   pub outcome : Outcome
 
--- its data stand in host memory then, and no call of the medium has failed
+-- its data are in host memory then, and no call of the medium has failed
 abbrev pub performed : Command → ℕ → List ℕ → Scene → Performance → Execution
 performed command cntlid e s p = record {
   left = record {
@@ -71,7 +71,7 @@ performed command cntlid e s p = record {
 abbrev pub performance_of : Command → ℕ → List ℕ → Scene → Performance
 performance_of command cntlid e s = performance_as (kind_of command) command cntlid e (data_of s.window e) s
 
--- by what the rules answer
+-- by the verdict of the rules
 abbrev pub fault_free_by : Verdict → ℕ → List ℕ → Scene → Execution
 fault_free_by (Denied number why) cntlid e s = record { left = s; outcome = denial_outcome number why }
 fault_free_by (Allowed plan) cntlid e s = performed plan.kind cntlid e s (performance_of plan.kind cntlid e s)

@@ -1,5 +1,5 @@
--- The calls that an I/O command makes of a medium that tells its content and none of whose calls fails, as a function
--- (NVM Command Set Specification: Read, Write, Compare, Write Zeroes, Flush).
+-- The calls that an I/O command makes without faults of a medium that reveals its content, as a function (NVM Command
+-- Set Specification: Read, Write, Compare, Write Zeroes, Flush).
 use Rattle.std.specs.Prelude.{◌≡◌, ℕ, ◌*◌, Bool, List, [], Ok}
 use Rattle.nvme_spec.specs.declared.verdict.Verdict.{Verdict}
 use Rattle.nvme_spec.specs.declared.verdict.Verdict.TheVariants.{Allowed, Denied}
@@ -11,13 +11,13 @@ use Rattle.nvme_spec.specs.Execution.{Scene, medium_block}
 use Rattle.nvme_spec.specs.IoData.{data_of, io_verdict}
 use Rattle.nvme_spec.specs.MediumCalls.{MediumCall, Reads, Writes, Flushes}
 
--- A call of such a medium, by its content: it passes, a read answers the block, and only a write changes anything.
+-- A call of such a medium, by its content: it succeeds, a read returns the block, and only a write changes anything.
 abbrev pub content_step : List ℕ → MediumCall → List ℕ → Type 0
 content_step old (Reads i answer) new = (answer ≡ Ok (block_at old i)) × (new ≡ old)
 content_step old (Writes i block answer) new = (answer ≡ Ok tt) × (new ≡ with_bytes old (512 * i) block)
 content_step old (Flushes answer) new = (answer ≡ Ok tt) × (new ≡ old)
 
--- by what the rules answer: a denied command makes no call
+-- by the verdict of the rules: a denied command makes no call
 abbrev pub calls_by : Verdict → List ℕ → Scene → List MediumCall
 calls_by (Denied number why) e s = []
 calls_by (Allowed plan) e s =

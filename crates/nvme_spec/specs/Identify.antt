@@ -1,7 +1,26 @@
 -- The data structures of Identify (Base Specification: Identify command, Identify Controller data structure, Active
 -- Namespace ID list; NVM Command Set Specification: Identify Namespace data structure). Each has 4,096 bytes, which are
--- 0 where no field stands.
-use Rattle.std.specs.Prelude.{ℕ, ◌-◌, nat_lt, Bool, ◌&&◌, if◌then◌else◌, List, [], ◌∷◌, ◌++◌, codes, length, filter, flat_map, replicate, Option, None, Some}
+-- 0 outside of its fields.
+use Rattle.std.specs.Prelude.{
+  ℕ,
+  ◌-◌,
+  nat_lt,
+  Bool,
+  ◌&&◌,
+  if◌then◌else◌,
+  List,
+  [],
+  ◌∷◌,
+  ◌++◌,
+  codes,
+  length,
+  filter,
+  flat_map,
+  replicate,
+  Option,
+  None,
+  Some,
+}
 use Rattle.std.specs.List.{range_with_len}
 use Rattle.std.specs.Int.{w16, w32, w64, to_le_bytes}
 use Rattle.nvme_spec.specs.Bytes.{with_bytes}
@@ -26,7 +45,7 @@ dword_field at value = record { offset = at; bytes = to_le_bytes w32 value }
 abbrev pub qword_field : ℕ → ℕ → Field
 qword_field at value = record { offset = at; bytes = to_le_bytes w64 value }
 
--- ASCII text in a field of so many bytes, with spaces behind it
+-- ASCII text in a field of this size, filled with spaces
 abbrev pub text_field : ℕ → ℕ → List ℕ → Field
 text_field at size text = record { offset = at; bytes = text ++ replicate (size - length text) 0x20 }
 
@@ -97,15 +116,15 @@ identify_namespace n = with_fields no_fields (namespace_fields n)
 unfoldable pub identify_controller : ℕ → List ℕ
 identify_controller cntlid = with_fields no_fields (controller_fields cntlid)
 
--- the namespaces that are attached to a controller, by rising identifier, from the first above this one on
+-- the namespaces attached to a controller whose identifiers are above this one, in rising order
 abbrev pub attached_above : World → ℕ → ℕ → List ℕ
 attached_above w cntlid nsid = filter (λ n. nat_lt nsid n && is_attached w cntlid n) (range_with_len 1 8)
 
--- the list of these, four bytes each
+-- the list of these identifiers, four bytes each
 unfoldable pub namespace_list : List ℕ → List ℕ
 namespace_list nsids = with_bytes no_fields 0 (flat_map (to_le_bytes w32) nsids)
 
--- zeros where the namespace is not attached to the controller
+-- zeros if the namespace is not attached to the controller
 abbrev pub identify_attached : World → ℕ → ℕ → List ℕ
 identify_attached w cntlid nsid = shown (namespace_of w nsid) (is_attached w cntlid nsid)
   where

@@ -1,35 +1,81 @@
--- The rules that an I/O command is judged by before its data are looked at, in their order. A rule passes for a
--- command that it doesn't name. The order of the rules is this subsystem's; each rule is the standard's (Base
--- Specification: Command Format, Namespace Identifier Usage, Reservations, Namespace Write Protection; NVM Command
--- Set Specification: LBA Out of Range).
-use Rattle.std.specs.Prelude.{ℕ, ◌+◌, ◌≤◌, ◌==◌, nat_lt, nat_le, Bool, true, false, not, ◌&&◌, ◌||◌, List, [], ◌∷◌, Option, None, Some, is_none, is_some, IsSomeAnd, Ok, Err}
+-- The rules for an I/O command that do not look at its data, in order. A rule passes for a command that it doesn't
+-- name. The order of the rules is this subsystem's; each rule is the standard's (Base Specification: Command Format,
+-- Namespace Identifier Usage, Reservations, Namespace Write Protection; NVM Command Set Specification: LBA Out of
+-- Range).
+use Rattle.std.specs.Prelude.{
+  ℕ,
+  ◌+◌,
+  ◌≤◌,
+  ◌==◌,
+  nat_lt,
+  nat_le,
+  Bool,
+  true,
+  false,
+  not,
+  ◌&&◌,
+  ◌||◌,
+  List,
+  [],
+  ◌∷◌,
+  Option,
+  None,
+  Some,
+  is_none,
+  is_some,
+  IsSomeAnd,
+  Ok,
+  Err,
+}
 use Rattle.nvme_wire.specs.Submission.{opcode, fuse, psdt, nsid}
 use Rattle.nvme_spec.specs.declared.access.Role.{Role}
 use Rattle.nvme_spec.specs.declared.access.Role.TheVariants.{Outsider}
 use Rattle.nvme_spec.specs.declared.access.Group.{Group}
 use Rattle.nvme_spec.specs.declared.access.Group.TheVariants.{Read as Reading, Write as Writing}
 use Rattle.nvme_spec.specs.declared.command.Command.{Command}
-use Rattle.nvme_spec.specs.declared.command.Command.TheVariants.{ReservationRegister, ReservationReport, ReservationAcquire, ReservationRelease}
+use Rattle.nvme_spec.specs.declared.command.Command.TheVariants.{
+  ReservationRegister,
+  ReservationReport,
+  ReservationAcquire,
+  ReservationRelease,
+}
 use Rattle.nvme_spec.specs.declared.verdict.Plan.{Plan}
 use Rattle.nvme_spec.specs.declared.verdict.Verdict.{Verdict}
 use Rattle.nvme_spec.specs.declared.verdict.Verdict.TheVariants.{Allowed, Denied}
 use Rattle.nvme_spec.specs.Reservation.{role_of}
 use Rattle.nvme_spec.specs.Access.{is_permitted}
 use Rattle.nvme_spec.specs.World.{World, Namespace, forbids_writing, host_of, namespace_of, is_attached}
-use Rattle.nvme_spec.specs.Commands.{command_of, is_one_of, starting_lba, block_count, action, iekey, cptpl, rtype, eds, report_length, readers, writers, moving, altering, ranged, plan_of}
+use Rattle.nvme_spec.specs.Commands.{
+  command_of,
+  is_one_of,
+  starting_lba,
+  block_count,
+  action,
+  iekey,
+  cptpl,
+  rtype,
+  eds,
+  report_length,
+  readers,
+  writers,
+  moving,
+  altering,
+  ranged,
+  plan_of,
+}
 use Rattle.nvme_spec.specs.Rules.{Rule, Judgement, rule, test, first_failing}
 use Rattle.nvme_spec.specs.Limits.{highest_nsid, most_blocks, most_bytes}
 use Rattle.nvme_spec.specs.Statuses as status
 
--- 1: a preempt and abort has marked the command
+-- 1: a Preempt and Abort has marked the command
 unfoldable pub mark_rule : Bool → Rule
 mark_rule marked = rule 1 marked status.command_aborted_due_to_preempt_and_abort
 
--- 2: the opcode is not that of a command of the set
+-- 2: the opcode is not one of the command set
 unfoldable pub opcode_rule : {C : Type 0} → Option C → Rule
 opcode_rule command = rule 2 (is_none command) status.invalid_command_opcode
 
--- 3: the command is fused, or its data pointer is not of PRP entries
+-- 3: the command is fused, or its data pointer is not PRP entries
 unfoldable pub form_rule : List ℕ → Rule
 form_rule e = rule 3 (not (fuse e == 0) || not (psdt e == 0)) status.invalid_field_in_command
 
@@ -37,7 +83,7 @@ form_rule e = rule 3 (not (fuse e == 0) || not (psdt e == 0)) status.invalid_fie
 abbrev pub is_no_nsid : ℕ → Bool
 is_no_nsid n = (n == 0) || nat_lt highest_nsid n
 
--- 4: the identifier is that of no namespace
+-- 4: the identifier is not one of a namespace
 unfoldable pub nsid_rule : ℕ → Rule
 nsid_rule n = rule 4 (is_no_nsid n) status.invalid_namespace_or_format
 
@@ -66,7 +112,7 @@ field_rule command e = record {
       ∷ [];
 }
 
--- what the host of a controller is to a namespace; a controller that isn't configured has no host
+-- the role of a controller's host for a namespace; a controller that isn't configured has no host
 abbrev pub role_in : Namespace → Option ℕ → Role
 role_in n None = Outsider
 role_in n (Some host) = role_of n.reservation host
@@ -95,7 +141,7 @@ abbrev pub has_blocks_below : Option Namespace → ℕ → Bool
 has_blocks_below None end = true
 has_blocks_below (Some n) end = nat_le end n.blocks
 
--- 9: the range ends past the namespace
+-- 9: the range ends after the end of the namespace
 unfoldable pub range_rule : Option Command → Option Namespace → List ℕ → Rule
 range_rule command namespace e =
     rule 9 (is_one_of command ranged
@@ -116,13 +162,13 @@ access_rules w cntlid e marked =
     ∷ range_rule command namespace e
     ∷ []
 
--- the denial by the first rule that fails, else the plan of the command. Where there is no command, rule 2 has failed
+-- the denial by the first rule that fails, else the plan of the command. If there is no command, rule 2 has failed
 abbrev pub conclusion : Judgement → Option Command → List ℕ → Verdict
 conclusion (Err denial) command e = Denied denial.rule denial.status
 conclusion (Ok u) None e = Denied 2 status.invalid_command_opcode
 conclusion (Ok u) (Some command) e = Allowed (plan_of command e)
 
--- what an allowed plan says, and what a denial says
+-- a property of an allowed plan, and of a denial
 abbrev pub IfAllowed : Verdict → (Plan → Type 0) → Type 0
 IfAllowed (Allowed plan) P = P plan
 IfAllowed (Denied number why) P = Unit {0}
@@ -131,10 +177,10 @@ abbrev pub IfDenied : Verdict → Type 0 → Type 0
 IfDenied (Allowed plan) P = Unit {0}
 IfDenied (Denied number why) P = P
 
--- what the rules on access answer to a command of a controller
+-- the verdict of the rules on access on a command of a controller
 unfoldable pub verdict : World → ℕ → List ℕ → Bool → Verdict
 verdict w cntlid e marked = conclusion (first_failing (access_rules w cntlid e marked)) (command_of (opcode e)) e
 
--- the blocks of a plan lie in the namespace that an entry names
+-- the blocks of a plan are in the namespace that an entry names
 abbrev pub FitsNamespace : World → ℕ → Plan → Type 0
 FitsNamespace w n plan = IsSomeAnd (namespace_of w n) (λ (space : Namespace). plan.first + plan.blocks ≤ space.blocks)

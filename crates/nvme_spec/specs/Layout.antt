@@ -1,14 +1,31 @@
--- Which bytes of a medium are a namespace's, and which hosts its reservation lets read and write them (Base
--- Specification: Namespaces, Reservations).
-use Rattle.std.specs.Prelude.{◌≡◌, ◌≢◌, ◌⊎◌, ◌≤◌, ℕ, ◌+◌, ◌*◌, Bool, List, [], map, length, Option, None, Some, option_map}
+-- The place of each namespace on a medium, and which hosts its reservation lets read and write it (Base Specification:
+-- Namespaces, Reservations).
+use Rattle.std.specs.Prelude.{
+  ◌≡◌,
+  ◌≢◌,
+  ◌⊎◌,
+  ◌≤◌,
+  ℕ,
+  ◌+◌,
+  ◌*◌,
+  Bool,
+  List,
+  [],
+  map,
+  length,
+  Option,
+  None,
+  Some,
+  option_map,
+}
 use Rattle.nvme_spec.specs.declared.access.Group.TheVariants.{Read as Reading, Write as Writing}
 use Rattle.nvme_spec.specs.Blocks.{blocks_from}
-use Rattle.nvme_spec.specs.Configuration.{Configuration, first_config_fault}
+use Rattle.nvme_spec.specs.Configuration.{Configuration, Capacity, config_fault}
 use Rattle.nvme_spec.specs.Reservation.{Reservation, unreserved}
 use Rattle.nvme_spec.specs.World.{World, Namespace, host_of, namespace_of, opening_world}
 use Rattle.nvme_spec.specs.IoRules.{permits_group}
 
--- the blocks of the medium that are a namespace's
+-- the blocks of a namespace on the medium
 pub record Extent : Type 0 where
   pub first : ℕ
   pub blocks : ℕ
@@ -29,7 +46,7 @@ bytes_of w content n = bytes_at content (extent_of w n)
 abbrev pub AreApart : Extent → Extent → Type 0
 AreApart x y = (x.first + x.blocks ≤ y.first) ⊎ (y.first + y.blocks ≤ x.first)
 
--- every namespace lies on the medium, and no two share a block
+-- every namespace is on the medium, and no two share a block
 pub record IsLaidOut (w : World) (content : List ℕ) : Type 0 where
   pub within : (n : ℕ) → (x : Extent) → extent_of w n ≡ Some x → 512 * (x.first + x.blocks) ≤ length content
   pub apart : (n m : ℕ) → (x y : Extent) → n ≢ m → extent_of w n ≡ Some x → extent_of w m ≡ Some y → AreApart x y
@@ -37,8 +54,8 @@ pub record IsLaidOut (w : World) (content : List ℕ) : Type 0 where
 -- a subsystem that opens with an accepted configuration is laid out
 abbrev pub OpeningIsLaidOut : Type 0
 OpeningIsLaidOut =
-    (c : Configuration) → (blocks : ℕ) → (content : List ℕ) → length content ≡ 512 * blocks
-    → first_config_fault c blocks ≡ None → IsLaidOut (opening_world c) content
+    (c : Configuration) → (size : Capacity) → (content : List ℕ) → length content ≡ 512 * size.medium
+    → config_fault c size ≡ None → IsLaidOut (opening_world c) content
 
 -- the reservation of a namespace
 unfoldable pub reservation_of : World → ℕ → Option Reservation
@@ -51,11 +68,11 @@ may_write w cntlid n = permits_group (namespace_of w n) (host_of w cntlid) Writi
 unfoldable pub may_read : World → ℕ → ℕ → Bool
 may_read w cntlid n = permits_group (namespace_of w n) (host_of w cntlid) Reading
 
--- all of a namespace but its reservation
+-- a namespace without its reservation
 abbrev pub unreserved_one : Namespace → Namespace
 unreserved_one n = record n { reservation = unreserved }
 
--- the same controllers and attachments, and the same namespaces but for their reservations
+-- the same controllers and attachments, and the same namespaces except for their reservations
 pub record HasSameLayout (old new : World) : Type 0 where
   pub controllers : new.controllers ≡ old.controllers
   pub attachments : new.attachments ≡ old.attachments

@@ -41,6 +41,6 @@ fewest_entries = 2
 abbrev pub most_entries : ℕ
 most_entries = 64
 
--- the most identifiers that a Controller List holds
+-- the most identifiers of a Controller List
 abbrev pub longest_controller_list : ℕ
 longest_controller_list = 2047

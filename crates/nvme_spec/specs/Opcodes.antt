@@ -1,4 +1,4 @@
--- A set of commands, known by their opcodes (Base Specification: Submission Queue Entry; Opcode).
+-- Sets of commands by their opcodes, for I/O and admin commands (Base Specification: Submission Queue Entry; Opcode).
 use Rattle.std.specs.Prelude.{ℕ, ◌==◌, Bool, false, List, Option, None, Some, find}
 use Rattle.std.specs.List.{list_any}
 

@@ -1,5 +1,5 @@
--- What a power cycle leaves of the access state, and what write protection until a power cycle holds until then (Base
--- Specification: Persist Through Power Loss of Reservations, Namespace Write Protection).
+-- Statements of `laws/power.rt`: what a power cycle leaves of the access state, and what write protection until a power
+-- cycle forbids before it (Base Specification: Persist Through Power Loss of Reservations, Namespace Write Protection).
 use Rattle.std.specs.Prelude.{◌≡◌, ℕ, Bool, true, false, List, Option, Some, option_map}
 use Rattle.nvme_spec.specs.declared.access.Protection.{Protection}
 use Rattle.nvme_spec.specs.declared.access.Protection.TheVariants.{UntilCycle}
@@ -17,7 +17,7 @@ use Rattle.nvme_spec.specs.Power.{cycled_protection, cycled_world}
 unfoldable pub protection_at : World → ℕ → Option Protection
 protection_at w n = option_map (λ (space : Namespace). space.protection) (namespace_of w n)
 
--- controllers, attachments, and where each namespace lies are as they were
+-- controllers, attachments, and the places of namespaces are unchanged
 pub record KeepsPlaces (old new : World) : Type 0 where
   pub controllers : new.controllers ≡ old.controllers
   pub attachments : new.attachments ≡ old.attachments
@@ -27,7 +27,7 @@ pub record KeepsPlaces (old new : World) : Type 0 where
 abbrev pub CycleKeepsPlaces : Type 0
 CycleKeepsPlaces = (w : World) → KeepsPlaces w (cycled_world w)
 
--- a reservation that persists through power loss is as it was, and hosts have the rights that they had
+-- a reservation that persists through power loss is unchanged, and hosts keep the permissions that they had
 abbrev pub CycleKeepsPersistent : Type 0
 CycleKeepsPersistent =
     (w : World) → (n : ℕ) → (r : Reservation) → reservation_of w n ≡ Some r → r.ptpl ≡ true
@@ -39,13 +39,13 @@ CycleKeepsRights =
     → (may_write (cycled_world w) cntlid n ≡ may_write w cntlid n)
     × (may_read (cycled_world w) cntlid n ≡ may_read w cntlid n)
 
--- of any other nothing is left
+-- any other reservation is gone
 abbrev pub CycleForgetsOthers : Type 0
 CycleForgetsOthers =
     (w : World) → (n : ℕ) → (r : Reservation) → reservation_of w n ≡ Some r → r.ptpl ≡ false
     → reservation_of (cycled_world w) n ≡ Some unreserved
 
--- protection stays, but for one until the power cycle
+-- protection stays, except for one until the power cycle
 abbrev pub CycleEndsProtection : Type 0
 CycleEndsProtection =
     (w : World) → (n : ℕ) → protection_at (cycled_world w) n ≡ option_map cycled_protection (protection_at w n)

@@ -1,5 +1,5 @@
--- Which changes of the queues an admin command can ask for that all rules let pass (Base Specification: Create and
--- Delete I/O Completion Queue, Create and Delete I/O Submission Queue).
+-- The changes of queues that the rules allow to an admin command (Base Specification: Create and Delete I/O Completion
+-- Queue, Create and Delete I/O Submission Queue).
 use Rattle.std.specs.Prelude.{◌≡◌, ◌≤◌, ℕ, true, false, List}
 use Rattle.nvme_spec.specs.declared.queues.Queues.{Queues}
 use Rattle.nvme_spec.specs.declared.queues.QueueChange.{QueueChange}
@@ -13,8 +13,8 @@ use Rattle.nvme_spec.specs.AdminEffects.{admin_execution}
 abbrev pub IsIoQueue : ℕ → Type 0
 IsIoQueue qid = (1 ≤ qid) × (qid ≤ 4)
 
--- A new queue lies in host memory and has an identifier that no queue of its kind has, and a submission queue's
--- completion queue exists; what is deleted exists, and a completion queue has no submission queue left.
+-- A new queue is in host memory and has an unused identifier, and the completion queue of a new submission queue
+-- exists. A deleted queue exists, and no submission queue uses a deleted completion queue.
 abbrev pub Suits : Queues → QueueChange → Type 0
 Suits queues Keep = Unit {0}
 Suits queues (MakeCq qid size base) = IsIoQueue qid × IsQueuePlace base size 16

@@ -1,6 +1,6 @@
 -- The four ends of queues: a submission and a completion queue, each as its controller and as its host see it (Base
 -- Specification: Submission Queue and Completion Queue, Queue Size, Full Queue, Empty Queue, Phase Tag). Entries are
--- counted modulo the size of the queue; where the phase tag is needed, modulo twice the size.
+-- counted modulo the size of the queue, or twice the size if the phase tag is needed.
 use Rattle.std.specs.Prelude.{ℕ, ◌+◌, ◌-◌, ◌*◌, ◌/◌, ◌%◌, ◌<◌, ◌≤◌, ◌==◌, nat_lt, nat_le, Bool, ◌&&◌, if◌then◌else◌}
 
 -- how far one count of a ring of this size is ahead of another
@@ -11,11 +11,11 @@ ahead size count other = (size + count - other) % size
 abbrev pub slot_of : ℕ → ℕ → ℕ
 slot_of size n = n % size
 
--- the phase tag of the n-th completion: set on the first turn round the ring, and inverted on each later one
+-- the phase tag of the n-th completion: set on the first round of the ring, and inverted on each later one
 abbrev pub phase_tag : ℕ → ℕ → Bool
 phase_tag size n = n / size % 2 == 0
 
--- where the n-th command and the n-th completion of a queue lie, by the address of the queue
+-- the addresses of the n-th command and of the n-th completion of a queue, by the address of the queue
 abbrev pub submission_place : ℕ → ℕ → ℕ → ℕ
 submission_place base size n = base + 64 * slot_of size n
 
@@ -26,7 +26,7 @@ completion_place base size n = base + 16 * slot_of size n
 abbrev pub IsQueueSize : ℕ → Type 0
 IsQueueSize size = (2 ≤ size) × (size ≤ 64)
 
--- A submission queue at its controller: how many commands it has fetched, and how many wait.
+-- A submission queue at its controller: the numbers of commands that it has fetched, and that wait.
 pub record SubmissionHead : Type 0 where
   pub size : ℕ
   pub fetched : ℕ
@@ -40,7 +40,7 @@ pub record FitsSubmissionHead (q : SubmissionHead) : Type 0 where
 abbrev pub empty_submission_head : ℕ → SubmissionHead
 empty_submission_head entries = record { size = entries; fetched = 0; waiting = 0 }
 
--- the tail doorbell is written: the commands before the tail wait. A tail that is no slot is ignored
+-- the tail doorbell is written: the commands before the tail wait. A tail that is not a slot is ignored
 abbrev pub after_tail_doorbell : SubmissionHead → ℕ → SubmissionHead
 after_tail_doorbell q tail = if nat_lt tail q.size then record q { waiting = ahead q.size tail q.fetched } else q
 
@@ -48,7 +48,8 @@ after_tail_doorbell q tail = if nat_lt tail q.size then record q { waiting = ahe
 abbrev pub after_fetch : SubmissionHead → SubmissionHead
 after_fetch q = record q { fetched = (q.fetched + 1) % q.size; waiting = q.waiting - 1 }
 
--- A completion queue at its controller: how many completions it has posted, and how many the host has not consumed.
+-- A completion queue at its controller: the numbers of completions that it has posted, and that the host has not
+-- consumed.
 pub record CompletionTail : Type 0 where
   pub size : ℕ
   pub posted : ℕ
@@ -62,12 +63,12 @@ pub record FitsCompletionTail (q : CompletionTail) : Type 0 where
 abbrev pub empty_completion_tail : ℕ → CompletionTail
 empty_completion_tail entries = record { size = entries; posted = 0; unread = 0 }
 
--- the head doorbell is written: the completions from the head on are unread. A head that is no slot is ignored
+-- the head doorbell is written: the completions from the head are unread. A head that is not a slot is ignored
 abbrev pub after_head_doorbell : CompletionTail → ℕ → CompletionTail
 after_head_doorbell q head =
     if nat_lt head q.size then record q { unread = ahead q.size (slot_of q.size q.posted) head } else q
 
--- how many completions can be posted: one entry of a queue stays free
+-- the number of completions that can be posted: one entry of a queue stays free
 abbrev pub completion_room : CompletionTail → ℕ
 completion_room q = q.size - 1 - q.unread
 
@@ -75,8 +76,8 @@ completion_room q = q.size - 1 - q.unread
 abbrev pub after_post : CompletionTail → CompletionTail
 after_post q = record q { posted = (q.posted + 1) % (2 * q.size); unread = q.unread + 1 }
 
--- A submission queue at its host: how many commands it has put there, and how many of them it has not heard to be
--- fetched.
+-- A submission queue at its host: the numbers of commands that it has put there, and of those that may not be fetched
+-- yet, by the heads of completions.
 pub record SubmissionTail : Type 0 where
   pub size : ℕ
   pub put : ℕ
@@ -90,23 +91,23 @@ pub record FitsSubmissionTail (q : SubmissionTail) : Type 0 where
 abbrev pub empty_submission_tail : ℕ → SubmissionTail
 empty_submission_tail entries = record { size = entries; put = 0; unheard = 0 }
 
--- how many commands can be put
+-- the number of commands that can be put
 abbrev pub submission_room : SubmissionTail → ℕ
 submission_room q = q.size - 1 - q.unheard
 
--- a command is put
+-- a command is put into the queue
 abbrev pub after_put : SubmissionTail → SubmissionTail
 after_put q = record q { put = (q.put + 1) % q.size; unheard = q.unheard + 1 }
 
--- a head that a completion carries can be the controller's: it lies between the last one heard and the tail
+-- a head in a completion can be the controller's: it is between the last accepted one and the tail
 abbrev pub can_be_heard : SubmissionTail → ℕ → Bool
 can_be_heard q head = nat_lt head q.size && nat_le (ahead q.size q.put head) q.unheard
 
--- it is heard: the commands before it were fetched. Any other head is ignored
+-- a head is accepted: the commands before it were fetched. Any other head is ignored
 abbrev pub after_head : SubmissionTail → ℕ → SubmissionTail
 after_head q head = if can_be_heard q head then record q { unheard = ahead q.size q.put head } else q
 
--- A completion queue at its host: how many completions it has consumed.
+-- A completion queue at its host: the number of completions that it has consumed.
 pub record CompletionHead : Type 0 where
   pub size : ℕ
   pub consumed : ℕ

@@ -1,4 +1,4 @@
--- Registers that the worked examples speak of.
+-- Registers of the worked examples.
 use Rattle.std.specs.Prelude.{[], ◌∷◌}
 use Rattle.nvme_spec.specs.Registers.{Registers, initial_registers, after_writes}
 

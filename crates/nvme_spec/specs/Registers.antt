@@ -1,7 +1,35 @@
 -- The registers of a controller (Base Specification: Controller Registers, that is CAP, VS, CC, CSTS, AQA, ASQ, ACQ and
--- the doorbells; Controller Initialization; Controller Shutdown), in accesses of 32 bits. Which values an enabling
--- takes is this subsystem's choice within the standard's.
-use Rattle.std.specs.Prelude.{◌≡◌, ℕ, ◌+◌, ◌-◌, ◌*◌, ◌/◌, ◌%◌, ◌^◌, ◌==◌, nat_lt, nat_le, Bool, true, false, not, ◌&&◌, ◌||◌, if◌then◌else◌, List, [], ◌∷◌, Option, None, Some, find, option_map, unwrap_or}
+-- the doorbells; Controller Initialization; Controller Shutdown), in accesses of 32 bits. The supported values are this
+-- subsystem's choice within the standard's.
+use Rattle.std.specs.Prelude.{
+  ◌≡◌,
+  ℕ,
+  ◌+◌,
+  ◌-◌,
+  ◌*◌,
+  ◌/◌,
+  ◌%◌,
+  ◌^◌,
+  ◌==◌,
+  nat_lt,
+  nat_le,
+  Bool,
+  true,
+  false,
+  not,
+  ◌&&◌,
+  ◌||◌,
+  if◌then◌else◌,
+  List,
+  [],
+  ◌∷◌,
+  Option,
+  None,
+  Some,
+  find,
+  option_map,
+  unwrap_or,
+}
 use Rattle.nvme_wire.specs.Entry.{bits}
 use Rattle.nvme_spec.specs.Memory.{window_size}
 use Rattle.nvme_spec.specs.declared.registers.RegEffect.{RegEffect}
@@ -34,7 +62,7 @@ capabilities_high = 0x00000020
 abbrev pub version : ℕ
 version = 0x00020000
 
--- Controller Status: RDY in bit 0, CFS in bit 1, SHST in bits 3:2, 10b where the controller is shut down
+-- Controller Status: RDY in bit 0, CFS in bit 1, SHST in bits 3:2, 10b after a shutdown
 abbrev pub status_of : ControllerState → ℕ
 status_of Off = 0
 status_of Ready = 1
@@ -60,7 +88,7 @@ readable r =
     ∷ (0x30, r.acq % 2 ^ 32) ∷ (0x34, r.acq / 2 ^ 32)
     ∷ []
 
--- what a read gives: 0 at every other offset
+-- the value of a read: 0 at every other offset
 unfoldable pub value_at : Registers → ℕ → ℕ
 value_at r offset =
     let found = find (λ (entry : ℕ × ℕ). entry.0 == offset) (readable r) in
@@ -103,7 +131,7 @@ admin_submission_size aqa = bits aqa 11 0 + 1
 abbrev pub admin_completion_size : ℕ → ℕ
 admin_completion_size aqa = bits aqa 27 16 + 1
 
--- a queue of so many entries of this width, at this address, can be an admin queue
+-- a queue with this number of entries of this width, at this address, can be an admin queue
 abbrev pub is_admin_queue : ℕ → ℕ → ℕ → Bool
 is_admin_queue base entries width =
     nat_le 2 entries && nat_le entries 64 && base % 4096 == 0 && nat_le (base + width * entries) window_size
@@ -114,14 +142,14 @@ is_supported cc =
     page_size cc == 0 && command_set cc == 0 && arbitration cc == 0
     && submission_entry_size cc == 6 && completion_entry_size cc == 4
 
--- an enabling takes these values
+-- the controller can be enabled with these values
 unfoldable pub can_enable : Registers → Bool
 can_enable r =
     is_supported r.cc
     && is_admin_queue r.asq (admin_submission_size r.aqa) 64
     && is_admin_queue r.acq (admin_completion_size r.aqa) 16
 
--- the admin queues, where the controller is ready
+-- the admin queues, if the controller is ready
 abbrev pub admin_queues : Registers → Option AdminQueues
 admin_queues r =
     if is_ready r.state
@@ -133,7 +161,7 @@ admin_queues r =
     })
     else None
 
--- What a write leaves, and what it asks of the controller.
+-- The registers after a write, and its effect on the controller.
 pub record Written : Type 0 where
   pub registers : Registers
   pub effect : RegEffect
@@ -141,7 +169,7 @@ pub record Written : Type 0 where
 abbrev pub written : Registers → RegEffect → Written
 written r what = record { registers = r; effect = what }
 
--- the state of a controller that is ready, where its configuration is this
+-- the state of a controller that becomes ready with this configuration
 abbrev pub ready_state : ℕ → ControllerState
 ready_state cc = if is_shutdown cc then ShutDown else Ready
 
@@ -151,25 +179,25 @@ enabled r =
     if can_enable r then written (record r { state = ready_state r.cc }) Enable
     else written (record r { state = Failed }) Nothing
 
--- SHN alone is taken
+-- only SHN is changed
 abbrev pub with_notification : ℕ → ℕ → ℕ
 with_notification cc v = cc % 2 ^ 14 + 2 ^ 14 * notification v + 2 ^ 16 * (cc / 2 ^ 16)
 
--- EN stays 1: a controller that is ready may be told to shut down, and stays so until it is reset
+-- EN stays 1: a ready controller may get a shutdown notification, and is shut down until it is reset
 abbrev pub notified : Registers → ℕ → Written
 notified r v =
     let kept : Registers = record r { cc = with_notification r.cc v } in
     if is_ready r.state && is_shutdown v then written (record kept { state = ShutDown }) Shutdown
     else written kept Nothing
 
--- a write of CC. Where EN was 0 or becomes 0 it is kept as written
+-- a write of CC: if EN was 0 or becomes 0, the value is stored as written
 unfoldable pub configured : Registers → ℕ → Written
 configured r v =
     if is_enabled r.cc
     then (if is_enabled v then notified r v else written (record r { cc = v; state = Off }) Disable)
     else (if is_enabled v then enabled (record r { cc = v }) else written (record r { cc = v }) Nothing)
 
--- a number of 64 bits, where its low or its high half is written
+-- a number of 64 bits after a write of its low or high half
 abbrev pub with_low : ℕ → ℕ → ℕ
 with_low n v = n / 2 ^ 32 * 2 ^ 32 + v
 
@@ -187,7 +215,7 @@ prepared r offset v =
     else (if offset == 0x34 then record r { acq = with_high r.acq v }
     else r)))))
 
--- a doorbell takes bits 15:0
+-- the value of a doorbell: bits 15:0
 abbrev pub doorbell_value : ℕ → ℕ
 doorbell_value v = bits v 15 0
 
@@ -200,7 +228,7 @@ doorbell offset v =
     else (if offset % 8 == 4 then CqHead queue (doorbell_value v)
     else Nothing))
 
--- a write. Doorbells ring where the controller is ready; all other writes are ignored
+-- a write. A doorbell rings if the controller is ready; all other writes are ignored
 unfoldable pub after_write : Registers → ℕ → ℕ → Written
 after_write r offset v =
     if offset == 0x14 then configured r v
@@ -211,7 +239,7 @@ abbrev pub after_writes : Registers → List (ℕ × ℕ) → Registers
 after_writes r [] = r
 after_writes r (write ∷ rest) = after_writes (after_write r write.0 write.1).registers rest
 
--- CC.EN is 1 just where the controller isn't off
+-- CC.EN is 1 exactly if the controller isn't off
 abbrev pub is_off : ControllerState → Bool
 is_off Off = true
 is_off Ready = false

@@ -1,6 +1,26 @@
 -- The data of Reservation Report (NVM Express Base Specification 2.0, "Reservation Report command", Reservation Status
 -- Extended Data Structure): a header, and an entry for each controller whose host is registered, of 64 bytes each.
-use Rattle.std.specs.Prelude.{ℕ, ◌-◌, ◌<◌, ◌==◌, Bool, if◌then◌else◌, Option, option_map, unwrap_or, find, List, [], ◌∷◌, ◌++◌, length, filter, flat_map, replicate, take}
+use Rattle.std.specs.Prelude.{
+  ℕ,
+  ◌-◌,
+  ◌<◌,
+  ◌==◌,
+  Bool,
+  if◌then◌else◌,
+  Option,
+  option_map,
+  unwrap_or,
+  find,
+  List,
+  [],
+  ◌∷◌,
+  ◌++◌,
+  length,
+  filter,
+  flat_map,
+  replicate,
+  take,
+}
 use Rattle.std.specs.List.{AllByRecursion}
 use Rattle.std.specs.Int.{w16, w32, w64, w128, to_le_bytes}
 use Rattle.nvme_spec.specs.declared.access.Registrant.{Registrant}
@@ -12,18 +32,18 @@ use Rattle.nvme_spec.specs.Reservation.{Reservation, is_registered, is_holder}
 abbrev pub ControllerHost : Type 0
 ControllerHost = ℕ × ℕ
 
--- each controller's identifier is above those before it
+-- the identifiers of controllers rise
 abbrev pub HasRisingIds : List ControllerHost → Type 0
 HasRisingIds [] = Unit {0}
 HasRisingIds (c ∷ rest) = AllByRecursion (λ x. c.0 < x.0) rest × HasRisingIds rest
 
--- the reservation type: 0 where nobody holds it
+-- the reservation type: 0 if nobody holds it
 abbrev pub type_of : Hold → ℕ
 type_of Free = 0
 type_of (One type holder) = type
 type_of (All type) = type
 
--- the host's key, where it is registered
+-- the host's key, if it is registered
 abbrev pub key_of : List Registrant → ℕ → Option ℕ
 key_of registrants host = option_map (λ r. r.key) (find (λ r. r.host == host) registrants)
 
@@ -51,6 +71,6 @@ entry r c = entry_of c.0 (is_holder r c.1) c.1 (unwrap_or (key_of r.registrants 
 abbrev pub report : Reservation → List ControllerHost → List ℕ
 report r controllers = header r controllers ++ flat_map (entry r) (reported_controllers r controllers)
 
--- what a transfer of this many bytes has: the front of the report, and zeros behind it
+-- the data of a transfer of this length: the front of the report, then zeros
 unfoldable pub report_data : Reservation → List ControllerHost → ℕ → List ℕ
 report_data r controllers size = take size (report r controllers) ++ replicate (size - length (report r controllers)) 0

@@ -1,7 +1,33 @@
--- Reservations of a namespace (NVM Express Base Specification 2.0, "Reservations"): which hosts are registered, with
--- which keys, who holds the reservation, and what each action of the commands Reservation Register, Reservation Acquire
--- and Reservation Release makes of it.
-use Rattle.std.specs.Prelude.{ℕ, ◌+◌, ◌<◌, ◌%◌, ◌^◌, Bool, true, false, not, ◌&&◌, ◌||◌, ◌==◌, nat_lt, nat_le, if◌then◌else◌, List, [], ◌∷◌, ◌++◌, length, filter, map, Result, Ok, Err}
+-- Reservations of a namespace (NVM Express Base Specification 2.0, "Reservations"): the registered hosts with their
+-- keys, the holder, and the outcome of each action of Reservation Register, Reservation Acquire and Reservation
+-- Release.
+use Rattle.std.specs.Prelude.{
+  ℕ,
+  ◌+◌,
+  ◌<◌,
+  ◌%◌,
+  ◌^◌,
+  Bool,
+  true,
+  false,
+  not,
+  ◌&&◌,
+  ◌||◌,
+  ◌==◌,
+  nat_lt,
+  nat_le,
+  if◌then◌else◌,
+  List,
+  [],
+  ◌∷◌,
+  ◌++◌,
+  length,
+  filter,
+  map,
+  Result,
+  Ok,
+  Err,
+}
 use Rattle.std.specs.List.{list_any, AllByRecursion}
 use Rattle.nvme_wire.specs.declared.status.Status.{Status}
 use Rattle.nvme_spec.specs.declared.access.Registrant.{Registrant}
@@ -11,7 +37,8 @@ use Rattle.nvme_spec.specs.declared.access.Role.{Role}
 use Rattle.nvme_spec.specs.declared.access.Role.TheVariants.{Outsider, Registrant as OnlyRegistrant, Holder}
 use Rattle.nvme_spec.specs.Statuses as status
 
--- the registrants by rising host, the hold, the generation counter, and whether these persist through power loss (PTPL)
+-- the registrants by rising host, the holder, the generation counter, and whether these persist through power loss
+-- (PTPL)
 pub record Reservation : Type 0 where
   pub registrants : List Registrant
   pub hold : Hold
@@ -40,18 +67,18 @@ with_key registrants host key =
     filter (λ r. nat_lt r.host host) registrants
     ++ record { host = host; key = key } ∷ filter (λ r. nat_lt host r.host) registrants
 
--- each registrant's host is above those before it
+-- the registrants' hosts rise
 abbrev pub IsRising : List Registrant → Type 0
 IsRising [] = Unit {0}
 IsRising (r ∷ rest) = AllByRecursion (λ x. r.host < x.host) rest × IsRising rest
 
--- a registrant that is this host holds the reservation: it is the holder, or all registrants are
+-- this registrant holds the reservation: it is the holder, or all registrants are
 abbrev pub is_held_by : Hold → ℕ → Bool
 is_held_by Free host = false
 is_held_by (One type holder) host = holder == host
 is_held_by (All type) host = true
 
--- what a host is to the namespace: each of its controllers is that too
+-- the role of a host, and of each of its controllers, for the namespace
 abbrev pub role_of : Reservation → ℕ → Role
 role_of r host =
     if is_registered r.registrants host then (if is_held_by r.hold host then Holder else OnlyRegistrant) else Outsider
@@ -59,17 +86,17 @@ role_of r host =
 abbrev pub is_holder : Reservation → ℕ → Bool
 is_holder r host = is_registered r.registrants host && is_held_by r.hold host
 
--- the hold of a host that takes a reservation of this type: types 5 and 6 are all registrants'
+-- the reservation after a host acquires one of this type: all registrants hold types 5 and 6
 abbrev pub taken_by : ℕ → ℕ → Hold
 taken_by host type = if nat_le type 4 then One type host else All type
 
--- what is left of a hold where these are the registrants that are left
+-- what is left of the reservation if these registrants are left
 abbrev pub remaining_hold : Hold → List Registrant → Hold
 remaining_hold Free registrants = Free
 remaining_hold (One type holder) registrants = if is_registered registrants holder then One type holder else Free
 remaining_hold (All type) registrants = if length registrants == 0 then Free else All type
 
--- the hold is of this type
+-- the reservation is of this type
 abbrev pub is_of_type : Hold → ℕ → Bool
 is_of_type Free type = false
 is_of_type (One t holder) type = t == type
@@ -93,7 +120,7 @@ is_holders_key r key = is_holders_key_of r.hold r.registrants key where
   is_holders_key_of (One type holder) registrants key = is_registered_with registrants holder key
   is_holders_key_of (All type) registrants key = false
 
--- What an action makes of a reservation: the next state, and the hosts that Preempt removed, by rising host.
+-- The outcome of an action: the next state, and the hosts that Preempt removed, by rising host.
 pub record Transition : Type 0 where
   pub next : Reservation
   pub removed : List ℕ
@@ -102,7 +129,7 @@ pub record Transition : Type 0 where
 abbrev pub ActionOutcome : Type 0
 ActionOutcome = Result Transition Status
 
--- the next state, where no host was preempted
+-- the next state, if no host was preempted
 abbrev pub becomes : Reservation → ActionOutcome
 becomes next = Ok (record { next = next; removed = [] })
 
@@ -110,27 +137,27 @@ becomes next = Ok (record { next = next; removed = [] })
 abbrev pub removed_hosts : List Registrant → List Registrant → List ℕ
 removed_hosts before after = map (λ r. r.host) (filter (λ r. not (is_registered after r.host)) before)
 
--- the next state, and the hosts that it no longer has
+-- the next state, and the hosts that are no longer registered in it
 abbrev pub preempts : Reservation → Reservation → ActionOutcome
 preempts r next = Ok (record { next = next; removed = removed_hosts r.registrants next.registrants })
 
--- these registrants and this hold, and one more generation: the counter has 32 bits
+-- these registrants and this holder, in the next generation: the counter has 32 bits
 abbrev pub next_generation : Reservation → List Registrant → Hold → Reservation
 next_generation r registrants hold =
     record r { registrants = registrants; hold = hold; generation = (r.generation + 1) % 2 ^ 32 }
 
--- these registrants, what is left of the hold, and one more generation
+-- these registrants, what is left of the reservation, and the next generation
 abbrev pub remaining : Reservation → List Registrant → Reservation
 remaining r rest = next_generation r rest (remaining_hold r.hold rest)
 
--- Reservation Register command, Register Reservation Key. A host that has another key already is denied.
+-- Reservation Register command, Register Reservation Key. A host that already has another key is denied.
 abbrev pub register : Reservation → ℕ → ℕ → ActionOutcome
 register r host nrkey =
     if is_registered r.registrants host
     && not (is_registered_with r.registrants host nrkey) then Err status.reservation_conflict
     else becomes (next_generation r (with_key r.registrants host nrkey) r.hold)
 
--- Reservation Register command, Unregister Reservation Key. With IEKEY the key that the host gives is not looked at.
+-- Reservation Register command, Unregister Reservation Key. With IEKEY the key in the command is ignored.
 abbrev pub unregister : Reservation → ℕ → Bool → ℕ → ActionOutcome
 unregister r host iekey crkey =
     if is_registered r.registrants host && (iekey || is_registered_with r.registrants host crkey)
@@ -161,8 +188,8 @@ acquire r host rtype crkey =
     else (if is_of_type r.hold rtype && is_holder r host then becomes r
     else Err status.reservation_conflict))
 
--- Reservation Acquire command, Preempt. Key 0 stands for all other registrants of a reservation that all hold; the key
--- of a single holder takes its reservation; any other key only removes the registrants that have it.
+-- Reservation Acquire command, Preempt. Key 0 means all other registrants of a reservation that all hold. The key of a
+-- single holder takes over its reservation. Any other key only removes the registrants that have it.
 abbrev pub preempt : Reservation → ℕ → ℕ → ℕ → ℕ → ActionOutcome
 preempt r host rtype crkey prkey =
     if not (is_registered_with r.registrants host crkey) then Err status.reservation_conflict
@@ -177,7 +204,7 @@ preempt r host rtype crkey prkey =
     then preempts r (remaining r (filter (λ x. not (x.key == prkey)) r.registrants))
     else Err status.reservation_conflict)))
 
--- Reservation Release command, Release. A registrant that holds nothing succeeds and changes nothing.
+-- Reservation Release command, Release. A registrant that is not a holder succeeds and changes nothing.
 abbrev pub release : Reservation → ℕ → ℕ → ℕ → ActionOutcome
 release r host rtype crkey =
     if not (is_registered_with r.registrants host crkey) then Err status.reservation_conflict

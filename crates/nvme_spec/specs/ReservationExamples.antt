@@ -1,4 +1,4 @@
--- Words of the worked examples of reservations.
+-- Hosts, reservations and outcomes of the worked examples.
 use Rattle.std.specs.Prelude.{ℕ, ◌+◌, ◌^◌, Bool, List, [], ◌∷◌, Ok, Err, true, false}
 use Rattle.nvme_spec.specs.declared.access.Registrant.{Registrant}
 use Rattle.nvme_spec.specs.declared.access.Hold.{Hold}
@@ -9,11 +9,11 @@ use Rattle.nvme_spec.specs.Reservation.{Reservation, ActionOutcome, becomes}
 use Rattle.nvme_spec.specs.Access.{is_permitted_under}
 use Rattle.nvme_spec.specs.Report.{ControllerHost}
 
--- Preempt gives the next state, and has removed these hosts
+-- the outcome of a Preempt: the next state, and the removed hosts
 abbrev pub preempting : Reservation → List ℕ → ActionOutcome
 preempting state hosts = Ok (record { next = state; removed = hosts })
 
--- one action after another; the first that is denied ends them
+-- one action after another, up to the first that is denied
 abbrev pub and_then : ActionOutcome → (Reservation → ActionOutcome) → ActionOutcome
 and_then (Ok transition) action = action transition.next
 and_then (Err status) action = Err status
@@ -27,7 +27,7 @@ steps r (action ∷ next ∷ rest) = and_then (action r) (λ state. steps state 
 abbrev pub reads_and_writes : ℕ → Role → Bool × Bool
 reads_and_writes type role = (is_permitted_under type role Read, is_permitted_under type role Write)
 
--- what an outsider, a registrant and a holder may do under a type
+-- the permissions of a host that is not registered, of a registrant and of a holder under a type
 abbrev pub permissions : ℕ → List (Bool × Bool)
 permissions type =
     reads_and_writes type Outsider ∷ reads_and_writes type OnlyRegistrant ∷ reads_and_writes type Holder ∷ []
@@ -42,21 +42,21 @@ b2 key_of_b2 = record { host = 0xb2; key = key_of_b2 }
 abbrev pub c3 : ℕ → Registrant
 c3 key_of_c3 = record { host = 0xc3; key = key_of_c3 }
 
--- a host whose lower 64 bits are those of host a1h
+-- a host with the lower 64 bits of host a1h
 abbrev pub wide : ℕ → Registrant
 wide its_key = record { host = 2 ^ 64 + 0xa1; key = its_key }
 
 abbrev pub state : List Registrant → Hold → ℕ → Reservation
 state rising held changes = record { registrants = rising; hold = held; generation = changes; ptpl = false }
 
--- the same, where these persist through power loss
+-- the same, if these persist through power loss
 abbrev pub persistent : List Registrant → Hold → ℕ → Reservation
 persistent rising held changes = record { registrants = rising; hold = held; generation = changes; ptpl = true }
 
--- controllers 1 and 3 are of host a1h, controller 2 is of host b2h, controller 4 of host c3h
+-- controllers 1 and 3 belong to host a1h, controller 2 to host b2h, controller 4 to host c3h
 abbrev pub four_controllers : List ControllerHost
 four_controllers = (1, 0xa1) ∷ (2, 0xb2) ∷ (3, 0xa1) ∷ (4, 0xc3) ∷ []
 
--- controller 1 is of the host with a 1 above the lower 64 bits, controllers 2 and 3 of host a1h
+-- controller 1 belongs to the host with a 1 above the lower 64 bits, controllers 2 and 3 to host a1h
 abbrev pub wide_controllers : List ControllerHost
 wide_controllers = (1, 2 ^ 64 + 0xa1) ∷ (2, 0xa1) ∷ (3, 0xa1) ∷ []

@@ -1,9 +1,9 @@
--- Rules that a command is judged by: a list of tests with a number. The first test that fails decides the status.
+-- Rules for commands: a rule has a number and a list of tests. The first test that fails gives the status.
 use Rattle.std.specs.Prelude.{ℕ, Bool, true, if◌then◌else◌, List, [], ◌∷◌, Option, None, Some, Result, Ok, Err}
 use Rattle.nvme_wire.specs.declared.status.Status.{Status}
 use Rattle.nvme_spec.specs.declared.verdict.Denial.{Denial}
 
--- A test: whether it fails, and the status that it then gives.
+-- A test: whether it fails, and the status for that.
 pub record Test : Type 0 where
   pub fails : Bool
   pub status : Status
@@ -12,7 +12,7 @@ pub record Rule : Type 0 where
   pub number : ℕ
   pub tests : List Test
 
--- what a command is told by a rule or by several: to go on, or the denial of the first test that fails
+-- the result of one or several rules: all pass, or the denial by the first test that fails
 abbrev pub Judgement : Type 0
 Judgement = Result (Unit {0}) Denial
 
@@ -37,11 +37,11 @@ abbrev pub denial_by : ℕ → Option Status → Judgement
 denial_by number None = Ok tt
 denial_by number (Some why) = Err (record { rule = number; status = why })
 
--- what a rule says
+-- the result of a rule
 unfoldable pub judgement_by : Rule → Judgement
 judgement_by r = denial_by r.number (first_failure r.tests)
 
--- a judgement that passes leaves the word to a later one
+-- if a judgement passes, the later one counts
 abbrev pub else_by : Judgement → Judgement → Judgement
 else_by (Ok u) later = later
 else_by (Err denial) later = Err denial

@@ -1,12 +1,30 @@
--- A world that is well formed: every opening is, and every command keeps it so (Base Specification: NVM Subsystem,
+-- The invariant of a world: it holds at every opening, and every command keeps it (Base Specification: NVM Subsystem,
 -- Shared and Private Namespaces, Namespace Attachment command, Reservations).
-use Rattle.std.specs.Prelude.{◌≢◌, ◌≡◌, ℕ, ◌+◌, ◌≤◌, ◌==◌, Bool, not, ◌&&◌, ◌||◌, IsTrue, List, [], ◌∷◌, map, None, is_some}
+use Rattle.std.specs.Prelude.{
+  ◌≢◌,
+  ◌≡◌,
+  ℕ,
+  ◌+◌,
+  ◌≤◌,
+  ◌==◌,
+  Bool,
+  not,
+  ◌&&◌,
+  ◌||◌,
+  IsTrue,
+  List,
+  [],
+  ◌∷◌,
+  map,
+  None,
+  is_some,
+}
 use Rattle.std.specs.List.{list_any, AllByRecursion}
 use Rattle.nvme_spec.specs.declared.access.Hold.{Hold}
 use Rattle.nvme_spec.specs.declared.access.Hold.TheVariants.{Free, One, All}
 use Rattle.nvme_spec.specs.declared.outcome.Outcome.{Outcome}
 use Rattle.nvme_spec.specs.declared.queues.Queues.{Queues}
-use Rattle.nvme_spec.specs.Configuration.{Configuration, first_config_fault}
+use Rattle.nvme_spec.specs.Configuration.{Configuration, Capacity, config_fault}
 use Rattle.nvme_spec.specs.Report.{ControllerHost, HasRisingIds}
 use Rattle.nvme_spec.specs.Reservation.{Reservation, IsRising}
 use Rattle.nvme_spec.specs.ReservationLaws.{IsHeldByRegistrants}
@@ -21,14 +39,14 @@ IsTyped Free = Unit {0}
 IsTyped (One type holder) = (1 ≤ type) × (type ≤ 4)
 IsTyped (All type) = (5 ≤ type) × (type ≤ 6)
 
--- the registrants rise and are hosts of controllers; who holds the reservation is registered
+-- the registrants are in rising order and hosts of controllers; the holder is registered
 pub record IsSoundReservation (controllers : List ControllerHost) (r : Reservation) : Type 0 where
   pub rising : IsRising r.registrants
   pub known : AllByRecursion (λ x. IsTrue (list_any (λ (k : ControllerHost). x.host == k.1) controllers)) r.registrants
   pub held : IsHeldByRegistrants r
   pub typed : IsTyped r.hold
 
--- where a namespace lies, and who may share it: all that no command changes
+-- the place of a namespace, and who may share it: what no command changes
 pub record NamespacePlace : Type 0 where
   pub nsid : ℕ
   pub first : ℕ
@@ -38,14 +56,14 @@ pub record NamespacePlace : Type 0 where
 abbrev pub namespace_place : Namespace → NamespacePlace
 namespace_place n = record { nsid = n.nsid; first = n.first; blocks = n.blocks; shared = n.shared }
 
--- no two have one identifier, and each begins behind those before it
+-- no two have the same identifier, and each begins after the end of those before it
 abbrev pub AreInOrder : List NamespacePlace → Type 0
 AreInOrder [] = Unit {0}
 AreInOrder (p ∷ rest) =
     AllByRecursion (λ (later : NamespacePlace). (later.nsid ≢ p.nsid) × (p.first + p.blocks ≤ later.first)) rest
     × AreInOrder rest
 
--- two attachments can't stand together: they are the same, or attach one private namespace
+-- two attachments exclude each other: they are the same, or attach one private namespace
 abbrev pub clash : (ℕ → Bool) → ℕ × ℕ → ℕ × ℕ → Bool
 clash shared a b = (b.1 == a.1) && ((b.0 == a.0) || not (shared a.1))
 
@@ -74,9 +92,9 @@ pub record IsSound (w : World) : Type 0 where
 
 -- a world that opens with an accepted configuration is sound
 abbrev pub OpeningIsSound : Type 0
-OpeningIsSound = (c : Configuration) → (blocks : ℕ) → first_config_fault c blocks ≡ None → IsSound (opening_world c)
+OpeningIsSound = (c : Configuration) → (size : Capacity) → config_fault c size ≡ None → IsSound (opening_world c)
 
--- every I/O command keeps it so, whatever the medium does
+-- every I/O command keeps it sound, whatever the medium does
 abbrev pub ExecutionKeepsItSound : Type 0
 ExecutionKeepsItSound =
     (tells : Bool) → (cntlid : ℕ) → (e : List ℕ) → (marked : Bool) → (old new : Scene) → (outcome : Outcome)

@@ -1,4 +1,4 @@
--- The statuses that a command is answered with, and that each fits its field: the status code type has three bits and
+-- The statuses that commands are answered with, each of which fits its field: the status code type has three bits and
 -- the status code eight (Base Specification: Completion Queue Entry, Status Field).
 use Rattle.std.specs.Prelude.{◌≡◌, ◌<◌, ◌==◌, ◌&&◌, ℕ, Bool, true, List, [], ◌∷◌}
 use Rattle.std.specs.List.{list_any}
@@ -10,7 +10,7 @@ use Rattle.nvme_spec.specs.Execution.{Scene, Executes}
 use Rattle.nvme_spec.specs.AdminEffects.{admin_execution}
 use Rattle.nvme_spec.specs.Statuses as status
 
--- the statuses that rules deny a command with
+-- the statuses with which rules deny a command
 abbrev pub denials : List Status
 denials =
     status.invalid_command_opcode

@@ -1,6 +1,26 @@
--- The bytes of a transfer, page by page and block by block: how they are gathered out of host memory and
--- scattered into it (Base Specification 2.0, Physical Region Page Entry and List). Blocks have 512 bytes.
-use Rattle.std.specs.Prelude.{slice_range, slice_index, slice_set, ℕ, zero, suc, ◌+◌, ◌-◌, ◌*◌, ◌%◌, ◌≡◌, ◌≤◌, List, [], ◌∷◌, map, min, take, drop}
+-- The bytes of a transfer, page by page and block by block: gathered from host memory and scattered to it (Base
+-- Specification 2.0, Physical Region Page Entry and List). Blocks have 512 bytes.
+use Rattle.std.specs.Prelude.{
+  slice_range,
+  slice_index,
+  slice_set,
+  ℕ,
+  zero,
+  suc,
+  ◌+◌,
+  ◌-◌,
+  ◌*◌,
+  ◌%◌,
+  ◌≡◌,
+  ◌≤◌,
+  List,
+  [],
+  ◌∷◌,
+  map,
+  min,
+  take,
+  drop,
+}
 use Rattle.std.specs.List.{flat_map, range_with_len}
 use Rattle.nvme_spec.specs.declared.pointer.Piece.{Piece}
 use Rattle.nvme_spec.specs.Memory.{LiesInWindow}
@@ -10,7 +30,7 @@ use Rattle.nvme_spec.specs.Pointer.{Transfer, page, room, further_pages}
 abbrev pub run : Piece → List ℕ
 run p = range_with_len p.address p.len
 
--- the addresses of all bytes, in their order
+-- the addresses of all bytes, in order
 unfoldable pub addresses : List Piece → List ℕ
 addresses ps = flat_map run ps
 
@@ -24,7 +44,7 @@ further_piece t j = record { address = page t j; len = min (t.bytes - room t.prp
 abbrev pub pieces_of : Transfer → List Piece
 pieces_of t = first_piece t ∷ map (further_piece t) (range_with_len 0 (further_pages t))
 
--- a piece lies inside one page, and in the window
+-- a piece is inside one page, and in the window
 abbrev pub LiesInPage : Piece → Type 0
 LiesInPage p = (p.address % 4096 + p.len ≤ 4096) × LiesInWindow p
 
@@ -34,8 +54,8 @@ StartsPage p = p.address % 4096 ≡ 0
 abbrev pub EndsPage : Piece → Type 0
 EndsPage p = p.address % 4096 + p.len ≡ 4096
 
--- Each piece lies inside one page of the window. Each but the first starts its page, and each but the
--- last ends its page and has at least four bytes.
+-- Each piece is inside one page of the window. Each except the first starts its page, and each except the last ends its
+-- page and has at least four bytes.
 unfoldable pub ArePages : List Piece → Type 0
 ArePages [] = Unit {0}
 ArePages (p ∷ []) = LiesInPage p
@@ -55,11 +75,11 @@ with_scattered window [] bytes = window
 with_scattered window (a ∷ places) [] = window
 with_scattered window (a ∷ places) (b ∷ bytes) = with_scattered (slice_set window a b) places bytes
 
--- n blocks from block j on, gathered one after the other
+-- n blocks from block j, gathered one after the other
 abbrev pub gathered_blocks : List ℕ → List Piece → ℕ → ℕ → List ℕ
 gathered_blocks window ps j n = flat_map (λ i. gathered_bytes window (block_addresses ps i)) (range_with_len j n)
 
--- a window after n blocks from block j on are scattered one after the other
+-- a window after n blocks from block j are scattered one after the other
 unfoldable pub with_scattered_blocks : List ℕ → List Piece → ℕ → ℕ → List ℕ → List ℕ
 with_scattered_blocks window ps j zero bytes = window
 with_scattered_blocks window ps j (suc n) bytes =

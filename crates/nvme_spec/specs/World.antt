@@ -1,6 +1,25 @@
--- The subsystem as its rules see it (Base Specification: NVM Subsystem, Controllers, Namespaces): the
--- controllers with their hosts, the namespaces with who may change them, and which are attached to which.
-use Rattle.std.specs.Prelude.{ℕ, ◌+◌, ◌*◌, ◌≤◌, Bool, true, false, ◌&&◌, ◌==◌, List, [], ◌∷◌, map, Option, option_map, find, if◌then◌else◌}
+-- The access state of a subsystem, called world in definitions (Base Specification: NVM Subsystem, Controllers,
+-- Namespaces): the controllers with their hosts, the namespaces with their reservations and write protection, and the
+-- attachments.
+use Rattle.std.specs.Prelude.{
+  ℕ,
+  ◌+◌,
+  ◌*◌,
+  ◌≤◌,
+  Bool,
+  true,
+  false,
+  ◌&&◌,
+  ◌==◌,
+  List,
+  [],
+  ◌∷◌,
+  map,
+  Option,
+  option_map,
+  find,
+  if◌then◌else◌,
+}
 use Rattle.std.specs.List.{list_any, AllByRecursion}
 use Rattle.nvme_spec.specs.declared.access.Protection.{Protection}
 use Rattle.nvme_spec.specs.declared.access.Protection.TheVariants.{Open, Protected, UntilCycle}
@@ -11,7 +30,7 @@ use Rattle.nvme_spec.specs.Configuration.{Configuration}
 use Rattle.nvme_spec.specs.Report.{ControllerHost}
 use Rattle.nvme_spec.specs.Reservation.{Reservation, unreserved}
 
--- A namespace: its place on the medium, who may reach it, and who has reserved it.
+-- A namespace: its place on the medium, whether it is shared, its reservation and its write protection.
 pub record Namespace : Type 0 where
   pub nsid : ℕ
   pub first : ℕ
@@ -20,7 +39,7 @@ pub record Namespace : Type 0 where
   pub protection : Protection
   pub reservation : Reservation
 
--- it may not be written, with or without an end of that
+-- it may not be written, until a power cycle or for good
 abbrev pub forbids_writing : Protection → Bool
 forbids_writing Open = false
 forbids_writing Protected = true
@@ -52,7 +71,7 @@ is_attached w cntlid nsid = list_any (λ (a : ℕ × ℕ). (a.0 == cntlid) && (a
 abbrev pub controller_host : ControllerConfig → ControllerHost
 controller_host k = (k.cntlid, k.host)
 
--- namespaces lie on the medium one after the other, from this block on; nobody has registered, nothing is protected
+-- namespaces are on the medium one after the other, from this block; nobody has registered, nothing is protected
 abbrev pub laid_out : ℕ → List NsConfig → List Namespace
 laid_out first [] = []
 laid_out first (n ∷ rest) =
@@ -66,7 +85,7 @@ laid_out first (n ∷ rest) =
     }
     ∷ laid_out (first + n.blocks) rest
 
--- the world that a configuration opens with
+-- the world of a configuration at its opening
 unfoldable pub opening_world : Configuration → World
 opening_world c = record {
   controllers = map controller_host c.controllers;
@@ -74,21 +93,21 @@ opening_world c = record {
   attachments = c.attached;
 }
 
--- every namespace lies within a medium of so many blocks
+-- every namespace is within a medium of `size` blocks
 abbrev pub LiesWithin : ℕ → List Namespace → Type 0
 LiesWithin size namespaces = AllByRecursion (λ n. n.first + n.blocks ≤ size) namespaces
 
--- the namespaces, where that with this identifier is changed
+-- the namespaces, after the one with this identifier is changed
 abbrev pub with_namespace : (Namespace → Namespace) → ℕ → List Namespace → List Namespace
 with_namespace change nsid [] = []
 with_namespace change nsid (n ∷ rest) = if n.nsid == nsid then change n ∷ rest else n ∷ with_namespace change nsid rest
 
--- the world, where the namespace with this identifier is reserved in this way
+-- the world, after the namespace with this identifier gets this reservation
 abbrev pub with_reservation : World → ℕ → Reservation → World
 with_reservation w nsid r =
     record w { namespaces = with_namespace (λ n. record n { reservation = r }) nsid w.namespaces }
 
--- the world, where the namespace with this identifier is write protected in this way
+-- the world, after the namespace with this identifier gets this write protection
 abbrev pub with_protection : World → ℕ → Protection → World
 with_protection w nsid protection =
     record w { namespaces = with_namespace (λ n. record n { protection = protection }) nsid w.namespaces }

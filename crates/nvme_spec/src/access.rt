@@ -1,4 +1,4 @@
-//! Who has which rights to a namespace, and whether it is write protected.
+//! The types of access to a namespace: registrants, holders, roles and write protection.
 
 use crate::HostId;
 
@@ -7,33 +7,33 @@ use crate::HostId;
 pub struct Registrant {
     /// The host identifier.
     pub host: HostId,
-    /// The reservation key that the host registered.
+    /// Its reservation key.
     pub key: u64,
 }
 
-/// Who holds the reservation of a namespace, with its type (Base Specification, Reservation Types).
+/// The holder of a namespace's reservation, with its type (Base Specification, Reservation Types).
 #[derive(Clone, Copy, Debug, PartialEq, Eq)]
 pub enum Hold {
     /// Nobody: the namespace is not reserved.
     Free,
-    /// One host, which is named: types 1 to 4.
+    /// One host: types 1 to 4.
     One(u8, HostId),
     /// Every registrant: types 5 and 6.
     All(u8),
 }
 
-/// What a host is to a namespace.
+/// The role of a host for a namespace.
 #[derive(Clone, Copy, Debug, PartialEq, Eq)]
 pub enum Role {
     /// The host is not registered.
     Outsider,
-    /// The host is registered, and does not hold the reservation.
+    /// The host is registered, but does not hold the reservation.
     Registrant,
     /// The host is registered, and holds the reservation.
     Holder,
 }
 
-/// The two groups of commands that a reservation tells apart.
+/// The two groups of commands for a reservation.
 #[derive(Clone, Copy, Debug, PartialEq, Eq)]
 pub enum Group {
     /// Read and Compare.
@@ -47,8 +47,8 @@ pub enum Group {
 pub enum Protection {
     /// It may be written.
     Open,
-    /// It may not, until its protection is taken off.
+    /// It may not, until a command removes the protection.
     Protected,
-    /// It may not, and its protection is not taken off, until a power cycle.
+    /// It may not until a power cycle, and no command removes the protection.
     UntilCycle,
 }

@@ -1,4 +1,4 @@
-//! The commands that a controller knows.
+//! The commands that a controller supports.
 
 ghost use Rattle.std.specs.Prelude.{◌≡◌};
 ghost use Rattle.nvme_spec.specs.AdminCommands as admin;
@@ -42,7 +42,7 @@ impl Command {
     }
 }
 
-/// What an I/O command works on.
+/// What an I/O command acts on.
 #[derive(Clone, Copy, Debug, PartialEq, Eq)]
 pub enum CommandKind {
     /// The blocks of a namespace.

@@ -1,17 +1,17 @@
-//! How a subsystem is set up.
+//! The configuration of a subsystem.
 
 use crate::HostId;
 use thiserror::Error;
 
-/// A controller, and the host that it belongs to.
+/// A controller and its host.
 #[derive(Clone, Copy, Debug, Default, PartialEq, Eq)]
 pub struct ControllerConfig {
     /// The controller identifier: k for the k-th controller of a configuration, from 1.
     pub cntlid: u16,
     /// The host identifier, not 0. Several controllers may belong to one host.
     pub host: HostId,
-    /// Whether its host is a raw one: it has no driver, and its controller is used by single stores and register
-    /// writes. This is of a `Fleet`; a `Subsystem` has no drivers, and reads nothing of it.
+    /// Whether its host is raw: it has no driver, and its controller gets single stores and register writes. Only a
+    /// `Fleet` reads this; a `Subsystem` has no drivers.
     pub raw: bool,
 }
 
@@ -22,11 +22,11 @@ pub struct NsConfig {
     pub nsid: u32,
     /// Its size in blocks of 512 bytes, 1 to 65,536.
     pub blocks: u64,
-    /// Whether more than one controller may be attached to it at a time.
+    /// Whether several controllers may be attached to it at a time.
     pub shared: bool,
 }
 
-/// The controllers and namespaces of a subsystem, and which are attached to which.
+/// The controllers, namespaces and attachments of a subsystem.
 #[derive(Debug, Drop)]
 pub struct Config {
     pub controllers: Vec<ControllerConfig>,
@@ -35,7 +35,7 @@ pub struct Config {
     pub attached: Vec<(u16, u32)>,
 }
 
-/// Why a configuration is refused. A fault's text is its name.
+/// Why a configuration is refused. The text of a fault is its name.
 #[derive(Clone, Copy, Debug, Error, PartialEq, Eq)]
 pub enum ConfigFault {
     /// The k-th controller's identifier is not k; a host identifier is 0; a namespace identifier is 0,
@@ -52,7 +52,7 @@ pub enum ConfigFault {
     /// The namespaces have more blocks together than the medium.
     #[error("DoesNotFit")]
     DoesNotFit,
-    /// Memory was refused. Only calls that take memory answer this.
+    /// Memory was refused. Only calls that take memory return this.
     #[error("NoMemory")]
     NoMemory,
 }

@@ -1,4 +1,4 @@
-//! Laws that follow from the definitions, each the contract of a function that does nothing.
+//! Laws that follow from the definitions. Each is the contract of an empty function.
 
 mod admin;
 mod attachments;

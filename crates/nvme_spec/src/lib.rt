@@ -1,5 +1,4 @@
-//! The vocabulary of the subsystem, in a crate of its own since all layers speak it: plain types, and, in `specs/`, what
-//! the NVM Express specifications say of them.
+//! The vocabulary of all layers: plain types and, in `specs/`, the definitions of the NVM Express specifications.
 #![tactic(auto)]
 
 mod access;

@@ -1,4 +1,4 @@
-//! What a call of a medium fails with.
+//! The error of a call of a medium.
 
 /// A call of a medium failed.
 #[derive(Clone, Copy, Debug, PartialEq, Eq)]

@@ -1,15 +1,15 @@
-//! Where the data of a command lie.
+//! Data pointers: their faults, and pieces of host memory.
 
-/// What is wrong with a data pointer.
+/// The fault of a data pointer.
 #[derive(Clone, Copy, Debug, PartialEq, Eq)]
 pub enum DataFault {
-    /// An address is not a multiple of what it must be: PRP Offset Invalid.
+    /// An address is not aligned: PRP Offset Invalid.
     Offset,
-    /// An address lies outside host memory: Data Transfer Error.
+    /// An address is outside host memory: Data Transfer Error.
     Outside,
 }
 
-/// Bytes of host memory that stand one after the other.
+/// A contiguous range of host memory.
 #[derive(Clone, Copy, Debug, Default, PartialEq, Eq)]
 pub struct Piece {
     pub address: u64,

@@ -1,15 +1,15 @@
-//! Which queues of a controller exist, and what an admin command does to them.
+//! The queues of a controller, and the changes that admin commands make.
 
-/// The queues of a controller that exist, by identifier from 0, the admin queues.
+/// Which queues of a controller exist, by identifier from 0, that of the admin queues.
 #[derive(Clone, Copy, Debug, PartialEq, Eq)]
 pub struct Queues {
     /// Whether the completion queue exists.
     pub cq: [bool; 5],
-    /// The completion queue that the completions of the submission queue go to, where it exists.
+    /// The completion queue of the submission queue, if it exists.
     pub sq: [Option<u16>; 5],
 }
 
-/// What an admin command does to the queues of its controller. Sizes are in entries.
+/// The effect of an admin command on the queues of its controller. Sizes are in entries.
 #[derive(Clone, Copy, Debug, PartialEq, Eq)]
 pub enum QueueChange {
     /// Nothing.
@@ -20,7 +20,7 @@ pub enum QueueChange {
         size: u16,
         base: u64,
     },
-    /// An I/O submission queue is created, whose completions go to the queue `cqid`.
+    /// An I/O submission queue is created, with completion queue `cqid`.
     MakeSq {
         qid: u16,
         size: u16,

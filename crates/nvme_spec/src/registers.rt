@@ -1,6 +1,6 @@
-//! What a write to a controller's registers brings about.
+//! The effects of writes to a controller's registers.
 
-/// What a register write asks of the controller.
+/// The effect of a register write on the controller.
 #[derive(Clone, Copy, Debug, PartialEq, Eq)]
 pub enum RegEffect {
     /// Nothing beyond the registers themselves.
@@ -9,7 +9,7 @@ pub enum RegEffect {
     Enable,
     /// The controller was reset: all queues and all fetched commands are dropped.
     Disable,
-    /// The controller was shut down: nothing is fetched from then on.
+    /// The controller was shut down: it fetches nothing more.
     Shutdown,
     /// The tail doorbell of a submission queue was written: its identifier, and the new tail.
     SqTail(u16, u16),
@@ -17,16 +17,16 @@ pub enum RegEffect {
     CqHead(u16, u16),
 }
 
-/// Whether a controller runs (Base Specification 2.0, Controller Status).
+/// The state of a controller (Base Specification 2.0, Controller Status).
 #[derive(Clone, Copy, Debug, PartialEq, Eq)]
 pub enum ControllerState {
     /// Not enabled.
     Off,
     /// Enabled and ready.
     Ready,
-    /// Enabled and ready, and told to shut down.
+    /// Enabled and ready, after a shutdown notification.
     ShutDown,
-    /// Enabled with values that the controller does not take: a fatal status.
+    /// Enabled with values that the controller does not support: a fatal status.
     Failed,
 }
 

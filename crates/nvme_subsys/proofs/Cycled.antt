@@ -1,5 +1,31 @@
--- A subsystem stays sound over a power cycle.
-use Rattle.std.proofs.Common.{◌≡◌, ℕ, zero, suc, ◌+◌, ◌≤◌, ◌==◌, Bool, true, false, List, [], ◌∷◌, length, map, Option, None, Some, refl, sym, ap, subst, ◌∙◌, arith, IsTrue}
+-- For the answer of `power_cycle`: a subsystem stays sound over a power cycle.
+use Rattle.std.proofs.Common.{
+  ◌≡◌,
+  ℕ,
+  zero,
+  suc,
+  ◌+◌,
+  ◌≤◌,
+  ◌==◌,
+  Bool,
+  true,
+  false,
+  List,
+  [],
+  ◌∷◌,
+  length,
+  map,
+  Option,
+  None,
+  Some,
+  refl,
+  sym,
+  ap,
+  subst,
+  ◌∙◌,
+  arith,
+  IsTrue,
+}
 use Rattle.std.specs.Prelude.{slice_get, option_map, if◌then◌else◌, IsSome}
 use Rattle.std.specs.List.{AllByRecursion, list_any}
 use Rattle.std.proofs.lemmas.List.{length-map}
@@ -22,17 +48,20 @@ within size (n ∷ ns) h = (h.0, within size ns h.1)
 abbrev Knows : List ControllerHost → Reservation → Type 0
 Knows ks r = AllByRecursion (λ x. IsTrue (list_any (λ (k : ControllerHost). x.host == k.1) ks)) r.registrants
 
-either-known : (ks : List ControllerHost) (b : Bool) (r : Reservation) → Knows ks r → Knows ks (if b then r else unreserved)
+either-known : (ks : List ControllerHost) (b : Bool) (r : Reservation)
+    → Knows ks r → Knows ks (if b then r else unreserved)
 either-known ks true r h = h
 either-known ks false r h = tt
 
-all-known : (ks : List ControllerHost) (ns : List Namespace) → AllByRecursion (λ (n : Namespace). Knows ks n.reservation) ns
+all-known : (ks : List ControllerHost) (ns : List Namespace)
+    → AllByRecursion (λ (n : Namespace). Knows ks n.reservation) ns
     → AllByRecursion (λ (n : Namespace). Knows ks n.reservation) (map cycled_namespace ns)
 all-known ks [] h = tt
 all-known ks (n ∷ ns) h = (either-known ks n.reservation.ptpl n.reservation h.0, all-known ks ns h.1)
 
--- who stands at a place of the controllers stood there before
-found-before : (cs : List Controller) (i : ℕ) (x : Controller) → slice_get (map power_cycled cs) i ≡ Some x → (c : Controller) × (slice_get cs i ≡ Some c) × (x.cntlid ≡ c.cntlid)
+-- the controllers at a place before and after a power cycle
+found-before : (cs : List Controller) (i : ℕ) (x : Controller) → slice_get (map power_cycled cs) i ≡ Some x
+    → (c : Controller) × (slice_get cs i ≡ Some c) × (x.cntlid ≡ c.cntlid)
 found-before [] i x h = absurd (cc)
 found-before (c ∷ cs) zero x h = (c, refl, ap (λ (y : Controller). y.cntlid) (sym (same_Some _ _ h)))
 found-before (c ∷ cs) (suc i) x h = found-before cs i x h
@@ -50,7 +79,8 @@ numbers w cs n = record { identifier = λ k x at. by k x at; configured = λ k x
         let r = found-before cs i x at in
         subst IsSome (sym ((cycle_keeps_places w).hosts (suc i))) (n.configured (suc i) r.0 r.1)
 
-pub cycled-sound : (w : World) (size : ℕ) (cs : List Controller) → IsSound w size cs → IsSound (cycled_world w) size (map power_cycled cs)
+pub cycled-sound : (w : World) (size : ℕ) (cs : List Controller)
+    → IsSound w size cs → IsSound (cycled_world w) size (map power_cycled cs)
 unfolding cycled_world
 cycled-sound w size cs s = record {
   few = let few = s.few in omega (arith, length-map cs power_cycled, few);

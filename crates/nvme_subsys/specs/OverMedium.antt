@@ -1,5 +1,5 @@
--- What contracts see of a thing that stands over a medium: its state, which has what the medium tells, and the medium
--- itself, whose own steps say which calls are made of it.
+-- How contracts see a value over a medium: its state, with the content that the medium reveals, and the medium itself,
+-- whose steps say which calls are made.
 
 pub record OverMedium (S M : Type 0) : Type 0 where
   pub state : S

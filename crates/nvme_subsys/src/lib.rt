@@ -1,5 +1,5 @@
-//! The subsystem: several controllers over one access state and one medium, and what every interleaving of events on
-//! them does (NVM Express Base Specification 2.0: NVM Subsystem, Controllers, Namespaces).
+//! The subsystem: several controllers over one access state and one medium, for any interleaving of events (NVM Express
+//! Base Specification 2.0: NVM Subsystem, Controllers, Namespaces).
 #![tactic(auto)]
 
 mod looking;

@@ -1,4 +1,4 @@
-//! Marking what the hosts have fetched that a Preempt and Abort has removed.
+//! Marks the fetched commands of hosts that a Preempt and Abort has removed.
 
 ghost use Rattle.std.specs.Prelude.{◌≡◌, ◌==◌, ◌≤◌, length};
 ghost use Rattle.std.specs.List.{list_any};
@@ -28,7 +28,7 @@ fn is_among(hosts: &[HostId], host: Option<HostId>) -> bool
     }
 }
 
-/// Marks controller `cntlid` where its host is among the removed ones.
+/// Marks controller `cntlid` if its host is among the removed ones.
 fn mark_one(controller: &mut Controller, cntlid: u16, spaces: &Spaces, marks: &Marks)
     ensures { controller.new ≡ marked_for spaces.now marks.now cntlid controller.old }
 {
@@ -37,7 +37,7 @@ fn mark_one(controller: &mut Controller, cntlid: u16, spaces: &Spaces, marks: &M
     }
 }
 
-/// Marks the controllers of the removed hosts. Controller k stands at place k - 1.
+/// Marks the controllers of the removed hosts. Controller k is at index k - 1.
 // Not inlined, since few commands remove a host.
 #[inline(never)]
 fn mark_all(controllers: &mut [Controller], spaces: &Spaces, marks: &Marks)
@@ -49,8 +49,8 @@ fn mark_all(controllers: &mut [Controller], spaces: &Spaces, marks: &Marks)
     }
 }
 
-/// Marks the controllers of the removed hosts, where there are any, so that a command that removes none costs the same
-/// however many controllers there are.
+/// Marks the controllers of the removed hosts, if there are any, so that the cost of other commands does not depend on
+/// the number of controllers.
 #[tactic(auto, using(crate::proofs::Unmarked::nobody_is_marked))]
 #[inline(always)]
 fn mark_removed(controllers: &mut [Controller], spaces: &Spaces, marks: &Marks)
@@ -62,7 +62,7 @@ fn mark_removed(controllers: &mut [Controller], spaces: &Spaces, marks: &Marks)
     }
 }
 
-/// Marks what an execution says.
+/// Marks the hosts that an execution removed.
 #[inline(always)]
 pub fn mark_after(
     controllers: &mut [Controller],

@@ -1,4 +1,4 @@
-//! What a fetched command needs of the medium.
+//! The calls of the medium that a fetched command needs.
 
 ghost use Rattle.std.specs.Prelude.{◌≡◌};
 ghost use Rattle.nvme_spec.specs.World.{LiesWithin};
@@ -9,8 +9,8 @@ use nvme_ns::Spaces;
 use nvme_policy::{Admitted, admit};
 use nvme_spec::Command;
 
-/// What a command needs that a controller has fetched, over a medium of `size` blocks. The rules on its data are not
-/// tested, so its execution may need less.
+/// What a command that a controller has fetched needs of a medium of `size` blocks. It does not test the rules on the
+/// command's data, so the execution may need less.
 #[tactic(auto, unfolding(nvme_machine::specs::Needs::need_of))]
 pub fn need_of(spaces: &Spaces, size: u64, cntlid: u16, command: &FetchedCommand) -> Need
     requires within { LiesWithin size spaces.now.namespaces }

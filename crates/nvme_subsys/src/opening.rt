@@ -1,4 +1,4 @@
-//! Opening a subsystem.
+//! Opens a subsystem.
 
 ghost use Rattle.std.specs.Prelude.{◌≡◌, ◌≤◌, length, map, IfOk};
 ghost use Rattle.nvme_spec.specs.declared.config.ControllerConfig.{ControllerConfig as Configured};
@@ -10,7 +10,7 @@ use nvme_spec::{ConfigFault, ControllerConfig};
 use nvme_wire::NoMemory;
 use std::alloc::Global;
 
-/// Why a subsystem was not opened, and the medium, which is as it was.
+/// Why a subsystem was not opened, with the unchanged medium.
 #[derive(Drop)]
 pub struct NewFault<M: Medium> {
     pub fault: ConfigFault,
@@ -21,7 +21,7 @@ pub struct NewFault<M: Medium> {
 ///
 /// # Errors
 ///
-/// `NoMemory` where the allocator has no room for one.
+/// `NoMemory` if memory for one is refused.
 pub fn controllers_of(
     alloc: Global,
     configs: &[ControllerConfig],

@@ -5,7 +5,7 @@ ghost use Rattle.nvme_machine.specs.Controllers.{power_cycled};
 
 use nvme_ctrl::Controller;
 
-/// Each controller goes through the power cycle.
+/// Each controller goes through a power cycle.
 pub fn power_cycle_all(controllers: &mut [Controller])
     ensures { controllers.new ≡ map power_cycled controllers.old }
 {

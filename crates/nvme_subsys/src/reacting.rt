@@ -1,4 +1,4 @@
-//! What a controller makes of an event, and what the event gives.
+//! Events of one controller, and their results.
 
 ghost use Rattle.std.specs.Prelude.{◌≡◌};
 ghost use Rattle.nvme_machine.specs.Bare.{seen_of};

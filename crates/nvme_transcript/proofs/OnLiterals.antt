@@ -1,4 +1,4 @@
--- What an answer unfolds to compute lines with literal numbers.
+-- For examples: the definitions that compute lines with literal numbers.
 use Rattle.std.specs.Prelude.{⊤}
 use Rattle.std.specs.Fmt.{digits}
 

@@ -1,5 +1,22 @@
 -- The transcript: one line for each event.
-use Rattle.std.specs.Prelude.{ℕ, ◌^◌, ◌-◌, false, List, [], ◌∷◌, ◌++◌, codes, length, Option, Some, None, Result, Ok, Err}
+use Rattle.std.specs.Prelude.{
+  ℕ,
+  ◌^◌,
+  ◌-◌,
+  false,
+  List,
+  [],
+  ◌∷◌,
+  ◌++◌,
+  codes,
+  length,
+  Option,
+  Some,
+  None,
+  Result,
+  Ok,
+  Err,
+}
 use Rattle.std.specs.List.{flat_map, zip}
 use Rattle.std.specs.Fmt.{decimal, digits, padded_integral, format_spec}
 use Rattle.nvme_wire.specs.StatusNames.{status_text}
@@ -36,7 +53,7 @@ subject_text e = controller_text e
 abbrev pub double_word_text : ℕ → List ℕ
 double_word_text n = padded_integral (format_spec 32 0 4 8 (2 ^ 64 - 1)) false [] (digits 16 false n)
 
--- how many bytes came, and the bytes in hexadecimal without their trailing zeros; where none came, nothing
+-- the number of bytes, and the bytes in hexadecimal without their trailing zeros; nothing if there are none
 abbrev pub data_text : List ℕ → List ℕ
 data_text [] = []
 data_text (b ∷ bs) = codes " " ++ decimal (length (b ∷ bs)) ++ codes " "
@@ -60,13 +77,13 @@ executed_text (Posted outcome) = codes "posted " ++ status_text outcome.status +
 executed_text NoSuch = codes "none"
 executed_text CqFull = codes "full"
 
--- what a poll handed up, and the data that came with it
+-- the result of a poll, and its data
 abbrev pub polled_text : Result (Option Answer) PollFault → List ℕ → List ℕ
 polled_text (Ok (Some answer)) bytes = answer_text answer bytes
 polled_text (Ok None) bytes = codes "nothing"
 polled_text (Err fault) bytes = poll_fault_text fault
 
--- what came of bringing a controller up, of a request that was to be placed, and of ringing
+-- the results of bringing a controller up, of placing a request, and of ringing
 abbrev pub brought_text : List ℕ → Result (Unit {0}) UpFault → List ℕ
 brought_text c up = codes "up " ++ c ++ codes " " ++ up_text up
 
@@ -78,7 +95,7 @@ abbrev pub rung_text : List ℕ → Result (Unit {0}) NotUp → List ℕ
 rung_text c (Ok rung) = codes "rung " ++ c
 rung_text c (Err fault) = codes "rung " ++ c ++ codes " NotUp"
 
--- what an event gave to see, by its controller and its subject, and the data that came with it
+-- the result of an event, by its controller and its subject, and its data
 abbrev pub seen_text : List ℕ → List ℕ → FleetSeen → List ℕ → List ℕ
 seen_text c s (seen.Up up) bytes = brought_text c up
 seen_text c s (seen.Placed placed) bytes = placed_text c placed

@@ -1,4 +1,4 @@
-//! Worked examples of the definitions: the contract of each function here is computed by the check.
+//! Worked examples of the definitions. Each is the contract of an empty function, proved by computing.
 
 ghost use Rattle.std.specs.Prelude.{◌≡◌, [], ◌∷◌, Ok, Err, Some, None, codes};
 ghost use Rattle.nvme_event.specs.declared.event.FleetEvent.TheVariants as event;
@@ -8,7 +8,7 @@ ghost use Rattle.nvme_machine.specs.declared.seen.Fetched.TheVariants.{Took};
 ghost use Rattle.nvme_machine.specs.declared.seen.Executed.TheVariants.{NoSuch, CqFull};
 ghost use Rattle.nvme_transcript.specs.Transcript.{event_text};
 
-/// What is done to one controller names it; a power cycle is done to all, and names none.
+/// An event of one controller names it; a power cycle is one of all, and names none.
 #[tactic(auto, unfolding(crate::proofs::OnLiterals::lines_on_literals))]
 pub fn lines_of_events()
     ensures up { event_text (event.BringUp 1) (seen.Up (Ok tt)) [] ≡ codes "up 1 ok" }

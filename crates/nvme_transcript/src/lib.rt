@@ -1,5 +1,5 @@
-//! The transcript of a script, apart from its run so that it is proved without fleets: a line for each event, which
-//! shows what it gave to see.
+//! The transcript of a script: a line for each event, with its result. It is in a crate of its own, so that it is
+//! proved without fleets.
 #![tactic(auto)]
 
 mod examples;

@@ -1,4 +1,4 @@
-//! How the transcript shows what an event gave.
+//! Formats the result of an event.
 
 ghost use Rattle.std.specs.Prelude.{◌≡◌, ◌++◌, codes, decimal};
 ghost use Rattle.script_text.specs.Pages.{Adds};
@@ -6,7 +6,18 @@ ghost use Rattle.nvme_wire.specs.StatusNames.{status_text};
 ghost use Rattle.nvme_driver.specs.FaultNames.{poll_fault_text, refusal_text, up_fault_text};
 ghost use Rattle.nvme_machine.specs.Bare.{executed_of};
 ghost use Rattle.nvme_event.specs.Bare.{seen_of};
-ghost use Rattle.nvme_transcript.specs.Transcript.{answer_text, brought_text, data_text, event_text, executed_text, fetched_text, placed_text, polled_text, rung_text, subject_text};
+ghost use Rattle.nvme_transcript.specs.Transcript.{
+  answer_text,
+  brought_text,
+  data_text,
+  event_text,
+  executed_text,
+  fetched_text,
+  placed_text,
+  polled_text,
+  rung_text,
+  subject_text,
+};
 
 use nvme_driver::{Answer, NotUp, PlaceRefusal, PollFault, Ticket, UpFault};
 use nvme_event::{BareFleetSeen, FleetEvent};
@@ -16,7 +27,7 @@ use script_text::{
     HexText, NoRoom, Page, Spell, put_both, put_hex, put_hex_in, put_labelled, put_number,
 };
 
-/// The line of an event: what it gave to see, and the data that came with it.
+/// The line of an event: its result, and its data.
 #[derive(Clone, Copy)]
 pub struct TranscriptLine<'a> {
     pub event: FleetEvent<'a>,
@@ -52,7 +63,7 @@ impl Spell for TranscriptLine<'_> {
     }
 }
 
-/// Puts what came of bringing a controller up.
+/// Puts the result of bringing a controller up.
 fn put_up<P: Page>(page: &mut P, cntlid: u64, up: &Result<(), UpFault>) -> Result<(), NoRoom>
     ensures { Adds P.room result (P.written page.old) (brought_text (decimal cntlid) up.now) (P.written page.new) }
 {
@@ -88,7 +99,7 @@ fn put_status<P: Page>(page: &mut P, status: Status) -> Result<(), NoRoom>
     put_hex_in(page, 2, u64::from(status.sc))
 }
 
-/// Puts what came of a request that was to be placed.
+/// Puts the result of placing a request.
 fn put_placed<P: Page>(
     page: &mut P,
     cntlid: u64,
@@ -121,7 +132,7 @@ fn refusal_name(refusal: PlaceRefusal) -> &'static str
     }
 }
 
-/// Puts what came of ringing.
+/// Puts the result of ringing.
 fn put_rung<P: Page>(page: &mut P, cntlid: u64, rung: &Result<(), NotUp>) -> Result<(), NoRoom>
     ensures { Adds P.room result (P.written page.old) (rung_text (decimal cntlid) rung.now) (P.written page.new) }
 {
@@ -149,7 +160,7 @@ fn put_subject<P: Page>(page: &mut P, event: &FleetEvent<'_>) -> Result<(), NoRo
     }
 }
 
-/// Puts what came of a fetch.
+/// Puts the result of a fetch.
 fn put_fetched<P: Page>(
     page: &mut P,
     event: &FleetEvent<'_>,
@@ -166,7 +177,7 @@ fn put_fetched<P: Page>(
     })
 }
 
-/// Puts what came of an execution.
+/// Puts the result of an execution.
 fn put_executed<P: Page>(
     page: &mut P,
     event: &FleetEvent<'_>,
@@ -189,7 +200,7 @@ fn put_executed<P: Page>(
     }
 }
 
-/// Puts what a poll handed up, and the data that came with it.
+/// Puts the result of a poll, and its data.
 fn put_polled<P: Page>(
     page: &mut P,
     polled: &Result<Option<Answer>, PollFault>,
@@ -205,7 +216,7 @@ fn put_polled<P: Page>(
     }
 }
 
-/// Puts an answer that is handed up, and the data that came with it.
+/// Puts an answer that is delivered, and its data.
 fn put_answer<P: Page>(page: &mut P, answer: &Answer, bytes: &[u8]) -> Result<(), NoRoom>
     ensures { Adds P.room result (P.written page.old) (answer_text answer.now bytes.now) (P.written page.new) }
 {
@@ -230,7 +241,7 @@ fn put_answer<P: Page>(page: &mut P, answer: &Answer, bytes: &[u8]) -> Result<()
     }
 }
 
-/// Puts how many bytes came, and the bytes; where none came, nothing.
+/// Puts the number of bytes, and the bytes; nothing if there are none.
 pub fn put_data<P: Page>(page: &mut P, bytes: &[u8]) -> Result<(), NoRoom>
     ensures { Adds P.room result (P.written page.old) (data_text bytes.now) (P.written page.new) }
 {

@@ -1,4 +1,4 @@
-//! Lines of the transcript that are put together by hand, as most are: a formatter takes several times as long.
+//! Assembles the most frequent lines without a formatter, which takes several times as long.
 
 ghost use Rattle.std.specs.Prelude.{◌≡◌, ◌+◌, ◌<◌, ◌≤◌, ◌++◌, ◌∷◌, [], false, length, codes, decimal, IsTrue, IfSome};
 ghost use Rattle.std.specs.Fmt.{digit_glyph};
@@ -7,7 +7,14 @@ ghost use Rattle.nvme_wire.specs.StatusNames.{status_text};
 ghost use Rattle.nvme_machine.specs.Bare.{executed_of};
 ghost use Rattle.nvme_event.specs.Bare.{seen_of};
 ghost use Rattle.nvme_transcript.specs.Putting.{Puts};
-ghost use Rattle.nvme_transcript.specs.Transcript.{answer_text, event_text, executed_text, fetched_text, polled_text, subject_text};
+ghost use Rattle.nvme_transcript.specs.Transcript.{
+  answer_text,
+  event_text,
+  executed_text,
+  fetched_text,
+  polled_text,
+  subject_text,
+};
 
 use crate::line::TranscriptLine;
 use arrayvec::ArrayString;
@@ -17,20 +24,20 @@ use nvme_event::{BareFleetSeen, FleetEvent};
 use nvme_machine::{BareExecuted, Fetched};
 use nvme_wire::Status;
 
-/// How many bytes a line has at most that is put together by hand, and a few more.
+/// The most bytes of a frequent line, rounded up.
 const ROOM: usize = 96;
 
 /// A line, or its front.
 pub type Short = ArrayString<ROOM>;
 
-/// How much of a line was put together by hand.
+/// Which part of a line was assembled.
 #[derive(Clone, Copy, Debug, PartialEq, Eq)]
 pub enum Put {
     /// All of it.
     All,
-    /// What stands before the data that came.
+    /// The line without its data.
     AllButData,
-    /// Nothing that is of use.
+    /// Nothing useful.
     Nothing,
 }
 
@@ -133,7 +140,7 @@ fn hex_digit(number: u8) -> &'static str
     }
 }
 
-/// Whether a status is that of success, as most are.
+/// Whether a status is Successful Completion, as most are.
 #[inline(always)]
 fn is_success(status: Status) -> bool
     ensures { IsTrue result → status_text status ≡ codes "0:00" }
@@ -141,7 +148,8 @@ fn is_success(status: Status) -> bool
     status.sct == 0 && status.sc == 0
 }
 
-/// Appends a status by its digits, but for one whose type has two: then nothing.
+/// Appends a status in hexadecimal and returns true. If the status code type has two digits, appends nothing and
+/// returns false.
 fn put_digits(text: &mut Short, status: Status) -> bool
     requires room { array_string_len text.old + 4 ≤ 96 }
     ensures bytes { IsTrue result → text.new.bytes ≡ text.old.bytes ++ status_text status }
@@ -157,7 +165,7 @@ fn put_digits(text: &mut Short, status: Status) -> bool
     true
 }
 
-/// Appends a status, but for one whose type has two digits: then nothing.
+/// Appends a status and returns true. If the status code type has two digits, appends nothing and returns false.
 #[inline(always)]
 fn put_status(text: &mut Short, status: Status) -> bool
     requires room { array_string_len text.old + 4 ≤ 96 }
@@ -171,7 +179,7 @@ fn put_status(text: &mut Short, status: Status) -> bool
     true
 }
 
-/// Appends what came of an execution.
+/// Appends the result of an execution.
 #[inline(always)]
 fn put_executed(text: &mut Short, executed: &BareExecuted) -> bool
     requires room { array_string_len text.old + 20 ≤ 96 }
@@ -193,7 +201,7 @@ fn put_executed(text: &mut Short, executed: &BareExecuted) -> bool
     true
 }
 
-/// Appends an answer that is handed up, without its data.
+/// Appends an answer that is delivered, without its data.
 #[inline(always)]
 fn put_answer(text: &mut Short, answer: &Answer, bytes: &[u8]) -> Put
     requires room { array_string_len text.old + 40 ≤ 96 }
@@ -222,7 +230,7 @@ fn put_answer(text: &mut Short, answer: &Answer, bytes: &[u8]) -> Put
     }
 }
 
-/// Appends what a poll handed up, without its data.
+/// Appends the result of a poll, without its data.
 #[inline(always)]
 fn put_polled(text: &mut Short, polled: &Result<Option<Answer>, PollFault>, bytes: &[u8]) -> Put
     requires room { array_string_len text.old + 40 ≤ 96 }
@@ -239,7 +247,7 @@ fn put_polled(text: &mut Short, polled: &Result<Option<Answer>, PollFault>, byte
     }
 }
 
-/// Appends a word and the space behind it, and a controller.
+/// Appends a word, which ends with a space, and a controller's identifier.
 #[inline(always)]
 fn put_named(text: &mut Short, word: &str, cntlid: u16)
     requires room { array_string_len text.old + length word.now + 5 ≤ 96 }
@@ -250,8 +258,8 @@ fn put_named(text: &mut Short, word: &str, cntlid: u16)
     put_u16(text, cntlid);
 }
 
-/// Puts a line together, but for the data that came, and tells how far it did: it is one of those that a running script
-/// mostly has.
+/// Assembles a line without its data, if it is one of the most frequent lines of a script. Returns which part of it was
+/// assembled.
 #[inline(always)]
 pub fn put_line(text: &mut Short, line: &TranscriptLine<'_>) -> Put
     requires empty { text.old.bytes ≡ [] }

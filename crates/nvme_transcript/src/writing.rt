@@ -1,4 +1,4 @@
-//! The lines of a transcript on their way to a writer.
+//! Writes the lines of a transcript.
 
 ghost use Rattle.std.specs.Prelude.{◌≡◌, ◌≢◌, [], OnOk, OnErr};
 ghost use Rattle.std.specs.Io.KnownBytes.{Appends};
@@ -16,8 +16,8 @@ use script_text::{NoRoom, Page, Sink, Spell, Text, write_whole};
 use std::io;
 use std::io::ErrorKind;
 
-/// Writes a line of the transcript, by way of a text. Where that fails, not all of the line was
-/// written, and nothing behind the write that failed.
+/// Writes a line of the transcript, by way of a text. If that fails, not all of the line was written, and no write was
+/// made after the one that failed.
 pub fn write_line<W: Sink>(
     writer: &mut W,
     text: &mut Text,
@@ -45,7 +45,7 @@ pub fn write_line<W: Sink>(
     write_whole(writer, text.as_bytes())
 }
 
-/// Puts a line together in an empty text: its data behind what was put together of it before, or all of it.
+/// Completes a line in a text: appends its data if the text has the rest, or all of it.
 fn spell(text: &mut Text, short: &str, put: Put, line: &TranscriptLine<'_>) -> Result<(), NoRoom>
     requires empty { text.old ≡ [] }
     requires put { Puts put line.now.bytes.now short.now

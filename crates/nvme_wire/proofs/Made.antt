@@ -1,9 +1,24 @@
--- What was made of fields is read as these fields.
+-- Proof of the law `entries_are_read_back`: an entry made of fields is read as these fields.
 use Rattle.std.proofs.Common.{Bool, ◌≡◌, ◌≤◌, ◌==◌, true, false, refl, ap, ◌∙◌, arith}
 use Rattle.std.specs.Prelude.{if◌then◌else◌}
 use Rattle.std.proofs.lemmas.Nat.{from_le_bytes-to_le_bytes_4, from_le_bytes-to_le_bytes_8}
 use Rattle.nvme_wire.specs.Entry.{dword_at, bits}
-use Rattle.nvme_wire.specs.Submission.{submission_entry, opcode, fuse, psdt, cid, nsid, prp1, prp2, cdw10, cdw11, cdw12, cdw13, cdw14, cdw15}
+use Rattle.nvme_wire.specs.Submission.{
+  submission_entry,
+  opcode,
+  fuse,
+  psdt,
+  cid,
+  nsid,
+  prp1,
+  prp2,
+  cdw10,
+  cdw11,
+  cdw12,
+  cdw13,
+  cdw14,
+  cdw15,
+}
 use Rattle.nvme_wire.specs.Completion as completion
 use Rattle.nvme_wire.specs.Completion.{Completion, FitsCompletion, completion_entry, dw0, sq_head, sq_id, phase, status}
 use Rattle.nvme_wire.specs.EntryLaws.{SubmissionIsReadBack, SubmissionIsPlain, CompletionIsReadBack}

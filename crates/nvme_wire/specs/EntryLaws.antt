@@ -1,4 +1,4 @@
--- Entries say what they were made of.
+-- Statements of `laws.rt`: an entry made of fields has these fields.
 use Rattle.std.specs.Prelude.{◌≡◌}
 use Rattle.nvme_wire.specs.declared.sqe.fields.SqeFields.{SqeFields}
 use Rattle.nvme_wire.specs.Submission.{FitsSqeFields, submission_entry, submission_of, fuse, psdt}
@@ -8,7 +8,7 @@ use Rattle.nvme_wire.specs.Completion.{Completion, FitsCompletion, completion_en
 abbrev pub SubmissionIsReadBack : Type 0
 SubmissionIsReadBack = (f : SqeFields) → FitsSqeFields f → submission_of (submission_entry f) ≡ f
 
--- it is the entry of a command that is not fused, whose data pointer is PRP entries
+-- such an entry is that of a command that is not fused, with PRP entries as its data pointer
 abbrev pub SubmissionIsPlain : Type 0
 SubmissionIsPlain =
     (f : SqeFields) → FitsSqeFields f → (fuse (submission_entry f) ≡ 0) × (psdt (submission_entry f) ≡ 0)

@@ -1,9 +1,25 @@
 -- Statuses by name and as text (Base Specification, Status Field Definition).
-use Rattle.std.specs.Prelude.{◌≡◌, ℕ, ◌-◌, ◌^◌, ◌==◌, false, if◌then◌else◌, List, [], ◌∷◌, ◌++◌, codes, unwrap_or, find, option_map}
+use Rattle.std.specs.Prelude.{
+  ◌≡◌,
+  ℕ,
+  ◌-◌,
+  ◌^◌,
+  ◌==◌,
+  false,
+  if◌then◌else◌,
+  List,
+  [],
+  ◌∷◌,
+  ◌++◌,
+  codes,
+  unwrap_or,
+  find,
+  option_map,
+}
 use Rattle.std.specs.Fmt.{digits, padded_integral, format_spec}
 use Rattle.nvme_wire.specs.declared.status.Status.{Status}
 
--- a status code, and the standard's name of it
+-- a status code, and its name in the standard
 pub record Named : Type 0 where
   pub code : ℕ
   pub name : List ℕ

@@ -7,7 +7,7 @@ use crate::little_endian::u32_at;
 use crate::status::Status;
 use std::marker::Model;
 
-/// A completion queue entry: what a controller answers to a command, in 16 bytes. Contracts see it as these bytes.
+/// A completion queue entry, a controller's answer to a command, in 16 bytes. Contracts see it as these bytes.
 #[derive(Clone, Copy, Debug)]
 pub struct Cqe {
     dw0: u32,
@@ -31,10 +31,10 @@ impl Model for Cqe {
 }
 
 impl Cqe {
-    /// An entry of these fields: command specific double word 0, the head of the submission queue (SQ Head Pointer)
-    /// and its identifier (SQ Identifier), the command identifier, the phase tag and the status. That the status
-    /// code type is below 8, its width, is the caller's condition. Command Retry Delay, More and Do Not Retry are 0,
-    /// as is double word 1, which is reserved.
+    /// An entry of these fields: command specific double word 0, the head of the submission queue (SQ Head Pointer) and
+    /// its identifier (SQ Identifier), the command identifier, the phase tag and the status. The status code type must
+    /// be below 8, since it has three bits. Command Retry Delay, More and Do Not Retry are 0, as is double word 1,
+    /// which is reserved.
     #[tactic(auto, unfolding(crate::specs::Completion::completion_entry))]
     pub fn new(dw0: u32, sq_head: u16, sq_id: u16, cid: u16, phase: bool, status: Status) -> Cqe
         requires { status.sct < 8 }
@@ -58,7 +58,7 @@ impl Cqe {
         }
     }
 
-    /// The entry that these bytes are.
+    /// The entry with these bytes.
     pub fn from_bytes(bytes: &[u8; 16]) -> Cqe
         ensures { result ≡ bytes.now }
     {
@@ -70,7 +70,7 @@ impl Cqe {
         }
     }
 
-    /// Its bytes, those that no field names too.
+    /// Its bytes, including those of reserved fields.
     pub fn to_bytes(&self) -> [u8; 16]
         ensures { result ≡ self.now }
     {
@@ -82,7 +82,7 @@ impl Cqe {
         bytes
     }
 
-    /// Double word 0, whose meaning the command gives.
+    /// Double word 0, whose meaning depends on the command.
     #[tactic(auto, unfolding(crate::specs::Completion::dw0))]
     pub fn dw0(&self) -> u32
         ensures { result ≡ cqe.dw0 self.now }
@@ -106,7 +106,7 @@ impl Cqe {
         (self.dw2 >> 16) as u16
     }
 
-    /// Command Identifier: that of the command which is answered. Double word 3, bits 15:0.
+    /// Command Identifier of the answered command. Double word 3, bits 15:0.
     #[tactic(auto, unfolding(crate::specs::Completion::cid))]
     pub fn cid(&self) -> u16
         ensures { result ≡ cqe.cid self.now }
@@ -114,7 +114,7 @@ impl Cqe {
         (self.dw3 & 0xffff) as u16
     }
 
-    /// Phase Tag, by which a host tells a new entry from an old one. Double word 3, bit 16.
+    /// Phase Tag, by which a host recognises a new entry. Double word 3, bit 16.
     #[tactic(auto, unfolding(crate::specs::Completion::phase))]
     pub fn phase(&self) -> bool
         ensures { result ≡ cqe.phase self.now }

@@ -1,3 +1,3 @@
-//! Worked examples: functions that do nothing, whose contracts are proved by computing.
+//! Worked examples of the definitions. Each is the contract of an empty function, proved by computing.
 
 mod statuses;

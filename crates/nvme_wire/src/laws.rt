@@ -1,8 +1,8 @@
-//! Laws that follow from the definitions, each the contract of a function that does nothing.
+//! Laws that follow from the definitions. Each is the contract of an empty function.
 
 ghost use Rattle.nvme_wire.specs.EntryLaws.{SubmissionIsReadBack, SubmissionIsPlain, CompletionIsReadBack};
 
-/// An entry says what it was made of.
+/// An entry made of fields has these fields.
 fn entries_are_read_back()
     ensures submission { SubmissionIsReadBack }
     ensures plain { SubmissionIsPlain }

@@ -2,7 +2,7 @@
 
 use std::alloc::AllocError;
 
-/// The allocator refused memory. Whatever was asked for was not made, and nothing was changed.
+/// The allocator refused memory. The call made nothing and changed nothing.
 #[derive(Clone, Copy, Debug, PartialEq, Eq)]
 pub struct NoMemory;
 

@@ -6,7 +6,7 @@ ghost use Rattle.nvme_wire.specs.StatusNames.{name_of, generic_name, specific_na
 use std::fmt;
 
 /// The status of a completion queue entry: a status code type, and a status code within it. The constants are the
-/// statuses that have a name here, by rising codes.
+/// statuses that this subsystem returns, by rising codes.
 #[derive(Clone, Copy, Debug, PartialEq, Eq)]
 pub struct Status {
     /// Status Code Type: 0 generic, 1 command specific, 2 media and data integrity errors.
@@ -16,28 +16,28 @@ pub struct Status {
 }
 
 impl Status {
-    /// The command was carried out.
+    /// The command was executed.
     pub const SUCCESSFUL_COMPLETION: Status = Status { sct: 0, sc: 0x00 };
 
-    /// The opcode is not one of those of its queue's kind.
+    /// The opcode is not one of the queue's kind.
     pub const INVALID_COMMAND_OPCODE: Status = Status { sct: 0, sc: 0x01 };
 
-    /// A field of the command holds a value that is not taken.
+    /// A field of the command has a value that is not supported.
     pub const INVALID_FIELD_IN_COMMAND: Status = Status { sct: 0, sc: 0x02 };
 
     /// An address of the data pointer is not in host memory.
     pub const DATA_TRANSFER_ERROR: Status = Status { sct: 0, sc: 0x04 };
 
-    /// The command names a namespace that cannot be.
+    /// The command names a namespace that cannot exist.
     pub const INVALID_NAMESPACE_OR_FORMAT: Status = Status { sct: 0, sc: 0x0b };
 
-    /// The command came at a time at which it may not.
+    /// The command is not allowed at this time.
     pub const COMMAND_SEQUENCE_ERROR: Status = Status { sct: 0, sc: 0x0c };
 
-    /// An address of the data pointer does not begin where it must.
+    /// An address of the data pointer is not aligned.
     pub const PRP_OFFSET_INVALID: Status = Status { sct: 0, sc: 0x13 };
 
-    /// The command asks for host identifiers of another size.
+    /// The command uses host identifiers of another size.
     pub const HOST_IDENTIFIER_INCONSISTENT_FORMAT: Status = Status { sct: 0, sc: 0x18 };
 
     /// A Preempt and Abort removed the registration of the command's host.
@@ -46,16 +46,16 @@ impl Status {
     /// The namespace is write protected, and the command would change it.
     pub const NAMESPACE_IS_WRITE_PROTECTED: Status = Status { sct: 0, sc: 0x20 };
 
-    /// The logical blocks do not all lie in the namespace.
+    /// Some of the logical blocks are not in the namespace.
     pub const LBA_OUT_OF_RANGE: Status = Status { sct: 0, sc: 0x80 };
 
-    /// A reservation of the namespace does not permit its host the command.
+    /// A reservation of the namespace does not permit the command to its host.
     pub const RESERVATION_CONFLICT: Status = Status { sct: 0, sc: 0x83 };
 
     /// The completion queue that the command names does not exist.
     pub const COMPLETION_QUEUE_INVALID: Status = Status { sct: 1, sc: 0x00 };
 
-    /// The queue identifier is none that the command can take.
+    /// The command can't take this queue identifier.
     pub const INVALID_QUEUE_IDENTIFIER: Status = Status { sct: 1, sc: 0x01 };
 
     /// The queue would have too few or too many entries.
@@ -79,7 +79,7 @@ impl Status {
     /// The namespace is not attached to the controller.
     pub const NAMESPACE_NOT_ATTACHED: Status = Status { sct: 1, sc: 0x1a };
 
-    /// The controller list is empty, too long, out of order, or names a controller that is not there.
+    /// The controller list is empty, too long, out of order, or names a controller that does not exist.
     pub const CONTROLLER_LIST_INVALID: Status = Status { sct: 1, sc: 0x1c };
 
     /// The medium failed to write or to flush.

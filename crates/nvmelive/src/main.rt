@@ -1,4 +1,5 @@
-//! `nvmelive [IMAGE [SCRIPT]]` runs a session of hosts over an image: it answers each line of its input by one line.
+//! `nvmelive [--any-size] [--image] [IMAGE [SCRIPT]]` runs a session of hosts over an image: it answers each line of
+//! its input by one line.
 #![tactic(auto)]
 
 use nvme_live::run_program;
@@ -7,7 +8,7 @@ use std::io;
 use std::process::ExitCode;
 
 fn main(rt: HostRuntime) -> io::Result<ExitCode> {
-    // In this order: what is opened gets the lowest number that is free.
+    // In this order: each file that is opened gets the lowest free descriptor.
     let (Ok(_input), Ok(_output), Ok(_errors)) = (
         hold_stream(&rt, &rt.stdin()),
         hold_stream(&rt, &rt.stdout()),
@@ -29,7 +30,7 @@ fn main(rt: HostRuntime) -> io::Result<ExitCode> {
     Ok(ExitCode::from(status))
 }
 
-/// The status where there are no words: memory was refused, or a word is no text.
+/// Reports why the command line was not read, and returns the exit status: no memory, or a word is not UTF-8.
 fn refused(rt: &impl Eprint, kind: io::ErrorKind) -> ExitCode {
     match kind {
         io::ErrorKind::OutOfMemory => {

@@ -1,4 +1,4 @@
-//! `nvmesim [IMAGE [SCRIPT]]` runs a script of hosts over an image, and prints what each command was answered.
+//! `nvmesim [--any-size] [IMAGE [SCRIPT]]` runs a script of hosts over an image, and prints the answer to each command.
 #![tactic(auto)]
 
 use nvme_program::{Failure, command_words, hold_stream};
@@ -7,7 +7,7 @@ use std::io;
 use std::process::ExitCode;
 
 fn main(rt: HostRuntime) -> io::Result<ExitCode> {
-    // In this order: what is opened gets the lowest number that is free.
+    // In this order: each file that is opened gets the lowest free descriptor.
     let (Ok(_input), Ok(_output), Ok(_errors)) = (
         hold_stream(&rt, &rt.stdin()),
         hold_stream(&rt, &rt.stdout()),
@@ -29,7 +29,7 @@ fn main(rt: HostRuntime) -> io::Result<ExitCode> {
     Ok(ExitCode::from(status))
 }
 
-/// The status where there are no words: memory was refused, or a word is no text.
+/// Reports why the command line was not read, and returns the exit status: no memory, or a word is not UTF-8.
 fn refused(rt: &impl Eprint, kind: io::ErrorKind) -> ExitCode {
     match kind {
         io::ErrorKind::OutOfMemory => {
@@ -38,7 +38,9 @@ fn refused(rt: &impl Eprint, kind: io::ErrorKind) -> ExitCode {
         }
         _ => {
             let _ = rt.eprintln("nvmesim: bad command line");
-            let _ = rt.eprintln("nvmesim: a word is no UTF-8; usage: nvmesim [IMAGE [SCRIPT]]");
+            let _ = rt.eprintln(
+                "nvmesim: a word is no UTF-8; usage: nvmesim [--any-size] [IMAGE [SCRIPT]]",
+            );
             ExitCode::from(Failure::CommandLine.status())
         }
     }

@@ -1,4 +1,4 @@
--- Digits that are put into a buffer, a chunk of bytes at a time.
+-- For the answer of `encode_into`: digits are put into a buffer, a chunk of bytes at a time.
 use Rattle.std.proofs.Common.{◌≡◌, ℕ, ◌+◌, ◌≤◌, List, [], ◌++◌, length, take, drop, sym, ap, ◌∙◌, arith}
 use Rattle.std.proofs.lemmas.Grind.{flat_map-append}
 use Rattle.std.proofs.lemmas.List.{append_assoc, append-nil, length-append, length-drop, length-take-le, take_all}
@@ -8,7 +8,7 @@ use borrow.Rule.Slice.PartMut.{put_mid}
 use Rattle.script_text.specs.HexText.{hex_pair}
 
 module _ (buffer digits all : List ℕ) (at k : ℕ) (within : at + k ≤ length buffer) (long : length digits ≡ k) where
-  -- what is put leaves the buffer as long as it was
+  -- a put keeps the buffer's length
   pub put-length : length (put_mid at k buffer digits) ≡ length buffer
   put-length =
       let front = length-take-le at buffer (omega (arith, within)) in
@@ -18,14 +18,16 @@ module _ (buffer digits all : List ℕ) (at k : ℕ) (within : at + k ≤ length
       let all-of = length-append (take at buffer) (digits ++ drop k (drop at buffer)) in
       omega (arith, within, long, front, back, rest, both, all-of)
 
-  -- the digits of a chunk are put behind those of the bytes before it
+  -- the digits of a chunk are put after those of the bytes before it
   pub chunk-put : (chunk behind rest : List ℕ) → digits ≡ flat_map hex_pair chunk → chunk ++ behind ≡ rest
       → take at buffer ++ flat_map hex_pair rest ≡ all
       → take (at + k) (put_mid at k buffer digits) ++ flat_map hex_pair behind ≡ all
   chunk-put chunk behind rest is joined before =
-      ap (λ t. t ++ flat_map hex_pair behind) (take-put_mid at k buffer digits (at + k) (omega (arith, long)) (omega (arith, within)))
+      ap (λ t. t ++ flat_map hex_pair behind)
+      (take-put_mid at k buffer digits (at + k) (omega (arith, long)) (omega (arith, within)))
       ∙ append_assoc (take at buffer) digits (flat_map hex_pair behind)
-      ∙ ap (λ t. take at buffer ++ t) (ap (λ t. t ++ flat_map hex_pair behind) is ∙ sym (flat_map-append hex_pair chunk behind) ∙ ap (flat_map hex_pair) joined)
+      ∙ ap (λ t. take at buffer ++ t) (ap (λ t. t ++ flat_map hex_pair behind) is
+      ∙ sym (flat_map-append hex_pair chunk behind) ∙ ap (flat_map hex_pair) joined)
       ∙ before
 
   -- those of the last bytes are put at the end

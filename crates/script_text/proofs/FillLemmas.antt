@@ -1,5 +1,24 @@
--- One byte is what two digits decode to.
-use Rattle.std.proofs.Common.{◌≡◌, ℕ, List, [], ◌∷◌, length, Option, Some, None, Ok, Err, refl, sym, ap, ◌∙◌, arith, inl, inr}
+-- For the answers of `filled` and `is_byte`: two digits decode to one byte.
+use Rattle.std.proofs.Common.{
+  ◌≡◌,
+  ℕ,
+  List,
+  [],
+  ◌∷◌,
+  length,
+  Option,
+  Some,
+  None,
+  Ok,
+  Err,
+  refl,
+  sym,
+  ap,
+  ◌∙◌,
+  arith,
+  inl,
+  inr,
+}
 use Rattle.std.specs.Prelude.{Result}
 use Rattle.std.proofs.lemmas.Bool.{cases_eq}
 use Rattle.hex.specs.Hex.{decode_of, decode_sized}
@@ -7,7 +26,8 @@ use Rattle.hex.specs.declared.error.FromHexError.{FromHexError}
 use Rattle.hex.proofs.HexLemmas.{decode_of-ok, decode_sized-ok, decode_sized-twice}
 use Rattle.script_text.specs.Data.{fill_data}
 
-fill_data-none : (len : Option ℕ) (read : Result (List ℕ) FromHexError) → ((b : ℕ) → read ≡ Ok (b ∷ []) → ⊥) → fill_data len read ≡ None
+fill_data-none : (len : Option ℕ) (read : Result (List ℕ) FromHexError) → ((b : ℕ) → read ≡ Ok (b ∷ []) → ⊥)
+    → fill_data len read ≡ None
 fill_data-none (Some n) (Ok (b ∷ [])) h = absurd (h b refl)
 fill_data-none None (Ok (b ∷ [])) h = absurd (h b refl)
 fill_data-none (Some n) (Ok []) h = refl

@@ -1,5 +1,45 @@
--- Numbers in hexadecimal, by their last digit.
-use Rattle.std.proofs.Common.{◌≡◌, ◌∙◌, ℕ, zero, suc, ◌+◌, ◌-◌, ◌/◌, ◌%◌, ◌^◌, ◌<◌, ◌≤◌, ◌⊎◌, Bool, true, false, cond, ltb, List, [], ◌∷◌, ◌++◌, length, replicate, refl, sym, ap, subst, append_assoc, append-nil, length-append, arith, inl, inr, ⊎_elim, ltb-true, ltb-false, eq-eqb, ne_eqb}
+-- For the answers of `hex_number.rt`: numbers in hexadecimal, by their last digit.
+use Rattle.std.proofs.Common.{
+  ◌≡◌,
+  ◌∙◌,
+  ℕ,
+  zero,
+  suc,
+  ◌+◌,
+  ◌-◌,
+  ◌/◌,
+  ◌%◌,
+  ◌^◌,
+  ◌<◌,
+  ◌≤◌,
+  ◌⊎◌,
+  Bool,
+  true,
+  false,
+  cond,
+  ltb,
+  List,
+  [],
+  ◌∷◌,
+  ◌++◌,
+  length,
+  replicate,
+  refl,
+  sym,
+  ap,
+  subst,
+  append_assoc,
+  append-nil,
+  length-append,
+  arith,
+  inl,
+  inr,
+  ⊎_elim,
+  ltb-true,
+  ltb-false,
+  eq-eqb,
+  ne_eqb,
+}
 use Rattle.std.specs.Fmt.{digits, digits_onto, digit_glyph, padded_integral, format_spec, char_count}
 use Rattle.std.proofs.lemmas.Fmt.{hex_one_digit}
 use Rattle.std.proofs.lemmas.List.{replicate_more}
@@ -24,11 +64,13 @@ spelled n = refl
 
 onto_last : (k n : ℕ) (acc : List ℕ) → n < 16 → onto (suc k) n acc ≡ last_glyph n ∷ acc
 onto_last k n acc few =
-    ap (λ (t : Bool). cond t (last_glyph n ∷ acc) (onto k (n / 16) (last_glyph n ∷ acc))) (eq-eqb (n / 16) 0 (omega arith))
+    ap (λ (t : Bool). cond t (last_glyph n ∷ acc) (onto k (n / 16) (last_glyph n ∷ acc)))
+    (eq-eqb (n / 16) 0 (omega arith))
 
 onto_next : (k n : ℕ) (acc : List ℕ) → 16 ≤ n → onto (suc k) n acc ≡ onto k (n / 16) (last_glyph n ∷ acc)
 onto_next k n acc many =
-    ap (λ (t : Bool). cond t (last_glyph n ∷ acc) (onto k (n / 16) (last_glyph n ∷ acc))) (ne_eqb (n / 16) 0 (λ e. omega arith))
+    ap (λ (t : Bool). cond t (last_glyph n ∷ acc) (onto k (n / 16) (last_glyph n ∷ acc)))
+    (ne_eqb (n / 16) 0 (λ e. omega arith))
 
 onto-append : (k n : ℕ) (acc : List ℕ) → onto k n acc ≡ onto k n [] ++ acc
 onto-append zero n acc = refl
@@ -39,7 +81,7 @@ onto-append (suc k) n acc = ⊎_elim
     ∙ ap (λ x. x ++ acc) (sym (onto_next k n [] many ∙ onto-append k (n / 16) (last_glyph n ∷ []))))
     (order n 16)
 
--- how many digits there may be makes no difference where they are enough
+-- any limit on the number of digits gives the same text, if the number fits it
 onto_enough : (j k n : ℕ) (acc : List ℕ) → n < 16 ^ suc j → n < 16 ^ suc k → onto (suc j) n acc ≡ onto (suc k) n acc
 onto_enough zero k n acc p q = onto_last zero n acc (omega arith) ∙ sym (onto_last k n acc (omega arith))
 onto_enough (suc j) zero n acc p q = onto_last (suc j) n acc (omega arith) ∙ sym (onto_last zero n acc (omega arith))
@@ -52,7 +94,8 @@ onto_enough (suc j) (suc k) n acc p q = ⊎_elim
 pub digits_of_few : (n : ℕ) → n < 16 → digits 16 false n ≡ digit_glyph false n ∷ []
 digits_of_few n few = hex_one_digit false n few
 
-pub digits_by_steps : (n : ℕ) → 16 ≤ n → n < 2 ^ 128 → digits 16 false n ≡ digits 16 false (n / 16) ++ (digit_glyph false (n % 16) ∷ [])
+pub digits_by_steps : (n : ℕ)
+    → 16 ≤ n → n < 2 ^ 128 → digits 16 false n ≡ digits 16 false (n / 16) ++ (digit_glyph false (n % 16) ∷ [])
 digits_by_steps n many small =
     sym (spelled n) ∙ onto_next 63 n [] many
     ∙ onto_enough 62 63 (n / 16) (last_glyph n ∷ []) (omega arith) (omega arith)
@@ -85,7 +128,8 @@ in_hex_of_few w n many few =
     ∙ sym (in_hex_is (w - 1) (n / 16)))
     ∙ ap (λ k. in_hex (w - 1) (n / 16) ++ digit_glyph false k ∷ []) (sym last)
 
-in_hex_of_many : (w n : ℕ) → 1 < w → 16 ≤ n → n < 2 ^ 64 → in_hex w n ≡ in_hex (w - 1) (n / 16) ++ (digit_glyph false (n % 16) ∷ [])
+in_hex_of_many : (w n : ℕ)
+    → 1 < w → 16 ≤ n → n < 2 ^ 64 → in_hex w n ≡ in_hex (w - 1) (n / 16) ++ (digit_glyph false (n % 16) ∷ [])
 in_hex_of_many w n wide many small =
     let front = digits 16 false (n / 16) in
     let last = digit_glyph false (n % 16) ∷ [] in
@@ -95,8 +139,10 @@ in_hex_of_many w n wide many small =
     ∙ sym (append_assoc (replicate (w - 1 - length front) 48) front last)
     ∙ ap (λ x. x ++ last) (sym (in_hex_is (w - 1) (n / 16)))
 
-pub in_hex_by_steps : (w n : ℕ) → 1 < w → n < 2 ^ 64 → in_hex w n ≡ in_hex (w - 1) (n / 16) ++ (digit_glyph false (n % 16) ∷ [])
-in_hex_by_steps w n wide small = ⊎_elim (λ few. in_hex_of_few w n wide few) (λ many. in_hex_of_many w n wide many small) (order n 16)
+pub in_hex_by_steps : (w n : ℕ)
+    → 1 < w → n < 2 ^ 64 → in_hex w n ≡ in_hex (w - 1) (n / 16) ++ (digit_glyph false (n % 16) ∷ [])
+in_hex_by_steps w n wide small =
+    ⊎_elim (λ few. in_hex_of_few w n wide few) (λ many. in_hex_of_many w n wide many small) (order n 16)
 
 pub one_digit : (w n : ℕ) → w ≡ 1 → n < 16 ^ w → n < 16
 one_digit w n one fits = subst (λ k. n < 16 ^ k) one fits

@@ -1,5 +1,26 @@
--- Bytes as digits: how many there are, and that they are text.
-use Rattle.std.proofs.Common.{◌≡◌, ◌==◌, ℕ, zero, suc, ◌*◌, ◌/◌, ◌%◌, ◌<◌, List, [], ◌∷◌, length, take, get_or, false, Fits, w8, refl, arith}
+-- For the answers of `encode_into` and `text_of`: bytes as digits, their number, and that they are ASCII.
+use Rattle.std.proofs.Common.{
+  ◌≡◌,
+  ◌==◌,
+  ℕ,
+  zero,
+  suc,
+  ◌*◌,
+  ◌/◌,
+  ◌%◌,
+  ◌<◌,
+  List,
+  [],
+  ◌∷◌,
+  length,
+  take,
+  get_or,
+  false,
+  Fits,
+  w8,
+  refl,
+  arith,
+}
 use Rattle.std.proofs.lemmas.Bool.{true≢false}
 use Rattle.std.specs.Fmt.{digit_glyph}
 use Rattle.std.specs.List.{flat_map}
@@ -21,8 +42,10 @@ pairs-ascii (b ∷ bs) h =
     let fits : b < 256 = (h 0).fits in
     let high : b / 16 < 16 = omega (arith, fits) in
     let low : b % 16 < 16 = omega arith in
-    IsAscii-cons (digit_glyph false (b / 16)) (digit_glyph false (b % 16) ∷ flat_map hex_pair bs) (glyph-ascii (b / 16) high)
-    (IsAscii-cons (digit_glyph false (b % 16)) (flat_map hex_pair bs) (glyph-ascii (b % 16) low) (pairs-ascii bs (λ i. h (suc i))))
+    IsAscii-cons (digit_glyph false (b / 16)) (digit_glyph false (b % 16) ∷ flat_map hex_pair bs)
+    (glyph-ascii (b / 16) high)
+    (IsAscii-cons (digit_glyph false (b % 16)) (flat_map hex_pair bs) (glyph-ascii (b % 16) low)
+    (pairs-ascii bs (λ i. h (suc i))))
 
 -- the digits of the first bytes are the first digits
 pub pairs-take : (n : ℕ) (bs : List ℕ) → take (2 * n) (flat_map hex_pair bs) ≡ flat_map hex_pair (take n bs)
@@ -32,7 +55,7 @@ pairs-take (suc n) (b ∷ bs) =
     let two : 2 * suc n ≡ suc (suc (2 * n)) = omega arith in
     rw (two, pairs-take n bs) refl
 
--- what has elements has digits, and no dash
+-- a list that is not empty has digits instead of a dash
 pub no-dash : (bs : List ℕ) → (length bs == 0) ≡ false → hex_or_dash bs ≡ flat_map hex_pair bs
 no-dash [] h = absurd (true≢false h)
 no-dash (b ∷ bs) h = refl

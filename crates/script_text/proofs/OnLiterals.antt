@@ -1,4 +1,4 @@
--- What an answer unfolds to compute the numbers and data that a literal word spells.
+-- For examples: the definitions that compute the number or data of a literal word.
 use Rattle.std.specs.Prelude.{⊤}
 use Rattle.hex.proofs.OnLiterals.{hex_on_literals}
 use Rattle.script_text.specs.Numbers.{number_at}

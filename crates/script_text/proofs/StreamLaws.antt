@@ -1,20 +1,59 @@
--- Reads of a text and writes of bytes, one behind the other.
-use Rattle.std.proofs.Common.{◌≡◌, ◌≢◌, ◌≤◌, ◌+◌, ℕ, zero, suc, List, [], ◌∷◌, ◌++◌, length, drop, Some, None, Ok, Err, inl, inr, refl, sym, ap, subst, ◌∙◌, append_assoc, append-nil, arith}
+-- Proofs of the laws `text_is_read` and `bytes_are_written`: reads of a text and writes of bytes, one after the other.
+use Rattle.std.proofs.Common.{
+  ◌≡◌,
+  ◌≢◌,
+  ◌≤◌,
+  ◌+◌,
+  ℕ,
+  zero,
+  suc,
+  List,
+  [],
+  ◌∷◌,
+  ◌++◌,
+  length,
+  drop,
+  Some,
+  None,
+  Ok,
+  Err,
+  inl,
+  inr,
+  refl,
+  sym,
+  ap,
+  subst,
+  ◌∙◌,
+  append_assoc,
+  append-nil,
+  arith,
+}
 use Rattle.std.specs.Prelude.{◌⊎◌, Result}
 use Rattle.std.proofs.lemmas.Bool.{false≢true}
 use Rattle.std.proofs.lemmas.List.{length-append, length-drop, drop_all}
 use Rattle.script_text.specs.Streams.{ReadCall, Reads, Writes, all_come}
 use Rattle.script_text.specs.Reading.{longest, IsNext, ReadsText}
-use Rattle.script_text.specs.StreamLaws.{HasCome, TextHasCome, ReadingIsDetermined, TextCanBeRead, KnownTextIsRead, BytesAreTaken, BytesCanBeWritten}
+use Rattle.script_text.specs.StreamLaws.{
+  HasCome,
+  TextHasCome,
+  ReadingIsDetermined,
+  TextCanBeRead,
+  KnownTextIsRead,
+  BytesAreTaken,
+  BytesCanBeWritten,
+}
 use Rattle.script_text.specs.declared.reading.ReadFault.{ReadFault}
 use Rattle.script_text.specs.declared.reading.ReadFault.TheVariants.{NoMemory}
 
-come_behind : (before : List ℕ) (calls : List ReadCall) (outcome : Result (List ℕ) ReadFault) → length before ≤ longest + 1 → ReadsText before calls outcome
+come_behind : (before : List ℕ) (calls : List ReadCall) (outcome : Result (List ℕ) ReadFault)
+    → length before ≤ longest + 1 → ReadsText before calls outcome
     → HasCome outcome (before ++ all_come calls)
 come_behind before [] outcome fits h = rw h.1 (rw (append-nil before) (omega (arith, h.0, fits)))
 come_behind before (Reads room None ∷ calls) outcome fits h = rw h.2 (rw h.1 (rw (append-nil before) (h.0.0)))
-come_behind before (Reads room (Some []) ∷ calls) outcome fits h = rw h.2 (rw h.1 (append-nil before, rw (append-nil before) (h.0.0)))
-come_behind before (Reads room (Some (byte ∷ bytes)) ∷ calls) outcome fits h = by h.2 (λ k. come_behind (before ++ byte ∷ bytes) calls outcome long k)
+come_behind before (Reads room (Some []) ∷ calls) outcome fits h =
+    rw h.2 (rw h.1 (append-nil before, rw (append-nil before) (h.0.0)))
+come_behind before (Reads room (Some (byte ∷ bytes)) ∷ calls) outcome fits h =
+    by h.2 (λ k. come_behind (before ++ byte ∷ bytes) calls outcome long k)
   where
     all : List ℕ
     all = byte ∷ bytes
@@ -23,14 +62,16 @@ come_behind before (Reads room (Some (byte ∷ bytes)) ∷ calls) outcome fits h
     long = omega (arith, length-append before all, h.0.1, h.0.0, h.1)
 
     by : ((calls ≡ []) × (outcome ≡ Err NoMemory)) ⊎ ReadsText (before ++ all) calls outcome
-        → (ReadsText (before ++ all) calls outcome → HasCome outcome ((before ++ all) ++ all_come calls)) → HasCome outcome (before ++ (all ++ all_come calls))
+        → (ReadsText (before ++ all) calls outcome → HasCome outcome ((before ++ all) ++ all_come calls))
+        → HasCome outcome (before ++ (all ++ all_come calls))
     by (inl k) rest = rw k.1 (rw k.0 (subst (λ t. length (before ++ t) ≤ longest + 1) (sym (append-nil all)) long))
     by (inr k) rest = subst (HasCome outcome) (append_assoc before all (all_come calls)) (rest k)
 
 pub text-has-come : TextHasCome
 text-has-come calls outcome h = come_behind [] calls outcome (omega arith) h
 
-determined_behind : (before : List ℕ) (calls : List ReadCall) (one other : Result (List ℕ) ReadFault) → ReadsText before calls one → ReadsText before calls other
+determined_behind : (before : List ℕ) (calls : List ReadCall) (one other : Result (List ℕ) ReadFault)
+    → ReadsText before calls one → ReadsText before calls other
     → one ≢ Err NoMemory → other ≢ Err NoMemory → one ≡ other
 determined_behind before [] one other h k x y = h.1 ∙ sym k.1
 determined_behind before (Reads room None ∷ calls) one other h k x y = h.2 ∙ sym k.2
@@ -44,7 +85,8 @@ determined_behind before (Reads room (Some (byte ∷ bytes)) ∷ calls) one othe
     Rest : Result (List ℕ) ReadFault → Type 0
     Rest r = ((calls ≡ []) × (r ≡ Err NoMemory)) ⊎ ReadsText (before ++ all) calls r
 
-    by : Rest one → Rest other → (ReadsText (before ++ all) calls one → ReadsText (before ++ all) calls other → one ≡ other) → one ≡ other
+    by : Rest one → Rest other
+        → (ReadsText (before ++ all) calls one → ReadsText (before ++ all) calls other → one ≡ other) → one ≡ other
     by (inl a) b rest = absurd (x a.1)
     by (inr a) (inl b) rest = absurd (y b.1)
     by (inr a) (inr b) rest = rest a b
@@ -53,7 +95,8 @@ pub reading-is-determined : ReadingIsDetermined
 reading-is-determined calls one other h k x y = determined_behind [] calls one other h k x y
 
 -- byte by byte
-read_behind : (before text : List ℕ) → length (before ++ text) ≤ longest → (calls : List ReadCall) × ReadsText before calls (Ok (before ++ text)) × (all_come calls ≡ text)
+read_behind : (before text : List ℕ) → length (before ++ text) ≤ longest
+    → (calls : List ReadCall) × ReadsText before calls (Ok (before ++ text)) × (all_come calls ≡ text)
 read_behind before [] fits =
     let next : IsNext before _ = (rw (append-nil before) at fits, refl) in
     (Reads _ (Some []) ∷ [], (next, refl, ap Ok (append-nil before)), refl)
@@ -61,8 +104,11 @@ read_behind before (byte ∷ text) fits =
     let same = append_assoc before (byte ∷ []) text in
     let rest = read_behind (before ++ byte ∷ []) text (rw same fits) in
     let short : length before ≤ longest = omega (arith, length-append before (byte ∷ text), fits) in
-    let next : IsNext before _ = (short, refl) in
-    (Reads _ (Some (byte ∷ [])) ∷ rest.0, (next, omega arith, inr (subst (λ t. ReadsText (before ++ byte ∷ []) rest.0 (Ok t)) same rest.1)), ap (λ t. byte ∷ t) rest.2)
+    let next : IsNext before _ = (short, refl) in (
+      Reads _ (Some (byte ∷ [])) ∷ rest.0,
+      (next, omega arith, inr (subst (λ t. ReadsText (before ++ byte ∷ []) rest.0 (Ok t)) same rest.1)),
+      ap (λ t. byte ∷ t) rest.2,
+    )
 
 pub text-can-be-read : TextCanBeRead
 text-can-be-read text fits = read_behind [] text fits
@@ -73,7 +119,7 @@ known-text-is-read (Some xs) None calls text h taken end = absurd taken
 known-text-is-read (Some xs) (Some ys) calls text h taken end =
     taken ∙ ap (λ t. all_come calls ++ t) end ∙ append-nil (all_come calls) ∙ (text-has-come calls (Ok text) h).0
 
--- what bytes leave behind their first ones
+-- bytes without their first ones
 dropped : (n : ℕ) (bytes : List ℕ) → n ≤ length bytes → n + length (drop n bytes) ≡ length bytes
 dropped n bytes fits = omega (arith, length-drop n bytes)
 

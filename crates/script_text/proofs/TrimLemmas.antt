@@ -1,4 +1,4 @@
--- A list without its trailing zeros, from its end.
+-- For the answers of `trimmed`: a list without its trailing zeros, from its end.
 use Rattle.std.proofs.Common.{◌≡◌, ◌≢◌, ℕ, List, [], ◌∷◌, ◌++◌, true, false, ◌&&◌, ◌==◌, refl, sym, ap, ◌∙◌}
 use Rattle.std.specs.List.{list_all}
 use Rattle.std.proofs.lemmas.Bool.{and_parts, and_right, eqb-true, ne_eqb}
@@ -13,7 +13,7 @@ zeros-other : (bs : List ℕ) (b : ℕ) → b ≢ 0 → list_all (λ x. x == 0) 
 zeros-other [] b h = ap (λ t. t && true) (ne_eqb b 0 h)
 zeros-other (c ∷ bs) b h = and_right (c == 0) _ (zeros-other bs b h)
 
--- a zero at the end goes
+-- a zero at the end is removed
 pub trailing-zero : (bs : List ℕ) → without_trailing_zeros (bs ++ (0 ∷ [])) ≡ without_trailing_zeros bs
 trailing-zero [] = refl
 trailing-zero (b ∷ bs) = rw (zeros-zero bs, trailing-zero bs) refl
@@ -23,8 +23,9 @@ pub trailing-other : (bs : List ℕ) (b : ℕ) → b ≢ 0 → without_trailing_
 trailing-other [] b h = rw (ne_eqb b 0 h) refl
 trailing-other (c ∷ bs) b h = rw (and_right (c == 0) _ (zeros-other bs b h), trailing-other bs b h) refl
 
--- zeros at the end go
-pub trailing-zeros : (bs zs : List ℕ) → list_all (λ x. x == 0) zs ≡ true → without_trailing_zeros (bs ++ zs) ≡ without_trailing_zeros bs
+-- zeros at the end are removed
+pub trailing-zeros : (bs zs : List ℕ) → list_all (λ x. x == 0) zs ≡ true
+    → without_trailing_zeros (bs ++ zs) ≡ without_trailing_zeros bs
 trailing-zeros bs [] h = ap without_trailing_zeros (append-nil bs)
 trailing-zeros bs (z ∷ zs) h =
     let parts = and_parts (z == 0) (list_all (λ x. x == 0) zs) h in

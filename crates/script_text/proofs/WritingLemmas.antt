@@ -1,5 +1,27 @@
--- Bytes that are written one behind the other.
-use Rattle.std.proofs.Common.{◌≡◌, ◌<◌, ◌≤◌, ℕ, zero, suc, List, [], ◌∷◌, ◌++◌, length, drop, Option, Some, None, Err, refl, ap, ◌∙◌, append_assoc, arith}
+-- For the answer of `write_front` and for programs: bytes that are written one after the other.
+use Rattle.std.proofs.Common.{
+  ◌≡◌,
+  ◌<◌,
+  ◌≤◌,
+  ℕ,
+  zero,
+  suc,
+  List,
+  [],
+  ◌∷◌,
+  ◌++◌,
+  length,
+  drop,
+  Option,
+  Some,
+  None,
+  Err,
+  refl,
+  ap,
+  ◌∙◌,
+  append_assoc,
+  arith,
+}
 use Rattle.std.specs.Prelude.{Result, IsOk}
 use Rattle.std.specs.Io.KnownBytes.{Appends}
 use Rattle.script_text.specs.Streams.{WriteCall, Writes}
@@ -22,14 +44,18 @@ module _ {S T E : Type 0} (step : S → WriteCall → S → Type 0) (bytes : Lis
 
   module _ (mid : S) (some : 0 < length bytes) where
     -- a write that failed
-    pub write-failed : step old (Writes bytes None) mid → (fault : E) → outcome ≡ Err fault → IsWritten step bytes old outcome mid
-    write-failed made fault is = record { calls = Writes bytes None ∷ []; writes = (refl, some, refl, rw is refl); made = (mid, made, refl) }
+    pub write-failed : step old (Writes bytes None) mid → (fault : E)
+        → outcome ≡ Err fault → IsWritten step bytes old outcome mid
+    write-failed made fault is =
+        record { calls = Writes bytes None ∷ []; writes = (refl, some, refl, rw is refl); made = (mid, made, refl) }
 
-    -- a write that took none
-    pub write-stopped : step old (Writes bytes (Some 0)) mid → (fault : E) → outcome ≡ Err fault → IsWritten step bytes old outcome mid
-    write-stopped made fault is = record { calls = Writes bytes (Some 0) ∷ []; writes = (refl, some, refl, rw is refl); made = (mid, made, refl) }
+    -- a write that took no byte
+    pub write-stopped : step old (Writes bytes (Some 0)) mid → (fault : E)
+        → outcome ≡ Err fault → IsWritten step bytes old outcome mid
+    write-stopped made fault is =
+        record { calls = Writes bytes (Some 0) ∷ []; writes = (refl, some, refl, rw is refl); made = (mid, made, refl) }
 
-    -- a write with others behind it
+    -- a write, and then others
     pub write-more : (n : ℕ) → 0 < n → n ≤ length bytes → step old (Writes bytes (Some n)) mid
         → (new : S) → IsWritten step (drop n bytes) mid outcome new → IsWritten step bytes old outcome new
     write-more zero above fits made new rest = absurd (omega (arith, above))

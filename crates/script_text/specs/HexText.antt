@@ -1,4 +1,4 @@
--- Bytes as hexadecimal digits, without the zeros at the end.
+-- Bytes as hexadecimal digits, without the zeros at the end, as transcripts have them.
 use Rattle.std.specs.Prelude.{ℕ, List, [], ◌∷◌, false, ◌/◌, ◌%◌, ◌==◌, codes, if◌then◌else◌}
 use Rattle.std.specs.Fmt.{digit_glyph}
 use Rattle.std.specs.List.{flat_map, list_all}
@@ -14,12 +14,12 @@ low_digit b = digit_glyph false (b % 16)
 abbrev pub hex_pair : ℕ → List ℕ
 hex_pair b = high_digit b ∷ low_digit b ∷ []
 
--- a list as far as its last element that is not zero
+-- a list up to its last element that is not zero
 abbrev pub without_trailing_zeros : List ℕ → List ℕ
 without_trailing_zeros [] = []
 without_trailing_zeros (b ∷ bs) = if list_all (λ x. x == 0) (b ∷ bs) then [] else b ∷ without_trailing_zeros bs
 
--- bytes in hexadecimal, and a dash where there is none
+-- bytes in hexadecimal, or a dash if there are none
 abbrev pub hex_or_dash : List ℕ → List ℕ
 hex_or_dash [] = codes "-"
 hex_or_dash (b ∷ bs) = flat_map hex_pair (b ∷ bs)

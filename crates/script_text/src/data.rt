@@ -1,12 +1,20 @@
-//! The bytes that a script spells: put into a buffer, of which the part that holds them is lent.
+//! The bytes of a script's words: decoded into a buffer, and borrowed from its front.
 
 ghost use Rattle.std.specs.Prelude.{◌≡◌, ◌≤◌, ◌*◌, length, take, option_map, is_some, IfSome};
-ghost use Rattle.script_text.specs.Data.{transfer_len, longest_data, fill_data, filled_up, some_bytes, bytes_at, data_at};
+ghost use Rattle.script_text.specs.Data.{
+  transfer_len,
+  longest_data,
+  fill_data,
+  filled_up,
+  some_bytes,
+  bytes_at,
+  data_at,
+};
 ghost use Rattle.hex.specs.Hex.{decode_of};
 
 use super::decoding::decode;
 
-/// How many bytes a transfer of so many blocks has, where that count is in range.
+/// The length of a transfer of `blocks` blocks, if that count is valid.
 fn transfer_len_of(blocks: u32) -> Option<usize>
     ensures { result ≡ transfer_len blocks }
 {
@@ -17,8 +25,8 @@ fn transfer_len_of(blocks: u32) -> Option<usize>
     }
 }
 
-/// Puts the bytes that hexadecimal digits spell at the front of a buffer, and tells how many they are. `None` where
-/// there is none, or no pairs of digits.
+/// Decodes hexadecimal digits to the front of a buffer, and returns the number of bytes. `None` if there are none, or
+/// they are not pairs of digits.
 fn decoded(digits: &[u8], buffer: &mut [u8]) -> Option<usize>
     requires room { length digits.now ≤ 2 * length buffer.old }
     ensures bytes { option_map (λ count. take count buffer.new) result ≡ some_bytes (decode_of digits.now) }
@@ -38,7 +46,7 @@ fn decoded(digits: &[u8], buffer: &mut [u8]) -> Option<usize>
     }
 }
 
-/// `hex:` and digits, without filling anything up: how many bytes stand at the front of the buffer then.
+/// Decodes `hex:` and digits, and returns the number of bytes at the front of the buffer.
 #[tactic(auto, unfolding(crate::specs::Data::bytes_at))]
 fn spelled(word: &[u8], buffer: &mut [u8]) -> Option<usize>
     requires room { length word.now ≤ 2 * length buffer.old }
@@ -49,8 +57,8 @@ fn spelled(word: &[u8], buffer: &mut [u8]) -> Option<usize>
     decoded(digits, buffer)
 }
 
-/// The bytes that a word spells, put into a buffer: `hex:` and an even number of hexadecimal digits of either case, two
-/// at least. `None` where the word spells none.
+/// Decodes the bytes of a word into a buffer: `hex:` and an even number of hexadecimal digits of either case, at least
+/// two. `None` if the word has another form.
 pub fn bytes_in<'a>(word: &[u8], buffer: &'a mut [u8]) -> Option<&'a [u8]>
     requires room { length word.now ≤ 2 * length buffer.old }
     ensures bytes { option_map (λ bytes. bytes.now) result ≡ bytes_at word.now }
@@ -59,7 +67,7 @@ pub fn bytes_in<'a>(word: &[u8], buffer: &'a mut [u8]) -> Option<&'a [u8]>
     Some(&buffer[..count])
 }
 
-/// One byte, all over the data.
+/// Data that repeat one byte.
 fn filled<'a>(digits: &[u8], len: Option<usize>, buffer: &'a mut [u8]) -> Option<&'a [u8]>
     requires room { IfSome len (λ n. n ≤ length buffer.old) }
     ensures { option_map (λ bytes. bytes.now) result ≡ fill_data len (decode_of digits.now) }
@@ -74,7 +82,7 @@ fn filled<'a>(digits: &[u8], len: Option<usize>, buffer: &'a mut [u8]) -> Option
     Some(data)
 }
 
-/// Whether digits spell one byte.
+/// Whether the digits are one byte.
 fn is_byte(digits: &[u8], len: Option<usize>) -> bool
     ensures { result ≡ is_some (fill_data len (decode_of digits.now)) }
 {
@@ -85,7 +93,7 @@ fn is_byte(digits: &[u8], len: Option<usize>) -> bool
     }
 }
 
-/// Some bytes at the front of a buffer, and zeros behind them. `None` where they are more than the data.
+/// Extends bytes at the front of a buffer with zeros. `None` if they are more than the data.
 fn padded<'a>(count: usize, len: usize, buffer: &'a mut [u8]) -> Option<&'a [u8]>
     requires some { count ≤ length buffer.old }
     requires room { len ≤ length buffer.old }
@@ -99,11 +107,11 @@ fn padded<'a>(count: usize, len: usize, buffer: &'a mut [u8]) -> Option<&'a [u8]
     Some(data)
 }
 
-/// The data that a word spells for a transfer of so many blocks, put into a buffer: `fill:` and two hexadecimal digits,
-/// or `hex:` and an even number of them, two at least; the digits are of either case. For 1 to 256 blocks the data are
-/// 512 bytes a block, `hex:` data filled up with zeros; for any other count they are empty.
+/// Decodes the data of a word for a transfer of `blocks` blocks into a buffer: `fill:` and two hexadecimal digits, or
+/// `hex:` and an even number of them, at least two; the digits are of either case. For 1 to 256 blocks the data are 512
+/// bytes a block, `hex:` data extended with zeros; for any other count they are empty.
 ///
-/// `None` where the word spells no data, or more than the transfer has room for.
+/// `None` if the word has another form, or its data are longer than the transfer.
 #[tactic(auto, unfolding(crate::specs::Data::data_at))]
 pub fn data_in<'a>(word: &[u8], blocks: u32, buffer: &'a mut [u8]) -> Option<&'a [u8]>
     requires room { longest_data ≤ length buffer.old }
@@ -121,8 +129,8 @@ pub fn data_in<'a>(word: &[u8], blocks: u32, buffer: &'a mut [u8]) -> Option<&'a
     }
 }
 
-/// Whether a word spells data for a transfer of so many blocks: whether `data_in` gives any. The buffer is overwritten, but
-/// not filled.
+/// Whether a word has data for a transfer of `blocks` blocks, that is, whether `data_in` returns any. It overwrites the
+/// buffer, but does not fill it.
 #[tactic(auto, unfolding(crate::specs::Data::data_at))]
 pub fn is_data(word: &[u8], blocks: u32, buffer: &mut [u8]) -> bool
     requires room_for_digits { length word.now ≤ 2 * length buffer.old }

@@ -1,9 +1,9 @@
-//! Hexadecimal digits as bytes.
+//! Decodes hexadecimal digits.
 
 ghost use Rattle.std.specs.Prelude.{◌≡◌, ◌*◌, ℕ, true, false, length, unwrap_or, MatchResult};
 ghost use Rattle.hex.specs.Hex.{hex_digit_value, decode_pairs};
 
-/// What stands for a byte that is no digit: more than any digit's value.
+/// The value of a byte that is not a digit: more than any digit's.
 const NO_DIGIT: u8 = 255;
 
 /// The value of a hexadecimal digit of either case, or `NO_DIGIT`.
@@ -18,8 +18,8 @@ fn value_of(digit: u8) -> u8
     }
 }
 
-/// Turns pairs of digits into bytes, and tells whether all of them were digits. Where one was not, the bytes are any.
-/// No digit stops it early: without a branch on each, a processor does several at once.
+/// Decodes pairs of digits, and returns whether all of them were digits; if one was not, the bytes are arbitrary. It
+/// does not stop at that one: without a branch for each digit, a processor decodes several at once.
 pub fn decode(digits: &[u8], bytes: &mut [u8]) -> bool
     requires pairs { length digits.now ≡ 2 * length bytes.old }
     ensures { MatchResult (decode_pairs 0 digits.now) (λ all. (result ≡ true) × (bytes.new ≡ all))

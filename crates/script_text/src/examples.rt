@@ -1,4 +1,4 @@
-//! Worked examples of the definitions: the contract of each function here is computed by the check.
+//! Worked examples of the definitions. Each is the contract of an empty function, proved by computing.
 
 ghost use Rattle.std.specs.Prelude.{◌≡◌, ◌+◌, ◌^◌, ◌++◌, ◌∷◌, [], Some, None, codes, replicate};
 ghost use Rattle.script_text.specs.Lines.{text_lines, longest_line};

@@ -1,4 +1,4 @@
-//! Numbers at the front of a line, which are read while it is split: most have a few decimal digits.
+//! Parses a number at the front of a line while the line is split: most numbers have a few decimal digits.
 
 ghost use Rattle.std.specs.Prelude.{◌≡◌, ◌<◌, ◌^◌, ◌≤◌, true, false, length, take, IfSome, IsNone};
 ghost use Rattle.std.specs.List.{list_all};
@@ -10,15 +10,14 @@ ghost use Rattle.script_text.specs.Words.{line_words, is_line_text, starts_apart
 use super::number::number_u64;
 use super::words::{behind_separators, first_word, is_separator_byte};
 
-/// A number at the front of a line, and the line behind it and the separators that follow it.
+/// A number at the front of a line, and the line after it and the separators that follow it.
 #[derive(Clone, Copy)]
 pub struct FrontNumber<'a> {
     pub number: u64,
     pub behind: &'a [u8],
 }
 
-/// How many decimal digits stand at the front of a line, and the number that they spell. `None` where that does not fit
-/// 64 bits.
+/// The number of decimal digits at the front of a line, and their value. `None` if that does not fit 64 bits.
 #[inline(always)]
 fn front_digits(line: &[u8]) -> Option<(usize, u64)>
     ensures within { IfSome result (λ front. front.0 ≤ length line.now) }
@@ -38,8 +37,8 @@ fn front_digits(line: &[u8]) -> Option<(usize, u64)>
     Some((len, value))
 }
 
-/// The decimal number of 64 bits at the front of a line that begins with no separator. `None` for a number of another
-/// form, and where there is none, or one that does not fit.
+/// The decimal number at the front of a line that does not begin with a separator. `None` if there is none, it has
+/// another form, or it does not fit 64 bits.
 #[inline(always)]
 fn decimal_number(line: &[u8]) -> Option<FrontNumber<'_>>
     requires apart { starts_apart line.now ≡ true }
@@ -65,7 +64,7 @@ fn decimal_number(line: &[u8]) -> Option<FrontNumber<'_>>
     }
 }
 
-/// The same for a number of any form. `None` where the first word spells none, or one that does not fit.
+/// The same for a number of any form. `None` if the first word is not a number, or it does not fit 64 bits.
 #[inline(never)]
 fn spelled_number(line: &[u8]) -> Option<FrontNumber<'_>>
     requires apart { starts_apart line.now ≡ true }
@@ -84,8 +83,8 @@ fn spelled_number(line: &[u8]) -> Option<FrontNumber<'_>>
     })
 }
 
-/// The number of 64 bits that the first word of a line spells, where the line begins with no separator. `None` where it
-/// spells none, or one that does not fit.
+/// The number in the first word of a line that does not begin with a separator. `None` if the word is not a number, or
+/// it does not fit 64 bits.
 #[inline(always)]
 pub fn front_number(line: &[u8]) -> Option<FrontNumber<'_>>
     requires apart { starts_apart line.now ≡ true }

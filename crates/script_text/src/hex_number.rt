@@ -31,7 +31,7 @@ fn digit_text(number: u64) -> &'static str
     }
 }
 
-/// Puts a number in hexadecimal, without zeros in front.
+/// Puts a number in hexadecimal, without leading zeros.
 #[tactic(auto, using(crate::proofs::HexNumberLemmas::digits_of_few))]
 pub fn put_hex<P: Page>(page: &mut P, number: u64) -> Result<(), NoRoom>
     ensures { Adds P.room result (P.written page.old) (digits 16 false number) (P.written page.new) }
@@ -43,7 +43,7 @@ pub fn put_hex<P: Page>(page: &mut P, number: u64) -> Result<(), NoRoom>
     page.put_str(digit_text(number % 16))
 }
 
-/// Puts a number of 128 bits in hexadecimal, without zeros in front.
+/// Puts a number of 128 bits in hexadecimal, without leading zeros.
 pub fn put_wide_hex<P: Page>(page: &mut P, number: u128) -> Result<(), NoRoom>
     ensures { Adds P.room result (P.written page.old) (digits 16 false number) (P.written page.new) }
 {
@@ -68,7 +68,7 @@ pub fn put_byte_between<P: Page>(
     page.put_str(behind)
 }
 
-/// Puts a number in as many hexadecimal digits.
+/// Puts a number in `width` hexadecimal digits.
 #[tactic(auto, using(crate::proofs::HexNumberLemmas::in_hex_of_one, crate::proofs::HexNumberLemmas::one_digit, crate::proofs::HexNumberLemmas::front_fits))]
 pub fn put_hex_in<P: Page>(page: &mut P, width: usize, number: u64) -> Result<(), NoRoom>
     requires some { 0 < width }

@@ -9,22 +9,21 @@ ghost use Rattle.script_text.specs.HexText.{hex_pair, high_digit, low_digit, hex
 use crate::page::{NoRoom, Page, Spell};
 use std::simd::prelude::*;
 
-/// How many bytes are put into digits at a time.
+/// The number of bytes that are encoded at once.
 const CHUNK: usize = 128;
 
-/// How many bytes are looked at together, as long as all of them are zeros.
+/// The number of bytes that are tested at once, while all of them are zeros.
 const MANY_ZEROS: usize = 256;
 
-/// How many of the bytes behind those are looked at together.
+/// The number of the remaining bytes that are tested at once.
 const FEW_ZEROS: usize = 32;
 
-/// Bytes that are shown in lower-case hexadecimal without their trailing zero bytes, as `-` where nothing
-/// is left.
+/// Bytes in lower-case hexadecimal without their trailing zero bytes, or `-` if nothing is left.
 #[derive(Clone, Copy)]
 pub struct HexText<'a>(pub &'a [u8]);
 
-/// Whether all bytes are zero. No other byte stops it early: without a branch on each, a processor looks at several at
-/// once.
+/// Whether all bytes are zero. It does not stop at another one: without a branch for each byte, a processor tests
+/// several at once.
 fn are_zeros<const N: usize>(bytes: &[u8; N]) -> bool
     ensures { result ≡ list_all (λ byte. byte == 0) bytes.now }
 {
@@ -35,7 +34,7 @@ fn are_zeros<const N: usize>(bytes: &[u8; N]) -> bool
     all
 }
 
-/// The bytes without zeros at their end, taken away so many at a time.
+/// The bytes without zeros at their end, removed `N` at a time.
 fn without_zero_chunks<const N: usize>(bytes: &[u8]) -> &[u8]
     requires some { 0 < N }
     requires few { N ≤ 4096 }
@@ -65,7 +64,7 @@ pub fn trimmed(bytes: &[u8]) -> &[u8]
     rest
 }
 
-/// The second digit of each byte. No byte has a branch of its own.
+/// The second digit of each byte, without a branch for each.
 #[inline(always)]
 fn low_digits(bytes: u8x32) -> u8x32
     ensures { result ≡ map low_digit bytes }
@@ -95,7 +94,7 @@ fn encode(bytes: &[u8; CHUNK], digits: &mut [u8; 2 * CHUNK])
     }
 }
 
-/// A chunk's bytes, and zeros behind them.
+/// A chunk's bytes, and then zeros.
 fn padded(chunk: &[u8]) -> [u8; CHUNK]
     requires { length chunk.now ≤ 128 }
     ensures { take (length chunk.now) result ≡ chunk.now }
@@ -110,11 +109,11 @@ fn text_of_chunk<'a>(chunk: &[u8; CHUNK], digits: &'a mut [u8; 2 * CHUNK]) -> &'
     ensures { result.now ≡ flat_map hex_pair chunk.now }
 {
     encode(chunk, digits);
-    // SAFETY: digits are ASCII. To look whether they are would take as long as to make them.
+    // SAFETY: digits are ASCII. A test would take as long as encoding them.
     unsafe { str::from_utf8_unchecked(digits) }
 }
 
-/// The bytes behind the last whole chunk as text in hexadecimal.
+/// The bytes after the last whole chunk as text in hexadecimal.
 fn text_of<'a>(rest: &[u8], digits: &'a mut [u8; 2 * CHUNK]) -> &'a str
     requires { length rest.now ≤ 128 }
     ensures { result.now ≡ flat_map hex_pair rest.now }
@@ -149,7 +148,7 @@ pub fn put_digits<P: Page>(page: &mut P, bytes: &[u8]) -> Result<(), NoRoom>
     page.put_str(text_of(rest, &mut digits))
 }
 
-/// Puts bytes in hexadecimal into a buffer of twice as many.
+/// Puts bytes in hexadecimal into a buffer of twice their length.
 pub fn encode_into(bytes: &[u8], buffer: &mut [u8])
     requires { length buffer.old ≡ 2 * length bytes.now }
     ensures { buffer.new ≡ flat_map hex_pair bytes.now }

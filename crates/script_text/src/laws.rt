@@ -1,9 +1,16 @@
-//! What follows of the reads of a text, and of the writes of bytes, from what each of them answered.
+//! Laws of the reads of a text and of the writes of bytes, by their answers.
 
-ghost use Rattle.script_text.specs.StreamLaws.{TextHasCome, ReadingIsDetermined, TextCanBeRead, KnownTextIsRead, BytesAreTaken, BytesCanBeWritten};
+ghost use Rattle.script_text.specs.StreamLaws.{
+  TextHasCome,
+  ReadingIsDetermined,
+  TextCanBeRead,
+  KnownTextIsRead,
+  BytesAreTaken,
+  BytesCanBeWritten,
+};
 
-/// Of a text that is read whole all bytes have come, and of one that is too long one byte more than may be; what reads
-/// come to is decided by what they answered, but for want of memory; and each text that is no longer can be read.
+/// If a text is read to its end, all its bytes have come; if it is too long, one byte more than the limit. The answers
+/// of the reads determine the result, unless memory is refused; and each text within the limit can be read.
 pub fn text_is_read()
     ensures come { TextHasCome }
     ensures determined { ReadingIsDetermined }
@@ -11,7 +18,7 @@ pub fn text_is_read()
     ensures known { KnownTextIsRead }
 {}
 
-/// Writes that end without a fault took all bytes, and others not all; and all bytes can be written.
+/// Writes that end without a fault took all bytes, and others did not; and all bytes can be written.
 pub fn bytes_are_written()
     ensures taken { BytesAreTaken }
     ensures possible { BytesCanBeWritten }

@@ -1,6 +1,6 @@
-//! The pieces of a script's text, apart since nothing here is of NVMe, and proved beside all that is: a text read to
-//! its end, its lines, the words of a line, the numbers and the data that words spell, the data that a transcript
-//! shows, and bytes on their way to a writer.
+//! The parts of a script's text: reading a text to its end, its lines, the words of a line, the numbers and data in
+//! words, the data in a transcript, and writing bytes. Nothing here depends on NVMe, so it is proved in parallel with
+//! that.
 #![tactic(auto)]
 
 mod data;

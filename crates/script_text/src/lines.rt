@@ -1,4 +1,4 @@
-//! The lines of a text, one after the other.
+//! The lines of a text, in order.
 
 ghost use Rattle.std.specs.Prelude.{◌≡◌, ◌+◌, ◌-◌, ◌<◌, ◌≤◌, ◌∷◌, drop, length, IfSome};
 ghost use Rattle.std.specs.List.{prefix_len};
@@ -6,7 +6,7 @@ ghost use Rattle.script_text.specs.Lines.{text_lines, is_of_line, lines_left, lo
 
 use memchr::memchr;
 
-/// How many bytes the first line of a text has. They are looked at many at a time, but for those of an empty line.
+/// The length of the first line of a text. It tests many bytes at once, except for an empty line.
 #[inline(always)]
 fn line_len(text: &[u8]) -> usize
     ensures { result ≡ prefix_len is_of_line text.now }
@@ -20,7 +20,7 @@ fn line_len(text: &[u8]) -> usize
     }
 }
 
-/// The first line of a text, without the line feed that ends it, and the text behind that, if there is a line feed.
+/// The first line of a text, without the line feed that ends it, and the text after that, if there is a line feed.
 #[inline(always)]
 pub fn front_line(text: &[u8]) -> (&[u8], Option<&[u8]>)
     ensures lines { text_lines text.now ≡ result.0.now ∷ lines_left result.1 }
@@ -37,11 +37,10 @@ pub fn front_line(text: &[u8]) -> (&[u8], Option<&[u8]>)
     }
 }
 
-/// How many bytes behind a line feed are not looked at.
+/// The number of bytes after a line feed that are skipped.
 const STRIDE: usize = 4096;
 
-/// So many bytes as no line of a text exceeds: at most 4,096 more than its longest line has. Most line feeds are not
-/// looked for.
+/// A bound on the length of a text's lines: at most 4,096 more than the longest has. It skips most line feeds.
 pub fn line_bound(text: &[u8]) -> usize
     ensures bound { longest_line text.now ≤ result }
     ensures close { result ≤ longest_line text.now + 4096 }

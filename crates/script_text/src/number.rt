@@ -1,10 +1,10 @@
-//! The numbers of a script: decimal, or `0x` and hexadecimal digits of either case. Zeros may stand in
-//! front in any count, and a sign is no digit.
+//! The numbers of a script: decimal, or `0x` and hexadecimal digits of either case. There may be any number of leading
+//! zeros, and no sign.
 
 ghost use Rattle.std.specs.Prelude.{◌≡◌, ◌^◌, ◌≤◌};
 ghost use Rattle.script_text.specs.Numbers.{numeral, below, number_at};
 
-/// The number that digits of a base spell, where it fits 128 bits.
+/// The number of digits of a base, if it fits 128 bits.
 fn wide_numeral_of(digits: &[u8], base: u32) -> Option<u128>
     requires low { 2 ≤ base }
     requires high { base ≤ 16 }
@@ -23,7 +23,7 @@ fn wide_numeral_of(digits: &[u8], base: u32) -> Option<u128>
     Some(value)
 }
 
-/// The number that digits of a base spell, where it fits 64 bits.
+/// The number of digits of a base, if it fits 64 bits.
 #[inline(always)]
 fn numeral_of(digits: &[u8], base: u32) -> Option<u64>
     requires low { 2 ≤ base }
@@ -43,7 +43,7 @@ fn numeral_of(digits: &[u8], base: u32) -> Option<u64>
     Some(value)
 }
 
-/// The number of 128 bits that a word spells. `None` where it spells none, or one that does not fit.
+/// The number of a word. `None` if the word is not a number, or it does not fit 128 bits.
 #[tactic(auto, unfolding(crate::specs::Numbers::number_at))]
 pub fn number_u128(word: &[u8]) -> Option<u128>
     ensures value { result ≡ number_at 128 word.now }
@@ -54,7 +54,7 @@ pub fn number_u128(word: &[u8]) -> Option<u128>
     }
 }
 
-/// The number of 64 bits that a word spells. `None` where it spells none, or one that does not fit.
+/// The number of a word. `None` if the word is not a number, or it does not fit 64 bits.
 #[tactic(auto, unfolding(crate::specs::Numbers::number_at))]
 pub fn number_u64(word: &[u8]) -> Option<u64>
     ensures value { result ≡ number_at 64 word.now }
@@ -65,7 +65,7 @@ pub fn number_u64(word: &[u8]) -> Option<u64>
     }
 }
 
-/// The number of 32 bits that a word spells. `None` where it spells none, or one that does not fit.
+/// The number of a word. `None` if the word is not a number, or it does not fit 32 bits.
 #[tactic(auto, unfolding(crate::specs::Numbers::number_at))]
 pub fn number_u32(word: &[u8]) -> Option<u32>
     ensures value { result ≡ number_at 32 word.now }
@@ -73,7 +73,7 @@ pub fn number_u32(word: &[u8]) -> Option<u32>
     u32::try_from(number_u64(word)?).ok()
 }
 
-/// The number of 16 bits that a word spells. `None` where it spells none, or one that does not fit.
+/// The number of a word. `None` if the word is not a number, or it does not fit 16 bits.
 #[tactic(auto, unfolding(crate::specs::Numbers::number_at))]
 pub fn number_u16(word: &[u8]) -> Option<u16>
     ensures value { result ≡ number_at 16 word.now }
@@ -81,7 +81,7 @@ pub fn number_u16(word: &[u8]) -> Option<u16>
     u16::try_from(number_u64(word)?).ok()
 }
 
-/// The number of 8 bits that a word spells. `None` where it spells none, or one that does not fit.
+/// The number of a word. `None` if the word is not a number, or it does not fit 8 bits.
 #[tactic(auto, unfolding(crate::specs::Numbers::number_at))]
 pub fn number_u8(word: &[u8]) -> Option<u8>
     ensures value { result ≡ number_at 8 word.now }

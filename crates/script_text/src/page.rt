@@ -1,5 +1,5 @@
-//! Texts that are put together piece by piece, where there is room for so many bytes. What has room is there, and only
-//! what has none is refused: a formatter may refuse any text.
+//! Texts of limited length that are assembled from parts. A part is refused only if it does not fit; a formatter of
+//! the standard library may refuse any text.
 
 ghost use Rattle.std.specs.Prelude.{◌≡◌, ◌≤◌, ◌++◌, ℕ, List, [], IfOk, vec_capacity};
 ghost use Rattle.std.specs.Fmt.{decimal};
@@ -10,25 +10,25 @@ use itoa::Buffer;
 use std::alloc::{AllocError, Global};
 use std::marker::Model;
 
-/// How many bytes a text has at most: as many as the longest answer to a line.
+/// The most bytes of a text: those of the longest answer to a line.
 pub const MOST_TEXT: usize = 262_240;
 
-/// A page has no room for a text. It may hold some of it then.
+/// A text does not fit the page, which may have some of it then.
 #[derive(Clone, Copy, Debug, PartialEq, Eq)]
 pub struct NoRoom;
 
-/// What texts are put together on, piece by piece. For contracts it tells by `room` how many bytes it has room for, and
-/// by `written` what it holds.
+/// A page, on which a text is assembled from parts. For contracts it defines by `room` the most bytes that it can
+/// have, and by `written` those that it has.
 pub trait Page {
     ghost room: { ℕ };
 
     ghost written: { Self → List ℕ };
 
-    /// Puts a text behind what the page holds.
+    /// Appends a text to the page.
     ///
     /// # Errors
     ///
-    /// Only where there is no room for both.
+    /// Only if it does not fit.
     fn put_str(&mut self, piece: &str) -> Result<(), NoRoom>
         ensures { Adds room result (written self.old) piece.now (written self.new) };
 }
@@ -41,7 +41,7 @@ pub fn put_number<P: Page>(page: &mut P, number: u64) -> Result<(), NoRoom>
     page.put_str(buffer.format(number))
 }
 
-/// Puts a number behind a label.
+/// Puts a number after a label.
 pub fn put_labelled<P: Page>(page: &mut P, label: &str, number: u64) -> Result<(), NoRoom>
     ensures { Adds P.room result (P.written page.old) (label.now ++ decimal number) (P.written page.new) }
 {
@@ -78,12 +78,12 @@ pub trait Spell {
     ///
     /// # Errors
     ///
-    /// Only where there is no room for it.
+    /// Only if it does not fit.
     fn spell<P: Page>(&self, page: &mut P) -> Result<(), NoRoom>
         ensures { Adds P.room result (P.written page.old) (spelled self.now) (P.written page.new) };
 }
 
-/// A page with room for every answer to a line.
+/// A page that is long enough for every answer to a line.
 #[derive(Drop)]
 pub struct Text {
     bytes: Vec<u8>,
@@ -113,14 +113,14 @@ impl Text {
         })
     }
 
-    /// Takes all from the page.
+    /// Removes all from the page.
     pub fn clear(&mut self)
         ensures { self.new ≡ [] }
     {
         self.bytes.clear();
     }
 
-    /// What the page holds.
+    /// The bytes on the page.
     pub fn as_bytes(&self) -> &[u8]
         ensures { result.now ≡ self.now }
     {

@@ -1,4 +1,4 @@
-//! The text of a script.
+//! Reads the text of a script.
 
 ghost use Rattle.std.specs.Prelude.{◌≤◌, IfOk, IfErr, Ok, Err, vec_len};
 ghost use Rattle.script_text.specs.Reading.{longest, IsRead};
@@ -20,13 +20,13 @@ pub enum ReadFault {
 /// The longest script, in bytes.
 const LONGEST: usize = 4_194_304;
 
-/// Reads a text to its end, by reads of 4,096 bytes at most. Nothing is read behind the end, behind a read that fails,
-/// or behind byte 4,194,305.
+/// Reads a text to its end, by reads of at most 4,096 bytes. It makes no read after the end, after a read that fails,
+/// or after byte 4,194,305.
 ///
 /// # Errors
 ///
-/// `TooLong` where it has more than 4,194,304 bytes, one of which is read behind those; `NoMemory` where memory is
-/// refused; `Read` where the reader fails.
+/// `TooLong` if it has more than 4,194,304 bytes, one of which is read after those; `NoMemory` if memory is refused;
+/// `Read` if the reader fails.
 pub fn read_text<R: Source>(alloc: Global, reader: &mut R) -> Result<Vec<u8>, ReadFault>
     ensures length { IfOk result (λ text. vec_len text ≤ longest) }
     ensures text { IfOk result (λ text. IsRead R.step R.remaining reader.old (Ok text.items) reader.new) }

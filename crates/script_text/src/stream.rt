@@ -1,4 +1,4 @@
-//! Streams that tell their calls: what a text is read from, and what lines are written to.
+//! Streams whose contracts record their calls: a source of text, and a sink for lines.
 
 ghost use Rattle.std.specs.Prelude.{ℕ, Bool, List, Option, is_ok, length};
 ghost use Rattle.std.specs.Io.{ReadsAtMost, WritesAtMost};
@@ -8,14 +8,15 @@ ghost use Rattle.script_text.specs.Streams.{ReadCall, WriteCall, Reads, Writes, 
 use std::io;
 use std::io::{ErrorKind, Read, Write};
 
-/// A stream that is read from its front: each `Read` is one. For contracts it tells by `step` which states may follow
-/// a call, with its answer, and by `remaining` which bytes it has left, where these are known.
+/// A stream that is read from its front: each `Read` is one. For contracts it defines by `step` which states may follow
+/// a call, with its answer, and by `remaining` the bytes that it has left, if these are known.
 pub trait Source {
     ghost remaining: { Self → Option (List ℕ) };
 
     ghost step: { Self → ReadCall → Self → Type 0 };
 
-    /// Reads some bytes into the front of a part, and says how many: none where there are no more, or no room.
+    /// Reads some bytes into the front of a part, and returns their number: none if there are no more, or the part is
+    /// empty.
     fn take_some(&mut self, part: &mut [u8]) -> io::Result<usize>
         ensures step { step self.old (Reads (length part.old) (come result part.new)) self.new }
         ensures bound { ReadsAtMost result part.new }
@@ -34,15 +35,15 @@ impl<R: Read> Source for R {
     }
 }
 
-/// A stream that is written: each `Write` is one, whose write is made again where a signal interrupts it. For contracts
-/// it tells by `step` which states may follow a call, with its answer, and by `contents` which bytes it holds, where
-/// these are known.
+/// A stream that is written: each `Write` is one, whose write is repeated if a signal interrupts it. For contracts it
+/// defines by `step` which states may follow a call, with its answer, and by `contents` the bytes that it has, if these
+/// are known.
 pub trait Sink {
     ghost contents: { Self → Option (List ℕ) };
 
     ghost step: { Self → WriteCall → Self → Type 0 };
 
-    /// Writes some first bytes of a part, and says how many.
+    /// Writes some of the first bytes of a part, and returns their number.
     fn give_some(&mut self, part: &[u8]) -> io::Result<usize>
         ensures step { step self.old (Writes part.now (taken result)) self.new }
         ensures bound { WritesAtMost result part.now }
@@ -61,7 +62,7 @@ impl<W: Write> Sink for W {
     }
 }
 
-/// One write, made again where a signal interrupts it.
+/// One write, repeated if a signal interrupts it.
 fn write_some<W: Write>(stream: &mut W, part: &[u8]) -> io::Result<usize>
     ensures bound { WritesAtMost result part.now }
     ensures bytes { WriteAppends (W.contents stream.old) (W.contents stream.new) result part.now }
@@ -79,12 +80,12 @@ fn write_some<W: Write>(stream: &mut W, part: &[u8]) -> io::Result<usize>
     Err(io::Error::from(ErrorKind::Interrupted))
 }
 
-/// A stream that is written and flushed: each `Write` is one. For contracts it tells by `flushes` which states may follow
-/// a flush that succeeded, and one that failed.
+/// A stream that is written and flushed: each `Write` is one. For contracts it defines by `flushes` which states may
+/// follow a flush that succeeded, and one that failed.
 pub trait FlushedSink: Sink {
     ghost flushes: { Self → Bool → Self → Type 0 };
 
-    /// Passes on all that was written.
+    /// Flushes all that was written.
     fn flush_all(&mut self) -> io::Result<()>
         ensures step { flushes self.old (is_ok result) self.new }
         ensures bytes { Keeps (Self.contents self.old) (Self.contents self.new) };

@@ -1,15 +1,25 @@
-//! The words of a line: what stands between spaces, tabs and carriage returns.
+//! The words of a line, separated by spaces, tabs and carriage returns.
 
 ghost use Rattle.std.specs.Prelude.{◌≡◌, ◌+◌, ◌<◌, ◌≤◌, ◌∷◌, ◌++◌, true, false, map, length, IfSome, IsNone};
 ghost use Rattle.std.specs.List.{prefix_len, AllByRecursion};
-ghost use Rattle.script_text.specs.Words.{line_words, is_separator, is_visible, is_line_text, starts_apart, most_words, behind_separators, behind_word, is_text};
+ghost use Rattle.script_text.specs.Words.{
+  line_words,
+  is_separator,
+  is_visible,
+  is_line_text,
+  starts_apart,
+  most_words,
+  behind_separators,
+  behind_word,
+  is_text,
+};
 
 use arrayvec::ArrayVec;
 
-/// The most words at the front of a line that are told apart at once.
+/// The most words at the front of a line that are split off at once.
 pub const MOST_WORDS: usize = 8;
 
-/// Whether a byte stands between words: a space, a tab or a carriage return, and no other.
+/// Whether a byte is a separator: a space, a tab or a carriage return.
 #[inline(always)]
 pub(crate) fn is_separator_byte(byte: u8) -> bool
     ensures { result ≡ is_separator byte }
@@ -17,7 +27,7 @@ pub(crate) fn is_separator_byte(byte: u8) -> bool
     matches!(byte, b' ' | b'\t' | b'\r')
 }
 
-/// Whether a byte may stand in a word: a visible character.
+/// Whether a byte may be in a word, that is, a visible character.
 #[inline(always)]
 fn is_visible_byte(byte: u8) -> bool
     ensures { result ≡ is_visible byte }
@@ -25,7 +35,7 @@ fn is_visible_byte(byte: u8) -> bool
     33 <= byte && byte <= 126
 }
 
-/// How many bytes at the front of a line stand between words or may stand in one.
+/// The number of bytes at the front of a line that are separators or visible characters.
 pub fn text_len(line: &[u8]) -> usize
     ensures { result ≡ prefix_len is_text line.now }
 {
@@ -34,7 +44,7 @@ pub fn text_len(line: &[u8]) -> usize
         .count()
 }
 
-/// What is left of a line behind the separators at its front.
+/// The line after the separators at its front.
 #[inline(always)]
 pub fn behind_separators(line: &[u8]) -> &[u8]
     ensures exact { result.now ≡ behind_separators line.now }
@@ -53,7 +63,7 @@ pub fn behind_separators(line: &[u8]) -> &[u8]
     rest
 }
 
-/// How many bytes at the front of a line may stand in a word.
+/// The number of visible characters at the front of a line.
 #[inline(always)]
 fn word_len(line: &[u8]) -> usize
     ensures { result ≡ prefix_len is_visible line.now }
@@ -63,15 +73,15 @@ fn word_len(line: &[u8]) -> usize
         .count()
 }
 
-/// A word at the front of a line, and the line behind it and the separators that follow it.
+/// The first word of a line, and the rest of the line after the separators that follow the word.
 #[derive(Clone, Copy)]
 pub struct FirstWord<'a> {
     pub word: &'a [u8],
     pub behind: &'a [u8],
 }
 
-/// The first word of a line that begins with no separator. `None` where the word is empty, or a byte ends it that
-/// neither stands between words nor may stand in one.
+/// The first word of a line that does not begin with a separator. `None` if the word is empty, or the byte after it is
+/// neither a separator nor visible.
 #[inline(always)]
 pub fn first_word(line: &[u8]) -> Option<FirstWord<'_>>
     requires apart { starts_apart line.now ≡ true }
@@ -99,18 +109,16 @@ pub fn first_word(line: &[u8]) -> Option<FirstWord<'_>>
     }
 }
 
-/// The words at the front of a line, and the rest of the line behind them.
+/// The words at the front of a line, and the rest of the line after them.
 #[derive(Drop)]
 pub struct FrontWords<'a> {
     /// The first words, from left to right.
     pub words: ArrayVec<&'a [u8], MOST_WORDS>,
-    /// What is left of the line behind `MOST_WORDS` words and the separators that follow them. It is empty where the
-    /// line has no more words.
+    /// The line after `MOST_WORDS` words and the separators that follow them; empty if the line has no more words.
     pub rest: &'a [u8],
 }
 
-/// The first words of a line, from left to right. `None` where a byte in front of the rest neither stands between words
-/// nor may stand in one.
+/// The first words of a line, from left to right. `None` if a byte before the rest is neither a separator nor visible.
 pub fn words_of(line: &[u8]) -> Option<FrontWords<'_>>
     ensures text { IfSome result (λ front. is_line_text front.rest.now ≡ is_line_text line.now) }
     ensures words { IfSome result (λ front. is_line_text line.now ≡ true

@@ -1,4 +1,4 @@
-//! Bytes on their way to a writer.
+//! Writes bytes.
 
 ghost use Rattle.std.specs.Prelude.{◌≡◌, ◌<◌, OnOk, OnErr, length, take};
 ghost use Rattle.std.specs.Io.KnownBytes.{Appends};
@@ -8,8 +8,8 @@ use crate::stream::Sink;
 use std::io;
 use std::io::ErrorKind;
 
-/// Writes bytes, each write all that are left of them, up to the last of them or to a write that fails, and says how many
-/// were written. Nothing is written behind a write that fails.
+/// Writes bytes, each write all that are left, up to the last of them or to a write that fails, and returns the number
+/// that was written. It makes no write after one that fails.
 pub fn write_front<W: Sink>(writer: &mut W, bytes: &[u8]) -> (usize, io::Result<()>)
     ensures writes { IsWritten W.step bytes.now writer.old result.1 writer.new }
     ensures bytes { Appends (W.contents writer.old) (W.contents writer.new) (take result.0 bytes.now) }
@@ -27,12 +27,11 @@ pub fn write_front<W: Sink>(writer: &mut W, bytes: &[u8]) -> (usize, io::Result<
     (written, Ok(()))
 }
 
-/// Writes all of some bytes, each write all that are left of them. Nothing is written behind a write that fails.
+/// Writes all bytes: each write passes all that are left. Makes no write after one that fails.
 ///
 /// # Errors
 ///
-/// Those of the writer, and `WriteZero` where it takes none. Only some of the bytes were written then, from the first
-/// on.
+/// Errors of the writer, and `WriteZero` if it takes no byte. Only a prefix of the bytes was then written.
 pub fn write_whole<W: Sink>(writer: &mut W, bytes: &[u8]) -> io::Result<()>
     ensures writes { IsWritten W.step bytes.now writer.old result writer.new }
     ensures ok { OnOk result (Appends (W.contents writer.old) (W.contents writer.new) bytes.now) }

@@ -1,4 +1,4 @@
-//! What commands are answered with.
+//! Expected answers to commands.
 
 use nvme_wire::Status;
 

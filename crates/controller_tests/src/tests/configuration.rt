@@ -1,4 +1,4 @@
-//! The configurations that subsystems are opened with, and an access state that several tests begin with.
+//! Configurations of the tests' subsystems, and an access state that several tests begin with.
 
 use nvme_ns::Spaces;
 use nvme_spec::{Config, ControllerConfig, HostId, NsConfig};
@@ -21,8 +21,8 @@ fn namespace(nsid: u32, blocks: u64, shared: bool) -> NsConfig {
     }
 }
 
-/// Controllers 1 to 4, of which 1 and 3 have one host; namespace 1 of 64 blocks, shared and attached to all of them;
-/// and namespace 2 of so many blocks, private and attached to controller 1.
+/// Controllers 1 to 4, of which 1 and 3 have the same host; namespace 1 of 64 blocks, shared and attached to all of
+/// them; and namespace 2 of `private_blocks` blocks, private and attached to controller 1.
 pub(crate) fn configuration(alloc: Global, private_blocks: u64) -> Result<Config, AllocError> {
     Ok(Config {
         controllers: vec![in alloc;
@@ -36,7 +36,7 @@ pub(crate) fn configuration(alloc: Global, private_blocks: u64) -> Result<Config
     })
 }
 
-/// Controllers 1 and 2 of two hosts, and namespaces 1 and 2 of so many blocks, shared and attached to both.
+/// Controllers 1 and 2 of two hosts, and namespaces 1 and 2 of `blocks` blocks, shared and attached to both.
 pub(crate) fn shared_configuration(alloc: Global, blocks: [u64; 2]) -> Result<Config, AllocError> {
     Ok(Config {
         controllers: vec![in alloc; controller(1, 0xa1), controller(2, 0xb2)]?,

@@ -1,4 +1,4 @@
-//! Drivers over a controller of the tests' choice: how they come up, what they refuse, and how they fail.
+//! Drivers over a controller of the tests' choice: they come up, refuse and fail.
 
 use crate::tests::asserting::expect_eq;
 use nvme_driver::{Answer, Driver, NotUp, PlaceRefusal, PollFault, Port, Request, Ticket, UpFault};
@@ -26,7 +26,7 @@ fn up(alloc: Global) -> Result<(Driver, TestPort), Fail> {
     Ok((driver, port))
 }
 
-/// The completion of a request of the I/O lane.
+/// The completion of a request of the I/O lane (queue pair).
 fn done(head: u16, cid: u16, phase: bool) -> [u8; 16] {
     Cqe::new(0, head, 1, cid, phase, Status::SUCCESSFUL_COMPLETION).to_bytes()
 }

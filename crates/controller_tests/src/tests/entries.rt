@@ -10,7 +10,7 @@ pub const COMPARE: u8 = 0x05;
 
 pub const WRITE_ZEROES: u8 = 0x08;
 
-/// An entry that names blocks. There is no second PRP entry.
+/// A submission queue entry of a command on blocks. PRP2 is 0.
 pub(crate) fn transfer(opcode: u8, nsid: u32, first: u64, blocks: u8, prp1: u64) -> [u8; 64] {
     let mut bytes = [0; 64];
     bytes[0] = opcode;

@@ -1,4 +1,4 @@
-//! That calls succeed, and what each of a run of calls leaves.
+//! Calls of media succeed, and what several calls leave.
 
 mod cached;
 mod files;

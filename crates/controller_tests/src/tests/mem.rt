@@ -1,4 +1,4 @@
-//! Windows of host memory: where they end, and what is stored in them.
+//! Windows of host memory: their ends, and stores.
 
 use crate::tests::asserting::{expect_eq, expect_that};
 use nvme_mem::{OutsideWindow, Window};

@@ -1,8 +1,8 @@
-//! What stands in the memory of a host.
+//! The bytes in the memory of a host.
 
 use nvme_mem::Window;
 
-/// Whether these bytes stand in the window, from an address on.
+/// Whether the window has these bytes at an address.
 pub(crate) fn holds(window: &Window, addr: u64, bytes: &[u8]) -> bool {
     window.piece(addr, bytes.len() as u64) == Some(bytes)
 }

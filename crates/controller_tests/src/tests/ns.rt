@@ -1,5 +1,5 @@
-//! The access state of a subsystem: how it opens, a reservation that it lends, and a list that is longer than one in
-//! memory can be.
+//! The access state of a subsystem: its opening, a borrowed reservation, and a list that is longer than one in memory
+//! can be.
 
 use crate::tests::asserting::{expect_eq, expect_that};
 use crate::tests::configuration::{configuration, opened};

@@ -1,4 +1,4 @@
-//! What a command that the rules on access allow is to do.
+//! The plans of commands that the rules on access allow.
 
 use crate::tests::asserting::expect_eq;
 use crate::tests::configuration::opened;

@@ -1,11 +1,11 @@
-//! Blocks of a transfer that are lent where they lie.
+//! Blocks of a transfer that are borrowed from the window.
 
 use crate::tests::asserting::expect_eq;
 use nvme_mem::Window;
 use nvme_prp::{BlockPlace, lend_block, walk};
 use std::test::Fail;
 
-/// The first page has 508 bytes of the block, and the page behind it the others.
+/// The first page has 508 bytes of the block, and the next page the others.
 #[test]
 fn places_of_blocks(rt: HostRuntime) -> Result<(), Fail> {
     let mut window = Window::new(rt.alloc())?;

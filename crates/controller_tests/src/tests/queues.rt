@@ -1,5 +1,5 @@
-//! A host that makes its queues by hand, through the events of a subsystem: I/O completion queue 1 of 32 entries at
-//! 3000h, and I/O submission queue 1 of 8 entries at 2000h.
+//! A host without a driver, through the events of a subsystem: I/O completion queue 1 of 32 entries at 3000h, and I/O
+//! submission queue 1 of 8 entries at 2000h.
 
 use crate::tests::asserting::expect_eq;
 use crate::tests::configuration::shared_configuration;
@@ -12,7 +12,7 @@ use std::test::Fail;
 
 type Bench = Subsystem<MemMedium>;
 
-/// An entry with its PRP entry 1, and command specific double words 10 and 11. Its CID is 7, and its NSID this.
+/// An entry with this NSID, PRP entry 1, and command specific double words 10 and 11. Its CID is 7.
 fn entry(opcode: u8, nsid: u8, prp1: u16, cdw10: u32, cdw11: u32) -> [u8; 64] {
     let mut bytes = [0; 64];
     bytes[0] = opcode;
@@ -48,7 +48,7 @@ fn open(alloc: Global) -> Result<Bench, Fail> {
     Ok(subsystem)
 }
 
-/// Puts a command at a place of the I/O submission queue, and has it fetched and executed.
+/// Puts a command at a place of the I/O submission queue, and lets the controller fetch and execute it.
 fn carry(subsystem: &mut Bench, cntlid: u16, place: u8, command: &[u8; 64]) -> Seen {
     let address = 0x2000 + 64 * u64::from(place);
     let _ = subsystem.apply(Event::Store(cntlid, address, command));
@@ -57,7 +57,7 @@ fn carry(subsystem: &mut Bench, cntlid: u16, place: u8, command: &[u8; 64]) -> S
     subsystem.apply(Event::Execute(cntlid, 0))
 }
 
-/// The first completion of controller 1 has to be this.
+/// Fails unless the first completion of controller 1 is this one.
 fn expect_first(rt: &impl Abort, subsystem: &Bench, completion: [u8; 16]) {
     let found = match subsystem.controller(1) {
         Some(controller) => controller.window().piece(0x3000, 16),

@@ -1,4 +1,4 @@
-//! The registers of a controller: what reads give, and what writes leave and ask.
+//! The registers of a controller: values, writes and their effects.
 
 use crate::tests::asserting::expect_eq;
 use nvme_regs::ControllerState::{Failed, Off, Ready, ShutDown};
@@ -51,7 +51,7 @@ fn from_enabled_to_shut_down_off_and_failed(rt: HostRuntime) {
     }
 }
 
-// Of each attempt to enable: AQA, ASQ, ACQ, CC, and CSTS afterwards.
+// For each attempt to enable: AQA, ASQ, ACQ, CC, and CSTS afterwards.
 const ENABLINGS: [(u32, u64, u64, u32, u32); 39] = [
     (0x001f_0007, 0, 0x1000, 0x0046_0001, 1),
     // Command set, page size and arbitration.
@@ -69,7 +69,7 @@ const ENABLINGS: [(u32, u64, u64, u32, u32); 39] = [
     (0x001f_0007, 0, 0x1000, 0x0056_0001, 2),
     (0x001f_0007, 0, 0x1000, 0x0006_0001, 2),
     (0x001f_0007, 0, 0x1000, 0x0000_0001, 2),
-    // Bits that no field names, and notifications.
+    // Bits outside of fields, and notifications.
     (0xf01f_f007, 0, 0x1000, 0x0046_0001, 1),
     (0x001f_0007, 0, 0x1000, 0xff46_000f, 1),
     (0x001f_0007, 0, 0x1000, 0x0046_4001, 9),
@@ -87,7 +87,7 @@ const ENABLINGS: [(u32, u64, u64, u32, u32); 39] = [
     (0x003f_0007, 0, 0x1000, 0x0046_0001, 1),
     (0x0040_0007, 0, 0x1000, 0x0046_0001, 2),
     (0x0fff_0007, 0, 0x1000, 0x0046_0001, 2),
-    // The address of the submission queue: not a page; before, at and behind the end of host memory; past 2^64.
+    // The address of the submission queue: not a page; before, at and after the end of host memory; past 2^64.
     (0x001f_0007, 0x800, 0x1000, 0x0046_0001, 2),
     (0x001f_0007, 0x003f_f000, 0x1000, 0x0046_0001, 1),
     (0x001f_003f, 0x003f_f000, 0x1000, 0x0046_0001, 1),

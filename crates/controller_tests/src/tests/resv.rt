@@ -1,4 +1,4 @@
-//! A reservation has room for so many registrants.
+//! The most registrants of a reservation.
 
 use crate::tests::asserting::{expect_eq, expect_that};
 use nvme_resv::{Reservation, Role};

@@ -1,4 +1,4 @@
-//! The ends of queues, turn after turn.
+//! The ends of queues, over several rounds.
 
 use nvme_ring::{CqHead, CqTail, SqHead, SqTail};
 
@@ -42,7 +42,7 @@ fn a_host_puts_what_it_has_room_for(rt: HostRuntime) {
     }
     assert_eq!(rt; tail.room(), 0);
     assert_eq!(rt; (tail.hear(3), tail.room()), (true, 3));
-    // One behind the last head heard, one beyond the tail, and one that is no slot.
+    // One before the last accepted head, one after the tail, and one that is not a slot.
     assert_eq!(rt; [tail.hear(2), tail.hear(0), tail.hear(8)], [false; 3]);
     assert_eq!(rt; tail.room(), 3);
     tail.advance();

@@ -116,7 +116,7 @@ fn reads_the_fields_of_a_completion(rt: HostRuntime) {
     expect_eq(&rt, cqe.status(), Status::RESERVATION_CONFLICT);
 }
 
-// All bits of the last double word but the phase tag are 1, as are the reserved ones of double word 1.
+// All bits of the last double word except the phase tag are 1, as are the reserved ones of double word 1.
 #[test]
 fn keeps_the_bits_that_no_field_names(rt: HostRuntime) {
     let bytes = [

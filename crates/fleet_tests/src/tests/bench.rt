@@ -1,4 +1,4 @@
-//! Four controllers of three hosts over a medium in memory, and requests that are carried through.
+//! Four controllers of three hosts over a medium in memory, and requests from their placing to their answer.
 
 use crate::tests::asserting::expect_eq;
 use nvme_fleet::{
@@ -15,7 +15,7 @@ use std::test::Fail;
 /// A fleet over a medium in memory.
 pub type Bench = Fleet<MemMedium>;
 
-/// What an event gave; of a posted completion the status and the rule.
+/// The result of an event; of a posted completion the status and the rule.
 #[derive(Clone, Copy, Debug, PartialEq, Eq)]
 pub enum Shown {
     Up(Result<(), UpFault>),
@@ -36,8 +36,8 @@ pub enum Shown {
     NotRaw,
 }
 
-/// What came of a request: the status and the rule of the execution, double word 0, and how many bytes came with the
-/// answer.
+/// The outcome of a request: the status and the rule of the execution, double word 0, and the length of the answer's
+/// data.
 #[derive(Clone, Copy, Debug, PartialEq, Eq)]
 pub struct Carried {
     pub status: Status,
@@ -46,7 +46,7 @@ pub struct Carried {
     pub len: usize,
 }
 
-/// What is shown of what an event gave.
+/// The result of an event, in a form that tests can compare.
 pub(crate) fn show(seen: FleetSeen) -> Shown {
     match seen {
         FleetSeen::Up(up) => Shown::Up(up),
@@ -70,12 +70,12 @@ pub(crate) fn show(seen: FleetSeen) -> Shown {
     }
 }
 
-/// One event.
-pub(crate) fn happen(fleet: &mut Bench, event: FleetEvent<'_>) -> Shown {
+/// Applies one event.
+pub(crate) fn apply(fleet: &mut Bench, event: FleetEvent<'_>) -> Shown {
     show(fleet.apply(event))
 }
 
-/// An event has to give this, and these data.
+/// Fails unless an event has this result, and these data.
 pub(crate) fn expect_data(
     rt: &impl Abort,
     fleet: &mut Bench,
@@ -83,7 +83,7 @@ pub(crate) fn expect_data(
     seen: Shown,
     data: &[u8],
 ) {
-    expect_eq(rt, happen(fleet, event), seen);
+    expect_eq(rt, apply(fleet, event), seen);
     expect_eq(rt, fleet.data(), data);
 }
 
@@ -121,7 +121,7 @@ pub(crate) fn configuration(alloc: Global, private_blocks: u64) -> Result<Config
     })
 }
 
-/// Opens a configuration that is to be accepted.
+/// Opens a configuration that must be accepted.
 pub(crate) fn accepted<M: Medium + Drop>(
     alloc: Global,
     config: &Config,
@@ -180,7 +180,7 @@ pub(crate) fn send<M: Medium>(
     Ok(ticket)
 }
 
-/// Carries a request through a controller that has fetched nothing else, up to its answer.
+/// Sends a request, executes it and polls its answer. The controller must hold no other fetched command.
 pub(crate) fn carry<M: Medium>(
     fleet: &mut Fleet<M>,
     cntlid: u16,
@@ -217,7 +217,7 @@ pub(crate) fn carry<M: Medium>(
     })
 }
 
-/// A request has to be carried through with success, and these data handed up.
+/// Fails unless a request succeeds with these data.
 pub(crate) fn expect_done(
     rt: &impl Abort,
     fleet: &mut Bench,
@@ -230,7 +230,7 @@ pub(crate) fn expect_done(
     Ok(())
 }
 
-/// A command that succeeds, with so many bytes of data.
+/// A command that succeeds, with data of this length.
 fn done(len: usize) -> Carried {
     Carried {
         status: Status::SUCCESSFUL_COMPLETION,
@@ -240,7 +240,7 @@ fn done(len: usize) -> Carried {
     }
 }
 
-/// An answer of success, with so many bytes of data.
+/// An answer of success, with data of this length.
 pub(crate) fn answered(ticket: u64, len: usize) -> Shown {
     Shown::Polled(Ok(Some(Answer::Done {
         ticket: Ticket(ticket),
@@ -250,17 +250,17 @@ pub(crate) fn answered(ticket: u64, len: usize) -> Shown {
     })))
 }
 
-/// A command that was executed with success.
+/// The result of a command that succeeded.
 pub(crate) fn posted() -> Shown {
     Shown::Posted(Status::SUCCESSFUL_COMPLETION, 0)
 }
 
-/// Reads blocks.
+/// A Read.
 pub(crate) fn read(nsid: u32, slba: u64, blocks: u32) -> Request<'static> {
     Request::Read { nsid, slba, blocks }
 }
 
-/// Writes blocks.
+/// A Write.
 pub(crate) fn write(nsid: u32, slba: u64, bytes: &[u8]) -> Request<'_> {
     Request::Write { nsid, slba, bytes }
 }

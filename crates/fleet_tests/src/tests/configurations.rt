@@ -1,4 +1,4 @@
-//! Configurations that are refused, and want of memory: whatever comes, the medium is handed back.
+//! Configurations that are refused, and refused memory: the medium is returned in each case.
 
 use crate::tests::asserting::{expect_eq, expect_that};
 use crate::tests::bench::configuration;
@@ -16,7 +16,7 @@ fn marked_medium(alloc: Global) -> Result<MemMedium, Fail> {
     Ok(MemMedium::new(alloc, &bytes)?)
 }
 
-/// Whether a medium is the marked one as it was.
+/// Whether a medium is the marked one, unchanged.
 fn is_unchanged(medium: &MemMedium) -> bool {
     let bytes = medium.as_bytes();
     let (Some(first), Some(last)) = (bytes.first(), bytes.last()) else {
@@ -45,7 +45,7 @@ fn a_refused_configuration_hands_the_medium_back(rt: HostRuntime) -> Result<(), 
     Ok(())
 }
 
-// It holds whichever request for memory of `Fleet::new` is refused, as `rt try --fail-alloc` refuses them.
+// It holds whichever allocation of `Fleet::new` is refused, as `rt try --fail-alloc` refuses them.
 #[test]
 fn want_of_memory_hands_the_medium_back(rt: HostRuntime) -> Result<(), Fail> {
     let config = configuration(rt.alloc(), 8)?;

@@ -16,7 +16,7 @@ const READ_ERROR: (Status, u8) = (Status::UNRECOVERED_READ_ERROR, 0);
 
 const DIFFERS: (Status, u8) = (Status::COMPARE_FAILURE, 0);
 
-/// A fleet over blocks of zeros, whose controller 1 is up. The call of this number, counted from 0, fails.
+/// A fleet over blocks of zeros, with controller 1 up. Call number `call` of the medium, counted from 0, fails.
 fn open_failing(alloc: Global, call: u64) -> Result<Fleet<Failing<MemMedium>>, Fail> {
     let config = configuration(alloc, 8)?;
     let medium = MemMedium::new(alloc, &[0; 72 * 512])?;
@@ -27,7 +27,7 @@ fn open_failing(alloc: Global, call: u64) -> Result<Fleet<Failing<MemMedium>>, F
     Ok(fleet)
 }
 
-/// What a request came to: its status, and the number of its rule.
+/// The outcome of a request: its status, and the number of its rule.
 fn outcome(
     fleet: &mut Fleet<Failing<MemMedium>>,
     request: Request<'_>,
@@ -45,8 +45,8 @@ fn block_of(front: &[u8]) -> [u8; 512] {
     block
 }
 
-/// A block is written and read back. A write that failed has left the block as it was, and its fault is told by no
-/// other command.
+/// A block is written and read back. A write that failed has left the block unchanged, and no other command reports its
+/// fault.
 #[test]
 fn a_block_is_written_and_read(rt: HostRuntime) -> Result<(), Fail> {
     let block = block_of(b"Hello");
@@ -73,7 +73,7 @@ fn a_block_is_written_and_read(rt: HostRuntime) -> Result<(), Fail> {
     Ok(())
 }
 
-/// Three blocks are written. The blocks before the one that failed have their bytes, and the others are as they were.
+/// Three blocks are written. The blocks before the one that failed have their bytes, and the others are unchanged.
 #[test]
 fn three_blocks_are_written(rt: HostRuntime) -> Result<(), Fail> {
     for call in 0_u64..3 {
@@ -98,8 +98,7 @@ fn three_blocks_are_written(rt: HostRuntime) -> Result<(), Fail> {
     Ok(())
 }
 
-/// Blocks that are the same and blocks that differ are compared. A read that failed is told as such, and not as a
-/// difference.
+/// Equal and different blocks are compared. A read that failed is reported as such, instead of as a difference.
 #[test]
 fn blocks_are_compared(rt: HostRuntime) -> Result<(), Fail> {
     let (same, other) = (block_of(&[0]), block_of(&[1]));
@@ -118,7 +117,7 @@ fn blocks_are_compared(rt: HostRuntime) -> Result<(), Fail> {
     Ok(())
 }
 
-/// Two blocks are filled with zeros, and flushed. A fault of either is told by it, and by nothing else.
+/// Two blocks are filled with zeros, and flushed. The fault of each command is reported by it, and by nothing else.
 #[test]
 fn blocks_are_zeroed_and_flushed(rt: HostRuntime) -> Result<(), Fail> {
     let expected = [

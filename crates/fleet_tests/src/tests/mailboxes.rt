@@ -1,4 +1,4 @@
-//! What a fleet lets see: its data, and its controllers.
+//! The data and the controllers of a fleet between events.
 
 use crate::tests::asserting::{expect_eq, expect_that};
 use crate::tests::bench::{Shown, answered, expect_data, expect_done, open, open_up, posted, read};

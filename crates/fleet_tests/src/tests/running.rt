@@ -1,7 +1,7 @@
-//! A list of events, and want of memory in it.
+//! A list of events, and memory that is refused in it.
 
 use crate::tests::asserting::expect_eq;
-use crate::tests::bench::{Shown, answered, happen, open, posted, read, show, write};
+use crate::tests::bench::{Shown, answered, apply, open, posted, read, show, write};
 use nvme_fleet::{Fetched, FleetEvent, Reply, Ticket};
 use std::process::Abort;
 use std::test::Fail;
@@ -23,7 +23,7 @@ fn events(block: &[u8]) -> [FleetEvent<'_>; 11] {
     ]
 }
 
-/// What they give.
+/// Their results.
 fn expected() -> [Shown; 11] {
     [
         Shown::Up(Ok(())),
@@ -40,7 +40,7 @@ fn expected() -> [Shown; 11] {
     ]
 }
 
-/// Replies have to show these, of which there may be more.
+/// Fails unless the replies show these, and perhaps more.
 fn expect_replies(rt: &impl Abort, replies: Vec<Reply>, expected: &[Shown]) {
     for (at, reply) in replies.into_iter().enumerate() {
         assert_eq!(rt;
@@ -51,8 +51,8 @@ fn expect_replies(rt: &impl Abort, replies: Vec<Reply>, expected: &[Shown]) {
     }
 }
 
-// It holds whichever request for memory of `Fleet::run` is refused, as `rt try --fail-alloc` refuses them: the events
-// whose replies were added have happened, and those behind them have not.
+// It holds whichever allocation of `Fleet::run` is refused, as `rt try --fail-alloc` refuses them: the events whose
+// replies were appended have happened, and those after them have not.
 #[test]
 fn want_of_memory_leaves_the_events_behind_it(rt: HostRuntime) -> Result<(), Fail> {
     let block = [0x5a; 512];
@@ -64,7 +64,7 @@ fn want_of_memory_leaves_the_events_behind_it(rt: HostRuntime) -> Result<(), Fai
     expect_replies(&rt, replies, &expected());
     let (events, expected) = (events(&block), expected());
     for at in count..events.len() {
-        expect_eq(&rt, happen(&mut fleet, events[at]), expected[at]);
+        expect_eq(&rt, apply(&mut fleet, events[at]), expected[at]);
     }
     expect_eq(&rt, fleet.data(), block.as_slice());
     Ok(())

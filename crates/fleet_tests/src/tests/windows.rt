@@ -1,12 +1,12 @@
-//! Completions as they lie in the memory of a host, which a fleet shows by its controllers.
+//! Completions in the memory of a host, which a fleet shows through its controllers.
 
 use crate::tests::asserting::expect_eq;
-use crate::tests::bench::{Bench, Shown, answered, happen, open_up, posted, read, show};
+use crate::tests::bench::{Bench, Shown, answered, apply, open_up, posted, read, show};
 use nvme_fleet::{Answer, Fetched, FleetEvent, Ticket};
 use std::process::Abort;
 use std::test::Fail;
 
-/// The completion at an address of controller 1's window has to be this.
+/// Fails unless the completion at an address of controller 1's window is this one.
 fn expect_completion(rt: &impl Abort, fleet: &Bench, address: u64, entry: [u8; 16]) {
     let found = match fleet.controller(1) {
         Some(controller) => controller.window().piece(address, 16),
@@ -15,8 +15,8 @@ fn expect_completion(rt: &impl Abort, fleet: &Bench, address: u64, entry: [u8; 1
     expect_eq(rt, found, Some(entry.as_slice()));
 }
 
-// The completion queue has 32 entries: the 33rd completion lies where the first one lay, and has the other phase tag.
-// The submission queue has 8, so that its head is 1 again.
+// The completion queue has 32 entries: the 33rd completion is in the slot of the first, with the other phase tag. The
+// submission queue has 8, so its head is 1 again.
 #[test]
 fn completions_go_round(rt: HostRuntime) -> Result<(), Fail> {
     let round = [
@@ -40,8 +40,8 @@ fn completions_go_round(rt: HostRuntime) -> Result<(), Fail> {
     Ok(())
 }
 
-// Requests that a reset has aborted keep their slots until they are handed up. So the first request behind it has slot 3,
-// which is its Command Identifier.
+// Requests that a reset has aborted keep their slots until they are delivered. So the first request after it has slot
+// 3, which is its Command Identifier.
 #[test]
 fn slots_of_aborted_requests_are_not_used(rt: HostRuntime) -> Result<(), Fail> {
     let placed = |ticket| Shown::Placed(Ok(Ticket(ticket)));
@@ -66,7 +66,7 @@ fn slots_of_aborted_requests_are_not_used(rt: HostRuntime) -> Result<(), Fail> {
         (FleetEvent::Poll(1), aborted(3)),
         (FleetEvent::Poll(1), answered(4, 512)),
     ] {
-        expect_eq(&rt, happen(&mut fleet, event), seen);
+        expect_eq(&rt, apply(&mut fleet, event), seen);
     }
     let entry = [0, 0, 0, 0, 0, 0, 0, 0, 1, 0, 1, 0, 3, 0, 1, 0];
     expect_completion(&rt, &fleet, 0x3000, entry);

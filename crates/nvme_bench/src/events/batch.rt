@@ -1,4 +1,4 @@
-//! Batches of commands, and what the events of a batch take.
+//! Batches of commands, and the time that the events of a batch take.
 
 ghost use Rattle.std.specs.Prelude.{◌≤◌};
 
@@ -6,31 +6,31 @@ use std::rt::Clock;
 use std::time::Instant;
 use std::{fmt, io};
 
-/// A host that sends commands of one kind, so many at once. Each takes five events, and all commands of a batch take an
-/// event before any takes the next.
+/// A host that sends commands of one kind in batches. Each command takes five events, and all commands of a batch take
+/// one event before any of them takes the next.
 pub(crate) trait Batch {
-    /// How many commands a batch has.
+    /// The number of commands of a batch.
     fn count(&self) -> u32
         ensures { 1 ≤ result };
 
-    /// Puts the commands, those of the `round`-th batch, into the submission queue.
+    /// Puts the commands of the `round`-th batch into the submission queue.
     fn submit(&mut self, round: u32);
 
-    /// Rings the tail doorbells, once for each command, the first of which tells all.
+    /// Rings the tail doorbell once for each command; the first ring already announces all of them.
     fn ring(&mut self);
 
     /// Fetches the commands.
     fn fetch(&mut self);
 
-    /// Executes the commands, and gives how many completions were posted, with their status codes.
+    /// Executes the commands, and returns the number of posted completions plus their status codes.
     fn execute(&mut self) -> u64;
 
-    /// Takes the completions, and gives a sum over what they carry.
+    /// Takes the completions, and returns a sum over their content.
     fn complete(&mut self) -> u64;
 }
 
-/// How long each of the five events of a command took, in nanoseconds, and the sum over what was answered, so that no
-/// execution can be left out.
+/// The time of each of a command's five events in nanoseconds, and a sum over the answers, so that the compiler can't
+/// leave out an execution.
 #[derive(Clone, Copy)]
 pub(crate) struct Times {
     submit: u128,
@@ -42,7 +42,7 @@ pub(crate) struct Times {
 }
 
 impl Times {
-    /// The quicker of both, event by event.
+    /// The smaller time of each event.
     fn quicker(self, other: Times) -> Times {
         Times {
             submit: self.submit.min(other.submit),
@@ -54,7 +54,7 @@ impl Times {
         }
     }
 
-    /// The events of one command, where a batch has so many of them.
+    /// The times of one command, from the times of a batch of `count` commands.
     fn of_one(self, count: u32) -> Times
         requires { 1 ≤ count }
     {
@@ -90,7 +90,7 @@ impl fmt::Display for Times {
     }
 }
 
-/// What the events of a command take: of so many batches, the quickest counts for each event.
+/// The times of a command's events: for each event the smallest time over `rounds` batches.
 pub(crate) fn quickest<R: Clock, B: Batch>(rt: &R, host: &mut B, rounds: u32) -> io::Result<Times> {
     let mut quickest = timed(rt, host, 0)?;
     for round in 1..rounds {
@@ -100,7 +100,7 @@ pub(crate) fn quickest<R: Clock, B: Batch>(rt: &R, host: &mut B, rounds: u32) ->
     Ok(quickest.of_one(count))
 }
 
-/// What the events of one batch take, all together.
+/// The times of the events of one batch, all commands together.
 fn timed<R: Clock, B: Batch>(rt: &R, host: &mut B, round: u32) -> io::Result<Times> {
     let start = Instant::now(rt)?;
     host.submit(round);

@@ -1,19 +1,19 @@
-//! Plain copies: of blocks a batch at a time, of 256 blocks one at a time; the quickest counts.
+//! Plain copies of a block, timed in batches, and of 256 blocks, timed one at a time. The smallest time counts.
 
 use crate::stopwatch::BYTES;
 use std::io;
 use std::rt::Clock;
 use std::time::Instant;
 
-/// How many blocks are copied between two looks at the clock.
+/// The number of copies of a block that are timed together.
 const BATCH: u32 = 8;
 
-/// Prints what a copy takes, with a sum over what was copied.
+/// Prints the time of a copy, and a sum of copied bytes.
 fn tell<R: Print>(rt: &R, name: &str, nanoseconds: u128, sum: u64) -> io::Result<()> {
     println!(rt; "{name}: {nanoseconds} ns, sum {sum}")
 }
 
-/// Copies a batch of blocks, the `round`-th, and gives how long it took and a byte of each.
+/// Copies the `round`-th batch of blocks. Returns how long it took, and the sum of one byte of each block.
 fn blocks<R: Clock>(rt: &R, source: &[u8; BYTES], round: u32) -> io::Result<(u128, u64)> {
     let mut block = [0; 512];
     let mut sum = 0_u64;
@@ -26,7 +26,7 @@ fn blocks<R: Clock>(rt: &R, source: &[u8; BYTES], round: u32) -> io::Result<(u12
     Ok((start.elapsed(rt)?.as_nanos(), sum))
 }
 
-/// Copies blocks, and prints what one takes.
+/// Copies blocks, and prints the time of one copy.
 pub(crate) fn of_blocks<R: Clock + Print>(rt: &R, rounds: u32) -> io::Result<()> {
     let source = [1; BYTES];
     let (mut quickest, mut sum) = blocks(rt, &source, 0)?;
@@ -39,7 +39,7 @@ pub(crate) fn of_blocks<R: Clock + Print>(rt: &R, rounds: u32) -> io::Result<()>
     tell(rt, "copy of a block", each, sum)
 }
 
-/// Copies 256 blocks at once, and prints what that takes.
+/// Copies 256 blocks at once, and prints the time of one copy.
 pub(crate) fn of_transfers<R: Clock + Print>(rt: &R, rounds: u32) -> io::Result<()> {
     let source = [1_u8; BYTES];
     let mut target = [0_u8; BYTES];

@@ -9,14 +9,14 @@ use nvme_medium::MemMedium;
 use std::alloc::Global;
 use std::io;
 
-/// A request that is measured.
+/// The kind of the measured requests.
 #[derive(Clone, Copy)]
 pub(crate) enum Kind {
     /// A Read of one block.
     SmallRead,
     /// A Write of one block.
     SmallWrite,
-    /// A Read of a block behind the last.
+    /// A Read of the first block past the namespace's end.
     Denied,
     /// A Read of 256 blocks.
     LargeRead,
@@ -25,8 +25,8 @@ pub(crate) enum Kind {
 }
 
 impl Kind {
-    /// How many of them are placed at once: of one block as many as a driver's lane takes, of 256 blocks one, which
-    /// then always has the same place in host memory, as a plain copy has.
+    /// The number of open requests. Requests of one block fill a lane (queue pair) of the driver. A request of 256
+    /// blocks is open alone, so that its data always have the same address in host memory, as in a plain copy.
     fn count(self) -> u32
         ensures { 1 ≤ result }
     {
@@ -36,7 +36,7 @@ impl Kind {
         }
     }
 
-    /// How many blocks one of them reads or writes.
+    /// The number of blocks that one request reads or writes.
     fn blocks(self) -> u32 {
         match self {
             Kind::SmallRead | Kind::SmallWrite | Kind::Denied => 1,
@@ -44,7 +44,7 @@ impl Kind {
         }
     }
 
-    /// The first block that one of the `round`-th batch reads or writes.
+    /// The first block of a request of the `round`-th batch.
     fn slba(self, round: u32) -> u64 {
         match self {
             Kind::SmallRead | Kind::SmallWrite => u64::from(round % 256),
@@ -53,7 +53,7 @@ impl Kind {
         }
     }
 
-    /// One of the `round`-th batch, which writes these bytes where it writes.
+    /// A request of the `round`-th batch. A Write has these bytes.
     fn request(self, bytes: &[u8], round: u32) -> Request<'_> {
         let (nsid, slba, blocks) = (1, self.slba(round), self.blocks());
         match self {
@@ -65,7 +65,7 @@ impl Kind {
     }
 }
 
-/// The fleet, its last controller, and the bytes that a Write writes.
+/// The fleet, its last controller, and the bytes of a Write.
 #[derive(Drop)]
 pub(crate) struct Driven {
     fleet: Fleet<MemMedium>,
@@ -75,7 +75,7 @@ pub(crate) struct Driven {
 }
 
 impl Driven {
-    /// Opens so many hosts, all of whose drivers bring their controllers up.
+    /// Opens a fleet of `hosts` hosts, each with a driver, which enables its controller.
     pub(crate) fn new(alloc: Global, hosts: u16, kind: Kind) -> io::Result<Driven> {
         let config = configuration(alloc, hosts)?;
         let fleet = Fleet::new(alloc, &config, medium(alloc)?).map_err(|_| want_of_memory())?;
@@ -86,14 +86,14 @@ impl Driven {
             bytes: vec![in alloc; 2; 512 * kind.blocks() as usize]?,
         };
         for cntlid in 1..hosts.min(16) + 1 {
-            driven.happen(FleetEvent::BringUp(cntlid));
+            driven.apply(FleetEvent::BringUp(cntlid));
         }
         Ok(driven)
     }
 
-    /// One event, of which nothing is known but what it gave: the contract of the fleet ends here.
+    /// Applies an event. The function has no contract, so that the proofs of its callers do not get the fleet's.
     #[inline(always)]
-    fn happen(&mut self, event: FleetEvent<'_>) -> FleetSeen {
+    fn apply(&mut self, event: FleetEvent<'_>) -> FleetSeen {
         self.fleet.apply(event)
     }
 }
@@ -112,20 +112,20 @@ impl Batch for Driven {
 
     fn ring(&mut self) {
         for _ in 0..self.kind.count() {
-            self.happen(FleetEvent::Ring(self.cntlid));
+            self.apply(FleetEvent::Ring(self.cntlid));
         }
     }
 
     fn fetch(&mut self) {
         for _ in 0..self.kind.count() {
-            self.happen(FleetEvent::Fetch(self.cntlid, 1));
+            self.apply(FleetEvent::Fetch(self.cntlid, 1));
         }
     }
 
     fn execute(&mut self) -> u64 {
         let mut sum = 0_u64;
         for _ in 0..self.kind.count() {
-            if let FleetSeen::Executed(Executed::Posted(outcome)) = self.happen(FleetEvent::Execute(
+            if let FleetSeen::Executed(Executed::Posted(outcome)) = self.apply(FleetEvent::Execute(
                 self.cntlid,
                 0,
             )) {
@@ -135,11 +135,11 @@ impl Batch for Driven {
         sum
     }
 
-    /// Polls, and counts the bytes that the driver hands up.
+    /// Polls, and counts the bytes that the driver delivers.
     fn complete(&mut self) -> u64 {
         let mut sum = 0_u64;
         for _ in 0..self.kind.count() {
-            if let FleetSeen::Polled(Ok(Some(Answer::Done { len, .. }))) = self.happen(
+            if let FleetSeen::Polled(Ok(Some(Answer::Done { len, .. }))) = self.apply(
                 FleetEvent::Poll(self.cntlid),
             ) {
                 sum = sum.wrapping_add(len as u64);

@@ -1,4 +1,4 @@
-//! A subsystem, and the host of its last controller, which uses it by single stores and register writes.
+//! A subsystem, and the host of its last controller, which uses it by its own stores and register writes.
 
 use super::batch::Batch;
 use crate::opening::{configuration, medium, want_of_memory};
@@ -7,27 +7,27 @@ use nvme_subsys::{Event, Executed, Seen, Subsystem};
 use std::alloc::Global;
 use std::io;
 
-/// Where I/O queue 1 lies.
+/// The address of the completion queue with id 1.
 const COMPLETIONS: u64 = 0x3000;
 
 const COMMANDS: u64 = 0x4000;
 
-/// Where a list of pages lies, and the pages of data.
+/// The address of the PRP list, and that of the data pages.
 const LIST: u64 = 0x8000;
 
 const PAGES: u64 = 0x10000;
 
-/// How many commands are sent at once.
+/// The number of commands of a batch.
 const BATCH: u32 = 8;
 
-/// A command that is measured.
+/// The kind of the measured commands.
 #[derive(Clone, Copy)]
 pub(crate) enum Kind {
     /// A Read of one block.
     Small,
-    /// A Read of a block behind the last.
+    /// A Read of the first block past the namespace's end.
     Denied,
-    /// A Read of 256 blocks, whose pages are listed.
+    /// A Read of 256 blocks with a PRP list.
     Large,
 }
 
@@ -53,7 +53,7 @@ fn entry(opcode: u8, nsid: u8, prp: [u64; 2], dwords: [u32; 3]) -> [u8; 64] {
     bytes
 }
 
-/// The entry of a command, one of the `round`-th batch of its kind.
+/// The entry of a command of the `round`-th batch of its kind.
 fn command(kind: Kind, round: u32) -> [u8; 64] {
     match kind {
         Kind::Small => entry(2, 1, [PAGES, 0], [round % 256, 0, 0]),
@@ -63,7 +63,8 @@ fn command(kind: Kind, round: u32) -> [u8; 64] {
 }
 
 impl Host {
-    /// Opens so many controllers, and makes the last one run, with I/O queue 1 of 64 entries.
+    /// Opens a subsystem of `controllers` controllers, and enables the last one, with an I/O queue pair of 64 entries
+    /// and id 1.
     pub(crate) fn new(alloc: Global, controllers: u16, kind: Kind) -> io::Result<Host> {
         let config = configuration(alloc, controllers)?;
         let subsystem = Subsystem::new(alloc, &config, medium(alloc)?).map_err(
@@ -80,14 +81,14 @@ impl Host {
         Ok(host)
     }
 
-    /// One event, of which nothing is known but what it gave: the contract of the subsystem ends here.
+    /// Applies an event. The function has no contract, so that the proofs of its callers do not get the subsystem's.
     #[inline(always)]
-    fn happen(&mut self, event: Event<'_>) -> Seen {
+    fn apply(&mut self, event: Event<'_>) -> Seen {
         self.subsystem.apply(event)
     }
 
     fn write(&mut self, offset: u64, value: u32) {
-        self.happen(Event::Write32(self.cntlid, offset, value));
+        self.apply(Event::Write32(self.cntlid, offset, value));
     }
 
     fn enable(&mut self) {
@@ -96,19 +97,19 @@ impl Host {
         self.write(0x14, 0x0046_0001);
         let completions = entry(5, 0, [COMPLETIONS, 0], [0x003f_0001, 1, 0]);
         let commands = entry(1, 0, [COMMANDS, 0], [0x003f_0001, 0x0001_0001, 0]);
-        self.happen(Event::Store(self.cntlid, 0, &completions));
-        self.happen(Event::Store(self.cntlid, 64, &commands));
+        self.apply(Event::Store(self.cntlid, 0, &completions));
+        self.apply(Event::Store(self.cntlid, 64, &commands));
         self.write(0x1000, 2);
         for _ in 0..2 {
-            self.happen(Event::Fetch(self.cntlid, 0));
-            self.happen(Event::Execute(self.cntlid, 0));
+            self.apply(Event::Fetch(self.cntlid, 0));
+            self.apply(Event::Execute(self.cntlid, 0));
         }
     }
 
     fn list_pages(&mut self) {
         for i in 0..31 {
             let page = PAGES + 4096 * (i + 1);
-            self.happen(Event::Store(self.cntlid, LIST + 8 * i, &page.to_le_bytes()));
+            self.apply(Event::Store(self.cntlid, LIST + 8 * i, &page.to_le_bytes()));
         }
     }
 }
@@ -118,12 +119,12 @@ impl Batch for Host {
         BATCH
     }
 
-    /// Stores an entry so often, behind the tail.
+    /// Stores the entries of a batch at the tail.
     fn submit(&mut self, round: u32) {
         let entry = command(self.kind, round);
         for i in 0..BATCH {
             let slot = u64::from(self.tail.wrapping_add(i) % 64);
-            self.happen(Event::Store(self.cntlid, COMMANDS + 64 * slot, &entry));
+            self.apply(Event::Store(self.cntlid, COMMANDS + 64 * slot, &entry));
         }
         self.tail = self.tail.wrapping_add(BATCH) % 64;
     }
@@ -136,14 +137,14 @@ impl Batch for Host {
 
     fn fetch(&mut self) {
         for _ in 0..BATCH {
-            self.happen(Event::Fetch(self.cntlid, 1));
+            self.apply(Event::Fetch(self.cntlid, 1));
         }
     }
 
     fn execute(&mut self) -> u64 {
         let mut sum = 0_u64;
         for _ in 0..BATCH {
-            if let Seen::Executed(Executed::Posted(outcome)) = self.happen(Event::Execute(
+            if let Seen::Executed(Executed::Posted(outcome)) = self.apply(Event::Execute(
                 self.cntlid,
                 0,
             )) {
@@ -153,7 +154,7 @@ impl Batch for Host {
         sum
     }
 
-    /// Tells by the head doorbell that all completions were consumed.
+    /// Rings the head doorbell for all completions.
     fn complete(&mut self) -> u64 {
         for _ in 0..BATCH {
             self.write(0x100c, self.tail);

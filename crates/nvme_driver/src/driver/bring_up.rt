@@ -1,4 +1,4 @@
-//! Bringing a controller up.
+//! Brings a controller up.
 
 ghost use Rattle.std.specs.Prelude.{◌≡◌, ◌<◌, ◌≤◌, ◌+◌, ℕ, MatchOption, Ok, Err, true, false};
 ghost use Rattle.nvme_spec.specs.Queues.{submission_room};
@@ -6,7 +6,24 @@ ghost use Rattle.nvme_spec.specs.Limits.{memory_page};
 ghost use Rattle.nvme_spec.specs.Memory.{window_size};
 ghost use Rattle.nvme_driver.specs.Calls.{Stores, Calls, Awaits};
 ghost use Rattle.nvme_driver.specs.Drivers.{is_down as down};
-ghost use Rattle.nvme_driver.specs.Rises.{start_calls, is_ready as ready, started, own_fields, create_completion_queue, create_submission_queue, own_answer as spec_own_answer, sent, send_calls, heard_own, heard_calls, Creates, fault_of, risen_state, Rises, zero_page as zeros};
+ghost use Rattle.nvme_driver.specs.Rises.{
+  start_calls,
+  is_ready as ready,
+  started,
+  own_fields,
+  create_completion_queue,
+  create_submission_queue,
+  own_answer as spec_own_answer,
+  sent,
+  send_calls,
+  heard_own,
+  heard_calls,
+  Creates,
+  fault_of,
+  risen_state,
+  Rises,
+  zero_page as zeros,
+};
 
 use super::Driver;
 use crate::ends::Ends;
@@ -21,7 +38,7 @@ use nvme_mem::Window;
 use nvme_spec::AdminCommand;
 use nvme_wire::{Cqe, Sqe, SqeFields, Status};
 
-/// How many turns the device has to answer one of the driver's own commands.
+/// The number of turns that the device has to answer one of the driver's own commands.
 const TURNS: u8 = 4;
 
 /// The identifier of the driver's own commands, which is that of no slot.
@@ -59,7 +76,7 @@ fn completion_queue() -> SqeFields
     )
 }
 
-/// Creates the I/O submission queue, with identifier 1, of 8 entries, whose completions go to that completion queue.
+/// Creates the I/O submission queue, with identifier 1 and 8 entries, for completion queue 1.
 fn submission_queue() -> SqeFields
     ensures { result ≡ create_submission_queue }
 {
@@ -72,7 +89,7 @@ fn submission_queue() -> SqeFields
     )
 }
 
-/// The answer to the driver's own command, where it is the next completion of the admin lane.
+/// The answer to the driver's own command, if it is the next completion of the admin lane (queue pair).
 fn own_answer(ends: Ends, window: &Window) -> Option<Cqe>
     ensures { result ≡ spec_own_answer ends window.now }
 {
@@ -107,7 +124,7 @@ fn await_answer<P: Port>(port: &mut P, ends: Ends) -> Option<Cqe>
     None
 }
 
-/// What comes of the answer to one of the driver's own commands.
+/// The fault of the answer to one of the driver's own commands, unless it succeeded.
 fn judge(answer: Option<Status>) -> Result<(), UpFault>
     ensures { MatchOption (fault_of answer) (result ≡ Ok tt) (λ fault. result ≡ Err fault) }
 {
@@ -121,7 +138,7 @@ fn judge(answer: Option<Status>) -> Result<(), UpFault>
 }
 
 impl Driver {
-    /// Enables the controller with empty queues, and tells whether it is ready.
+    /// Enables the controller with empty queues, and returns whether it is ready.
     fn start<P: Port>(&mut self, port: &mut P) -> bool
         ensures calls { (value : ℕ) × (result ≡ ready value) × Calls P.step port.old (start_calls value) port.new }
         ensures driver { self.new ≡ started self.old }
@@ -166,7 +183,7 @@ impl Driver {
         port.write32(Lane::Admin.head_doorbell(), u32::from(self.admin.head()));
     }
 
-    /// Has the controller carry out one of the driver's own commands, and gives the status of its answer, if one came.
+    /// Sends one of the driver's own commands to the controller, and returns the status of its answer, if one came.
     fn create<P: Port>(&mut self, port: &mut P, command: SqeFields) -> Option<Status>
         requires { 0 < submission_room self.old.admin.tail }
         ensures room { submission_room self.old.admin.tail ≤ submission_room self.new.admin.tail + 1 }
@@ -182,11 +199,12 @@ impl Driver {
         Some(entry.status())
     }
 
-    /// Brings the controller up, and creates the I/O queues. The device is granted at most eight turns.
+    /// Brings the controller up, and creates the I/O queues. The device gets at most eight turns.
     ///
     /// # Errors
-    /// `AlreadyUp` where the driver is up or has failed: nothing changes then. `NotReady`, `NoAnswer` or `Refused`
-    /// where the controller does not become ready, or does not create the queues: the driver is then down.
+    ///
+    /// `AlreadyUp` if the driver is up or has failed: nothing changes then. `NotReady`, `NoAnswer` or `Refused` if the
+    /// controller does not become ready, or does not create the queues: the driver is then down.
     pub fn bring_up<P: Port>(&mut self, port: &mut P) -> Result<(), UpFault>
         ensures already { down self.old.state ≡ false
             → (result ≡ Err UpFault.AlreadyUp) × (self.new ≡ self.old) × (port.new ≡ port.old) }

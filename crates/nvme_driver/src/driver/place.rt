@@ -1,4 +1,4 @@
-//! Placing a request.
+//! Places a request.
 
 ghost use Rattle.std.specs.Prelude.{◌≡◌, ◌<◌, ◌≤◌, IfOk, IfErr, OnOk, OnErr, Some, None, false, length};
 ghost use Rattle.nvme_wire.specs.Submission.{submission_of};
@@ -8,7 +8,17 @@ ghost use Rattle.nvme_driver.specs.Calls.{Calls};
 ghost use Rattle.nvme_driver.specs.Layout.{slot_count};
 ghost use Rattle.nvme_driver.specs.Pointers.{first_entry as spec_first_entry, second_entry as spec_second_entry};
 ghost use Rattle.nvme_driver.specs.Requests.{is_bad as bad, asked_of};
-ghost use Rattle.nvme_driver.specs.Drivers.{ends as ends_of, ticket_count, free_slot, place_refusal, lane_of, entry_fields, entry_of, IsPlaced, HoldsItsRequest};
+ghost use Rattle.nvme_driver.specs.Drivers.{
+  ends as ends_of,
+  ticket_count,
+  free_slot,
+  place_refusal,
+  lane_of,
+  entry_fields,
+  entry_of,
+  IsPlaced,
+  HoldsItsRequest,
+};
 
 use super::Driver;
 use crate::faults::PlaceRefusal;
@@ -21,7 +31,7 @@ use crate::slots::{Waiting, lowest_free};
 use crate::ticket::Ticket;
 use nvme_wire::{Sqe, SqeFields};
 
-/// PRP Entry 1 of a request in a slot that moves so many bytes: its data, if there are some.
+/// PRP Entry 1 of a request in a slot that transfers `moved` bytes: the slot's data, if there are any.
 fn first_entry(slot: usize, moved: usize) -> u64
     requires { slot < slot_count }
     ensures { result ≡ spec_first_entry slot moved }
@@ -69,7 +79,7 @@ fn entry(request: &Request<'_>, slot: usize) -> Sqe
 }
 
 impl Driver {
-    /// The slot and the ticket of the next request, or the first reason to refuse this one.
+    /// The slot and the ticket for the next request, or the first reason to refuse this one.
     fn admit(&self, request: &Request<'_>) -> Result<(usize, Ticket), PlaceRefusal>
         ensures refused { IfErr result (λ refusal. place_refusal self.now request.now ≡ Some refusal) }
         ensures admitted { IfOk result (λ p. (place_refusal self.now request.now ≡ None)
@@ -98,10 +108,11 @@ impl Driver {
         Ok((slot, ticket))
     }
 
-    /// Places a request: stores its data, the list of its pages where one is needed, and its entry, and no other byte.
-    /// The controller is not told before the next `ring`. The answer bears the ticket.
+    /// Places a request: stores its data, the list of its pages if it needs one, and its entry, and no other byte. The
+    /// controller sees it after the next `ring`. The answer will have the same ticket.
     ///
     /// # Errors
+    ///
     /// The first of `NotReady`, `BadRequest`, `NoSlot`, `RingFull` and `TicketsExhausted` that holds. Nothing then
     /// changes, and the port is not called.
     pub fn place<P: Port>(

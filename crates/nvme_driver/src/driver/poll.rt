@@ -1,12 +1,35 @@
-//! Handing up answers.
+//! Delivers answers.
 
-ghost use Rattle.std.specs.Prelude.{◌≡◌, ◌<◌, ◌≤◌, ◌+◌, IfSome, Some, None, length, take, drop, MatchOption, slice_range};
+ghost use Rattle.std.specs.Prelude.{
+  ◌≡◌,
+  ◌<◌,
+  ◌≤◌,
+  ◌+◌,
+  IfSome,
+  Some,
+  None,
+  length,
+  take,
+  drop,
+  MatchOption,
+  slice_range,
+};
 ghost use Rattle.nvme_wire.specs.Completion.{cid, sq_head};
 ghost use Rattle.nvme_spec.specs.Limits.{most_bytes};
 ghost use Rattle.nvme_driver.specs.Calls.{Calls};
 ghost use Rattle.nvme_driver.specs.Layout.{slot_count, data_area as area};
 ghost use Rattle.nvme_driver.specs.Drivers.{ends as ends_of};
-ghost use Rattle.nvme_driver.specs.Polls.{IsPolled, IsOldest, aborted_at, found as spec_found, answered as spec_answered, answer_len as spec_answer_len, consumed_ends, entry_poll, handed_len};
+ghost use Rattle.nvme_driver.specs.Polls.{
+  IsPolled,
+  IsOldest,
+  aborted_at,
+  found as spec_found,
+  answered as spec_answered,
+  answer_len as spec_answer_len,
+  consumed_ends,
+  entry_poll,
+  handed_len,
+};
 
 use super::Driver;
 use crate::answer::Answer;
@@ -24,7 +47,7 @@ use nvme_mem::Window;
 use nvme_spec::Piece;
 use nvme_wire::{Cqe, Status};
 
-/// How many bytes come with the answer of a request.
+/// The number of bytes of data of an answer.
 fn answer_len(received: Length, status: Status) -> usize
     ensures len { result ≡ spec_answer_len received status }
     ensures most { result ≤ most_bytes }
@@ -36,7 +59,7 @@ fn answer_len(received: Length, status: Status) -> usize
     }
 }
 
-/// Copies the first `len` bytes of a slot's data to the front of a buffer, whose other bytes stay.
+/// Copies the first `len` bytes of a slot's data to the front of a buffer, and leaves its other bytes.
 fn copy_data(window: &Window, slot: usize, len: usize, buffer: &mut [u8])
     requires slot { slot < slot_count }
     requires most { len ≤ most_bytes }
@@ -52,8 +75,8 @@ fn copy_data(window: &Window, slot: usize, len: usize, buffer: &mut [u8])
 }
 
 impl Driver {
-    /// The slot and the ticket of the aborted request with the lowest one. The slots are looked through once after they
-    /// were aborted, and not at each poll.
+    /// The slot and ticket of the aborted request with the lowest ticket. The slots are searched once after a reset,
+    /// instead of at each poll.
     fn oldest_aborted(&mut self) -> Option<(usize, Ticket)>
         ensures driver { self.new ≡ self.old }
         ensures none { result ≡ None → IsOldest self.old.slots None }
@@ -68,7 +91,7 @@ impl Driver {
         oldest
     }
 
-    /// The first new completion: of the admin lane, then of the I/O lane.
+    /// The first new completion: of the admin lane (queue pair), then of the I/O lane.
     fn found(&self, window: &Window) -> Option<Found>
         ensures { result ≡ spec_found self.now window.now }
     {
@@ -85,7 +108,7 @@ impl Driver {
         })
     }
 
-    /// The request that a completion answers, and the ends of its lane once the completion is consumed.
+    /// The request that a completion answers, and the ends of its lane after the completion is consumed.
     fn answered(&self, lane: Lane, entry: Cqe) -> Option<(Waiting, Ends)>
         ensures request { MatchOption result (spec_answered self.now lane entry ≡ None)
             (λ r. spec_answered self.now lane entry
@@ -104,7 +127,7 @@ impl Driver {
         Some((waiting, ends))
     }
 
-    /// Hands up the answer in a new completion.
+    /// Delivers the answer in a new completion.
     fn hand_up<P: Port>(
         &mut self,
         port: &mut P,
@@ -140,14 +163,15 @@ impl Driver {
         }))
     }
 
-    /// Hands up the next answer, with its data at the front of the buffer, or `None` where there is no new one. An
-    /// aborted request comes first, in every state, the one with the lowest ticket before the others; then a completion
-    /// of the admin lane, then one of the I/O lane. That the buffer has at least 131,072 bytes is the caller's
-    /// condition. Its bytes behind the answer's stay, and all of them where no answer with data is handed up.
+    /// Delivers the next answer, with its data at the front of the buffer, or returns `None` if there is no new one.
+    /// Aborted requests come first, in every state, by rising tickets; then a completion of the admin lane, then one of
+    /// the I/O lane. The buffer must have at least 131,072 bytes. Its bytes after the answer's data are unchanged, and
+    /// all of them if no answer with data is delivered.
     ///
     /// # Errors
-    /// `NotUp` where the driver is not up. `UnknownCommand` where the new completion is of another queue, answers no
-    /// request that waits in its lane, or carries a head that cannot be: it is not consumed, and the driver has failed.
+    ///
+    /// `NotUp` if the driver is not up. `UnknownCommand` if the new completion is of another queue, answers no request
+    /// that waits in its lane, or has an impossible head: it is not consumed, and the driver has failed.
     pub fn poll_into<P: Port>(
         &mut self,
         port: &mut P,

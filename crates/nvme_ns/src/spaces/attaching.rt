@@ -1,6 +1,23 @@
-//! Attaching a namespace to controllers, and detaching it (Namespace Attachment command, Controller List).
+//! Attaches a namespace to controllers, and detaches it (Namespace Attachment command, Controller List).
 
-ghost use Rattle.std.specs.Prelude.{◌≡◌, ◌==◌, ◌&&◌, ◌+◌, ◌≤◌, ◌++◌, length, map, filter, not, Ok, Err, IfErr, OnOk, OnErr, IsSome};
+ghost use Rattle.std.specs.Prelude.{
+  ◌≡◌,
+  ◌==◌,
+  ◌&&◌,
+  ◌+◌,
+  ◌≤◌,
+  ◌++◌,
+  length,
+  map,
+  filter,
+  not,
+  Ok,
+  Err,
+  IfErr,
+  OnOk,
+  OnErr,
+  IsSome,
+};
 ghost use Rattle.std.specs.List.{list_any};
 ghost use Rattle.nvme_spec.specs.Attachments as spec;
 ghost use Rattle.nvme_spec.specs.Rules.{first_failure};
@@ -20,13 +37,13 @@ const LONGEST_LIST: usize = 2047;
 type Attachments = ArrayVec<(u16, u32), MAX_ATTACHMENTS>;
 
 impl Spaces {
-    /// Attaches a namespace, which has to be configured, to all controllers of a list.
+    /// Attaches a namespace, which must be configured, to all controllers of a list.
     ///
     /// # Errors
     ///
-    /// Controller List Invalid where the list has none or more than 2,047 identifiers, or one that is no controller's
+    /// Controller List Invalid if the list has none or more than 2,047 identifiers, or one that is not a controller's
     /// or not above the one before. Then the first listed controller that can not be attached decides: Namespace
-    /// Already Attached; Namespace Is Private where the namespace isn't shared and another controller is attached, or
+    /// Already Attached; Namespace Is Private if the namespace isn't shared and another controller is attached, or
     /// listed before. After any refusal nothing is changed.
     #[tactic(auto, unfolding(nvme_spec::specs::Attachments::attach))]
     pub fn attach(&mut self, nsid: u32, controllers: &[u16]) -> Result<(), Status>
@@ -46,7 +63,7 @@ impl Spaces {
     ///
     /// # Errors
     ///
-    /// Controller List Invalid as in `attach`; then Namespace Not Attached where one of them isn't attached. After any
+    /// Controller List Invalid as in `attach`; then Namespace Not Attached if one of them isn't attached. After any
     /// refusal nothing is changed.
     #[tactic(auto, unfolding(nvme_spec::specs::Attachments::detach))]
     pub fn detach(&mut self, nsid: u32, controllers: &[u16]) -> Result<(), Status>
@@ -61,7 +78,7 @@ impl Spaces {
         Ok(())
     }
 
-    /// Refuses a list that is empty or too long, or doesn't name controllers by rising identifier.
+    /// Refuses a list that is empty, too long, or not of controllers in rising order.
     #[tactic(auto, unfolding(nvme_spec::specs::Attachments::list_tests))]
     fn check_list(&self, controllers: &[u16]) -> Result<(), Status>
         ensures { result ≡ passes_unless (first_failure (spec.list_tests self.now controllers.now)) }
@@ -73,7 +90,7 @@ impl Spaces {
         Ok(())
     }
 
-    /// Whether all identifiers are those of controllers, and rise from above 0 on.
+    /// Whether all identifiers are those of controllers, in rising order.
     fn names_controllers(&self, controllers: &[u16]) -> bool
         ensures { result ≡ spec.are_controllers_above self.now 0 controllers.now }
     {
@@ -89,7 +106,7 @@ impl Spaces {
         true
     }
 
-    /// Refuses by the first of the controllers that can not be attached behind those before it.
+    /// Refuses the first of the controllers that can not be attached after those before it.
     #[tactic(auto, unfolding(nvme_spec::specs::Attachments::attach_tests))]
     fn check_attachable(&self, nsid: u32, controllers: &[u16]) -> Result<(), Status>
         requires configured { IsSome (namespace_of self.now nsid) }
@@ -113,7 +130,7 @@ impl Spaces {
         Ok(())
     }
 
-    /// Refuses where one of the controllers isn't attached.
+    /// Refuses if one of the controllers isn't attached.
     #[tactic(auto, unfolding(nvme_spec::specs::Attachments::detach_tests))]
     fn check_detachable(&self, nsid: u32, controllers: &[u16]) -> Result<(), Status>
         ensures { result ≡ passes_unless (first_failure (spec.detach_each self.now nsid controllers.now)) }
@@ -128,7 +145,7 @@ impl Spaces {
         Ok(())
     }
 
-    /// Whether a namespace, which has to be configured, is shared.
+    /// Whether a namespace, which must be configured, is shared.
     fn is_shared(&self, nsid: u32) -> bool
         requires configured { IsSome (namespace_of self.now nsid) }
         ensures shared { result ≡ spec.is_shared (namespace_of self.now nsid) }
@@ -146,7 +163,7 @@ impl Spaces {
     }
 }
 
-/// Adds the namespace's attachments to these controllers behind the others.
+/// Appends the namespace's attachments to these controllers.
 fn append(attachments: &mut Attachments, nsid: u32, controllers: &[u16])
     requires room { length attachments.old.items + length controllers.now ≤ 128 }
     ensures { attachments.new.items ≡ attachments.old.items ++ map (λ cntlid. (cntlid, nsid)) controllers.now }
@@ -156,7 +173,7 @@ fn append(attachments: &mut Attachments, nsid: u32, controllers: &[u16])
     }
 }
 
-/// Takes the namespace's attachments to these controllers out.
+/// Removes the namespace's attachments to these controllers.
 fn remove(attachments: &mut Attachments, nsid: u32, controllers: &[u16])
     ensures { attachments.new.items
         ≡ filter (λ a. not ((a.1 == nsid) && list_any (λ cntlid. cntlid == a.0) controllers.now))

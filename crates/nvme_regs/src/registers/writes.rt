@@ -15,7 +15,7 @@ use crate::offset;
 use crate::state::is_ready;
 use nvme_spec::{ControllerState, RegEffect};
 
-/// What a write of CC leaves of CC and of the state, and what it asks of the controller.
+/// CC and the state after a write of CC, and its effect on the controller.
 #[derive(Clone, Copy)]
 struct Configured {
     cc: u32,
@@ -26,19 +26,20 @@ struct Configured {
 impl Registers {
     ghost use Rattle.nvme_regs.specs.Configuring.{Leaves};
 
-    /// Writes a value at an offset, and tells what that asks of the controller. A write where no register is, or of one
-    /// that cannot be written now, changes nothing; a doorbell rings only while RDY is 1, and keeps no value.
+    /// Writes `v` to the register at `offset`, and returns the effect on the controller. A write is ignored if there is
+    /// no register, or if the register is read-only at present. A doorbell write takes effect only while CSTS.RDY is 1,
+    /// and its value is not stored.
     pub fn write32(&mut self, offset: u64, v: u32) -> RegEffect
         ensures registers { self.new ≡ (register.after_write self.old offset v).registers }
         ensures effect { result ≡ (register.after_write self.old offset v).effect }
-        // What the effect tells of the controller before and after the write.
+        // What the effect implies for the controller before and after the write.
         ensures tells { TellsItsEffect self.old offset v self.new result }
         ensures names { NamesQueue result }
     {
         self.write(offset, v)
     }
 
-    /// The write as it is defined. What its effect tells follows for registers that are consistent, as these are.
+    /// The write by its definition. The registers are consistent, so the effect's implications follow.
     #[tactic(auto, unfolding(nvme_spec::specs::Registers::after_write))]
     fn write(&mut self, offset: u64, v: u32) -> RegEffect
         ensures written { register.after_write self.old offset v ≡ register.written self.new result }
@@ -56,7 +57,7 @@ impl Registers {
         }
     }
 
-    /// CC is written.
+    /// Writes CC.
     fn configure(&mut self, v: u32) -> RegEffect
         ensures { register.configured self.old v ≡ register.written self.new result }
     {
@@ -66,7 +67,7 @@ impl Registers {
         effect
     }
 
-    /// What a write of CC comes to.
+    /// The result of a write of CC.
     #[tactic(auto, unfolding(nvme_spec::specs::Registers::configured))]
     fn configured(&self, v: u32) -> Configured
         ensures { Leaves self.now (register.configured self.now v) result }
@@ -87,7 +88,7 @@ impl Registers {
         }
     }
 
-    /// EN goes from 0 to 1: an enabling is taken whole, or fails.
+    /// CC.EN changes from 0 to 1: the controller is enabled with these values, or fails (CSTS.CFS).
     fn enabled(&self, cc: u32) -> Configured
         ensures { Leaves self.now (register.enabled (record self.now { cc = cc })) result }
     {
@@ -110,7 +111,7 @@ impl Registers {
         }
     }
 
-    /// Whether an enabling takes CC, with the admin queues as they are prepared.
+    /// Whether the controller supports CC and the prepared admin queues.
     #[tactic(auto, unfolding(nvme_spec::specs::Registers::can_enable))]
     fn can_enable(&self, cc: u32) -> bool
         ensures { result ≡ register.can_enable (record self.now { cc = cc }) }
@@ -120,7 +121,7 @@ impl Registers {
             && is_admin_queue(self.acq, completion_entries(self.aqa), 16)
     }
 
-    /// EN stays 1: a controller that is ready may be told to shut down. Nothing else of CC is taken.
+    /// EN stays 1: a ready controller may be shut down. Nothing else of CC changes.
     fn notified(&self, v: u32) -> Configured
         ensures { Leaves self.now (register.notified self.now v) result }
     {
@@ -140,7 +141,7 @@ impl Registers {
         }
     }
 
-    /// A register of the admin queues is written, where EN is 0.
+    /// Writes a register of the admin queues, if EN is 0.
     #[tactic(auto, unfolding(nvme_spec::specs::Registers::prepared))]
     fn prepare(&mut self, offset: u64, v: u32)
         ensures { self.new ≡ register.prepared self.old offset v }

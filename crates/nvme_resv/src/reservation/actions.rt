@@ -15,11 +15,11 @@ impl Reservation {
     /// Registers the host with the key NRKEY (Reservation Register command, Register Reservation Key). A registered
     /// host may repeat its key.
     ///
-    /// Where the host is not registered, fewer than sixteen hosts are.
+    /// If the host is not registered, fewer than sixteen hosts must be.
     ///
     /// # Errors
     ///
-    /// Reservation Conflict where the host is registered with another key. Nothing is changed then.
+    /// Reservation Conflict if the host is registered with another key. Nothing is changed then.
     pub fn register(&mut self, host: HostId, nrkey: u64) -> Result<Change, Status>
         requires { HasRoomFor self.old host }
         ensures { Follows (resv.register self.old host nrkey) self.old result self.new }
@@ -30,13 +30,13 @@ impl Reservation {
         Ok(self.give_key(host, nrkey))
     }
 
-    /// Removes the host from the registrants (Reservation Register command, Unregister Reservation Key). The hold ends
-    /// where the host alone held it, and under types 5 and 6 where no registrant is left.
+    /// Removes the host from the registrants (Reservation Register command, Unregister Reservation Key). The
+    /// reservation ends if the host was its single holder, or if it has type 5 or 6 and no registrant is left.
     ///
     /// # Errors
     ///
-    /// Reservation Conflict where the host is not registered, or where IEKEY is clear and CRKEY is not its key. Nothing
-    /// is changed then.
+    /// Reservation Conflict if the host is not registered, or if IEKEY is clear and CRKEY is not its key. Nothing is
+    /// changed then.
     pub fn unregister(&mut self, host: HostId, iekey: bool, crkey: u64) -> Result<Change, Status>
         ensures { Follows (resv.unregister self.old host iekey crkey) self.old result self.new }
     {
@@ -48,14 +48,14 @@ impl Reservation {
         Ok(Change::none())
     }
 
-    /// Gives the host the key NRKEY in place of its own (Reservation Register command, Replace Reservation Key). Where
-    /// IEKEY is set, a host that is not registered is registered.
+    /// Replaces the host's key with NRKEY (Reservation Register command, Replace Reservation Key). If IEKEY is set, it
+    /// registers a host that is not registered.
     ///
-    /// Where the host is not registered, fewer than sixteen hosts are.
+    /// If the host is not registered, fewer than sixteen hosts must be.
     ///
     /// # Errors
     ///
-    /// Reservation Conflict where IEKEY is clear and the host is not registered with CRKEY. Nothing is changed then.
+    /// Reservation Conflict if IEKEY is clear and the host is not registered with CRKEY. Nothing is changed then.
     pub fn replace(
         &mut self,
         host: HostId,
@@ -72,13 +72,13 @@ impl Reservation {
         Ok(self.give_key(host, nrkey))
     }
 
-    /// Takes the reservation with type RTYPE, 1 to 6, where nobody holds it (Reservation Acquire command, Acquire). A
-    /// holder may repeat it with the type that it holds.
+    /// Acquires the reservation with type RTYPE, 1 to 6, if nobody holds it (Reservation Acquire command, Acquire). A
+    /// holder may repeat it with the same type.
     ///
     /// # Errors
     ///
-    /// Reservation Conflict where the host is not registered with CRKEY, where another host holds the reservation, or
-    /// where it is of another type. Nothing is changed then.
+    /// Reservation Conflict if the host is not registered with CRKEY, if another host holds the reservation, or if it
+    /// is of another type. Nothing is changed then.
     pub fn acquire(&mut self, host: HostId, rtype: u8, crkey: u64) -> Result<Change, Status>
         requires { (1 ≤ rtype) × (rtype ≤ 6) }
         ensures { Follows (resv.acquire self.old host rtype crkey) self.old result self.new }
@@ -98,17 +98,17 @@ impl Reservation {
         }
     }
 
-    /// Removes other registrants by the key PRKEY (Reservation Acquire command, Preempt), and answers them.
+    /// Removes other registrants by the key PRKEY (Reservation Acquire command, Preempt), and returns them.
     ///
-    /// Where the reservation is all registrants', key 0 removes all others, and the host takes it with type RTYPE, 1 to
-    /// 6. Where PRKEY is the key of the single holder, the others that have it are removed, and the host takes the
-    /// reservation likewise. Any other key removes each registrant that has it, this host too, and the hold only ends
-    /// where no registrant of types 5 and 6 is left.
+    /// If all registrants hold the reservation, key 0 removes all others, and the host acquires it with type RTYPE, 1
+    /// to 6. If PRKEY is the key of the single holder, the others that have it are removed, and the host acquires the
+    /// reservation in the same way. Any other key removes each registrant that has it, this host too, and ends the
+    /// reservation only if it has type 5 or 6 and no registrant is left.
     ///
     /// # Errors
     ///
-    /// Reservation Conflict where the host is not registered with CRKEY, or where nobody has PRKEY; Invalid Field in
-    /// Command where PRKEY is 0 and the reservation is not all registrants'. Nothing is changed then.
+    /// Reservation Conflict if the host is not registered with CRKEY, or if nobody has PRKEY; Invalid Field in Command
+    /// if PRKEY is 0 and the reservation is not held by all registrants. Nothing is changed then.
     pub fn preempt(
         &mut self,
         host: HostId,
@@ -137,13 +137,13 @@ impl Reservation {
         Ok(self.remove_key(prkey))
     }
 
-    /// Gives the reservation up (Reservation Release command, Release). A registrant that holds nothing succeeds and
+    /// Releases the reservation (Reservation Release command, Release). A registrant that is not a holder succeeds and
     /// changes nothing.
     ///
     /// # Errors
     ///
-    /// Reservation Conflict where the host is not registered with CRKEY; Invalid Field in Command where it is a holder
-    /// and RTYPE is not the type that it holds. Nothing is changed then.
+    /// Reservation Conflict if the host is not registered with CRKEY; Invalid Field in Command if it is a holder and
+    /// RTYPE is not the type of the reservation. Nothing is changed then.
     pub fn release(&mut self, host: HostId, rtype: u8, crkey: u64) -> Result<Change, Status>
         ensures { Follows (resv.release self.old host rtype crkey) self.old result self.new }
     {
@@ -159,11 +159,11 @@ impl Reservation {
         Ok(Change::none())
     }
 
-    /// Removes all registrants and ends the hold (Reservation Release command, Clear).
+    /// Removes all registrants and ends the reservation (Reservation Release command, Clear).
     ///
     /// # Errors
     ///
-    /// Reservation Conflict where the host is not registered with CRKEY. Nothing is changed then.
+    /// Reservation Conflict if the host is not registered with CRKEY. Nothing is changed then.
     pub fn clear(&mut self, host: HostId, crkey: u64) -> Result<Change, Status>
         ensures { Follows (resv.clear self.old host crkey) self.old result self.new }
     {
@@ -176,7 +176,7 @@ impl Reservation {
         Ok(Change::none())
     }
 
-    /// Registers the host with this key, or gives it this key.
+    /// Registers the host with this key, or changes its key to it.
     fn give_key(&mut self, host: HostId, key: u64) -> Change
         requires { HasRoomFor self.old host }
         ensures next { self.new
@@ -188,7 +188,7 @@ impl Reservation {
         Change::none()
     }
 
-    /// Removes the host.
+    /// Removes the host from the registrants.
     fn remove_host(&mut self, host: HostId)
         ensures { self.new ≡ resv.remaining self.old (filter (λ r. not (r.host == host)) self.old.registrants) }
     {
@@ -197,7 +197,7 @@ impl Reservation {
         self.generation = self.generation.wrapping_add(1);
     }
 
-    /// Removes all with this key.
+    /// Removes all registrants with this key.
     fn remove_key(&mut self, key: u64) -> Change
         ensures next { self.new ≡ resv.remaining self.old (filter (λ r. not (r.key == key)) self.old.registrants) }
         ensures removed { result.removed.items ≡ resv.removed_hosts self.old.registrants self.new.registrants }
@@ -208,7 +208,7 @@ impl Reservation {
         Change { removed }
     }
 
-    /// Removes the others with this key, or all others, and takes the reservation.
+    /// Removes the other registrants, only those with `key` if there is one, and acquires the reservation.
     fn take_over(&mut self, host: HostId, rtype: u8, key: Option<u64>) -> Change
         ensures next { self.new ≡ resv.next_generation self.old
             (filter (λ r. not (leaves_test key (Some host) r)) self.old.registrants) (resv.taken_by host rtype) }
@@ -244,7 +244,7 @@ impl Reservation {
     }
 }
 
-/// The hold of a host that takes a reservation of this type.
+/// The holder after a host acquires a reservation of this type.
 fn taken_by(host: HostId, rtype: u8) -> Hold
     ensures { result ≡ resv.taken_by host rtype }
 {
@@ -255,7 +255,7 @@ fn taken_by(host: HostId, rtype: u8) -> Hold
     }
 }
 
-/// What is left of a hold where these are the registrants that are left.
+/// The reservation after a removal of registrants. `registrants` are the remaining ones.
 fn remaining_hold(hold: Hold, registrants: &[Registrant]) -> Hold
     ensures { result ≡ resv.remaining_hold hold registrants.now }
 {

@@ -11,12 +11,12 @@ use nvme_spec::{Hold, HostId};
 /// The header, or an entry, of a report.
 type Part = ArrayVec<u8, 64>;
 
-/// A header and sixteen entries.
+/// The longest report: a header and 16 entries of 64 bytes each.
 type Report = ArrayVec<u8, 1088>;
 
 impl Reservation {
-    /// Fills the buffer with the data of Reservation Report (Reservation Status Extended Data Structure): as much of the
-    /// report as it takes, and zeros behind a shorter one. All numbers are little-endian. There is an entry for each of
+    /// Fills the buffer with the data of Reservation Report (Reservation Status Extended Data Structure): the front of
+    /// the report that fits, or the report and then zeros. All numbers are little-endian. There is an entry for each of
     /// the controllers, given with their hosts, whose host is registered.
     ///
     /// There are at most sixteen controllers, by rising identifier, each once.
@@ -61,7 +61,7 @@ impl Reservation {
         header
     }
 
-    /// How many of the controllers have a host that is registered.
+    /// The number of controllers whose host is registered.
     fn count_reported(&self, controllers: &[(u16, HostId)]) -> u16
         requires { length controllers.now ≤ 16 }
         ensures { result ≡ length (spec.reported_controllers self.now controllers.now) }
@@ -73,7 +73,7 @@ impl Reservation {
     }
 }
 
-/// The reservation type, 0 where nobody holds the reservation.
+/// The reservation type, 0 if nobody holds the reservation.
 fn type_of(hold: Hold) -> u8
     ensures { result ≡ spec.type_of hold }
 {
@@ -97,7 +97,7 @@ fn entry(cntlid: u16, is_holder: bool, host: HostId, key: u64) -> Part
     entry
 }
 
-/// Appends bytes for which there is room.
+/// Appends bytes, which must fit.
 fn append<const N: usize>(bytes: &mut ArrayVec<u8, N>, part: &[u8])
     requires { length bytes.old.items + length part.now ≤ N }
     ensures { bytes.new.items ≡ bytes.old.items ++ part.now }

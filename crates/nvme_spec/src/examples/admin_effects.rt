@@ -1,6 +1,21 @@
-//! What admin commands of a cluster do.
+//! Effects of admin commands of a cluster.
 
-ghost use Rattle.std.specs.Prelude.{◌≡◌, ◌++◌, [], ◌∷◌, filter, not, ◌&&◌, ◌==◌, replicate, take, slice_range, length, true, false};
+ghost use Rattle.std.specs.Prelude.{
+  ◌≡◌,
+  ◌++◌,
+  [],
+  ◌∷◌,
+  filter,
+  not,
+  ◌&&◌,
+  ◌==◌,
+  replicate,
+  take,
+  slice_range,
+  length,
+  true,
+  false,
+};
 ghost use Rattle.nvme_spec.specs.Entries.{command_entry};
 ghost use Rattle.nvme_spec.specs.ExistingQueues.{only_admin_queues, after_change};
 ghost use Rattle.nvme_spec.specs.World.{with_protection, is_attached};
@@ -74,7 +89,7 @@ fn features()
         (replicate 24 7)).dw0 ≡ 0 }
 {}
 
-/// Structures that are asked for.
+/// Structures of Identify.
 fn structures()
     ensures namespaces { take 16 (data_out cluster_world 1 AdminCommand.Identify (command_entry 6 0 0 2 0))
         ≡ 1 ∷ 0 ∷ 0 ∷ 0 ∷ 2 ∷ replicate 11 0 }

@@ -1,17 +1,24 @@
-//! What the rules answer to admin commands of a controller of a cluster.
+//! Verdicts on admin commands of a controller of a cluster.
 
 ghost use Rattle.std.specs.Prelude.{◌≡◌, [], ◌∷◌, Ok};
 ghost use Rattle.nvme_spec.specs.Entries.{command_entry};
 ghost use Rattle.nvme_spec.specs.Attachments.{without_attached};
 ghost use Rattle.nvme_spec.specs.ExistingQueues.{only_admin_queues};
 ghost use Rattle.nvme_spec.specs.AdminRules.{admin_judgement};
-ghost use Rattle.nvme_spec.specs.AdminExamples.{denied, cluster_world, reserved_world, one_completion_queue, one_queue_pair, listing};
+ghost use Rattle.nvme_spec.specs.AdminExamples.{
+  denied,
+  cluster_world,
+  reserved_world,
+  one_completion_queue,
+  one_queue_pair,
+  listing,
+};
 ghost use Rattle.nvme_spec.specs.World.{with_protection};
 ghost use Rattle.nvme_spec.specs.Statuses as status;
 
 use crate::access::Protection;
 
-/// An I/O completion queue of 32 entries at 3000h is created; then others are not.
+/// An I/O completion queue of 32 entries at 3000h is created; others then are refused.
 fn completion_queues()
     ensures created { admin_judgement cluster_world only_admin_queues 1 (command_entry 5 0 0x3000 0x001f0001 1) []
         ≡ Ok tt }
@@ -66,7 +73,7 @@ fn submission_queues()
         ≡ denied 6 status.invalid_queue_identifier }
 {}
 
-/// Features that are set.
+/// Set Features.
 fn set_features()
     ensures queues { admin_judgement cluster_world only_admin_queues 1 (command_entry 9 0 0 0x07 0x00070007) []
         ≡ Ok tt }
@@ -98,7 +105,7 @@ fn set_features()
     ensures reserved { admin_judgement reserved_world only_admin_queues 2 (command_entry 9 1 0 0x84 1) [] ≡ Ok tt }
 {}
 
-/// Features that are asked for: a host identifier of 16 bytes, and not one of 8.
+/// Get Features: a host identifier of 16 bytes is allowed, one of 8 is not.
 fn get_features()
     ensures host_identifier { admin_judgement cluster_world only_admin_queues 2 (command_entry 10 0 0x5000 0x81 1) []
         ≡ Ok tt }
@@ -113,7 +120,7 @@ fn get_features()
     ensures no_data { admin_judgement cluster_world only_admin_queues 2 (command_entry 10 0 0x5002 0x07 0) [] ≡ Ok tt }
 {}
 
-/// Structures that are asked for, and the rules before the fields.
+/// Structures of Identify, and the rules before the fields.
 fn identify()
     ensures namespaces { admin_judgement cluster_world only_admin_queues 1 (command_entry 6 0 0x5000 2 0) [] ≡ Ok tt }
     ensures unattached { admin_judgement cluster_world only_admin_queues 2 (command_entry 6 2 0x5000 0 0) [] ≡ Ok tt }

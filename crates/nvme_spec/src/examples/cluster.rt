@@ -1,4 +1,4 @@
-//! What the rules answer to the controllers of a cluster, as reservations, attachments and protection change.
+//! Verdicts on commands of a cluster's controllers, as reservations, attachments and protection change.
 
 ghost use Rattle.std.specs.Prelude.{◌≡◌, [], ◌∷◌, ◌++◌, replicate, true, false};
 ghost use Rattle.nvme_spec.specs.Entries.{transfer_entry, command_entry};
@@ -8,7 +8,16 @@ ghost use Rattle.nvme_spec.specs.IoRules.{verdict};
 ghost use Rattle.nvme_spec.specs.Attachments.{without_attached};
 ghost use Rattle.nvme_spec.specs.AdminExamples.{cluster_world};
 ghost use Rattle.nvme_spec.specs.ReservationExamples.{state, a1, b2, c3};
-ghost use Rattle.nvme_spec.specs.ClusterExamples.{after_sent, verdict_on, outcome_on, report_on, marks_on, registers, acquires, releases};
+ghost use Rattle.nvme_spec.specs.ClusterExamples.{
+  after_sent,
+  verdict_on,
+  outcome_on,
+  report_on,
+  marks_on,
+  registers,
+  acquires,
+  releases,
+};
 ghost use Rattle.nvme_spec.specs.Statuses as status;
 ghost use Rattle.nvme_spec.specs.declared.verdict.Verdict.TheVariants.{Allowed, Denied};
 
@@ -29,7 +38,7 @@ fn ranges()
         ≡ Denied 5 status.invalid_field_in_command }
 {}
 
-/// Host a1h registers, and acquires namespace 1 by Write Exclusive: host b2h reads, and does not write.
+/// Host a1h registers, and acquires namespace 1 with Write Exclusive: host b2h may read, but not write.
 fn write_exclusive()
     ensures reserved { after_sent cluster_world (registers 1 0 0 0x11 ∷ acquires 1 0 1 0x11 0 ∷ [])
         ≡ with_reservation cluster_world 1 (state (a1 0x11 ∷ []) (Hold.One 1 0xa1) 1) }
@@ -51,7 +60,7 @@ fn write_exclusive()
         ∷ [])) 2 (transfer_entry 1 1 64 1) false ≡ Denied 9 status.lba_out_of_range }
 {}
 
-/// Under Exclusive Access - Registrants Only of host a1h its other controller reads, and host b2h does not.
+/// Under Exclusive Access - Registrants Only of host a1h its other controller reads, while host b2h may not.
 fn roles_by_host()
     ensures other_controller { verdict (after_sent cluster_world (registers 1 0 0 0x11 ∷ acquires 1 0 4 0x11 0
         ∷ [])) 3 (transfer_entry 2 1 0 1) false
@@ -68,7 +77,7 @@ fn detached()
         ≡ Denied 5 status.invalid_field_in_command }
 {}
 
-/// Host a1h preempts host b2h: a command that was marked is aborted, a later one meets the reservation.
+/// Host a1h preempts host b2h: a command that was marked is aborted, a later one is denied by the reservation.
 fn preempted()
     ensures removed { after_sent cluster_world (registers 1 0 0 0x11 ∷ registers 2 0 0 0x22 ∷ acquires 1 0 2 0x11 0
         ∷ acquires 1 1 2 0x11 0x22 ∷ [])
@@ -83,7 +92,7 @@ fn preempted()
     ensures no_registrant { verdict_on cluster_world (acquires 1 0 2 0x11 0) ≡ Denied 11 status.reservation_conflict }
 {}
 
-/// Under Exclusive Access - All Registrants host b2h preempts all others, and takes another type.
+/// Under Exclusive Access - All Registrants host b2h preempts all others, and acquires another type.
 fn preempted_all()
     ensures taken { after_sent cluster_world (registers 1 0 0 0x11 ∷ registers 2 0 0 0x22 ∷ acquires 1 0 6 0x11 0
         ∷ acquires 2 1 1 0x22 0 ∷ []) ≡ with_reservation cluster_world 1 (state (b2 0x22 ∷ []) (Hold.One 1 0xb2) 3) }
@@ -95,7 +104,7 @@ fn preempted_all()
         ∷ acquires 2 1 1 0x22 0 ∷ [])) (acquires 2 1 3 0x22 0) ≡ Denied 11 status.invalid_field_in_command }
 {}
 
-/// Under Write Exclusive - All Registrants the reservation lasts until the last registrant has left.
+/// Under Write Exclusive - All Registrants the reservation lasts until the last registrant is gone.
 fn last_registrant()
     ensures one_left { after_sent cluster_world (registers 1 0 0 0x11 ∷ registers 2 0 0 0x22 ∷ registers 4 0 0 0x33
         ∷ acquires 1 0 5 0x11 0 ∷ registers 1 1 0x11 0 ∷ registers 2 1 0x22 0 ∷ [])
@@ -111,7 +120,7 @@ fn last_registrant()
         ≡ Allowed (record { kind = Command.Write; first = 0; blocks = 1; bytes = 512 }) }
 {}
 
-/// What a reservation command changes: the reservation of its namespace, where it is not refused.
+/// A reservation command changes the reservation of its namespace, unless it is refused.
 fn one_reservation_changes()
     ensures registered { world_after cluster_world 1 (outcome_on cluster_world (registers 1 0 0 0x11))
         ≡ with_reservation cluster_world 1 (state (a1 0x11 ∷ []) Hold.Free 1) }
@@ -132,7 +141,7 @@ fn marks()
         ≡ no_marks }
 {}
 
-/// A write protected namespace is read and flushed, and not written.
+/// A write protected namespace can be read and flushed, but not written.
 fn write_protected()
     ensures zeroes { verdict (with_protection cluster_world 1 Protection.Protected) 2 (transfer_entry 8 1 0 1) false
         ≡ Denied 8 status.namespace_is_write_protected }

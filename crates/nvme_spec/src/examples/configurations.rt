@@ -1,8 +1,8 @@
-//! Configurations that are accepted, and each fault alone and before another.
+//! Accepted configurations, and each fault alone and before another.
 
-ghost use Rattle.std.specs.Prelude.{◌≡◌, ◌+◌, ◌/◌, ◌%◌, ℕ, [], ◌∷◌, map, None, Some, true, false};
+ghost use Rattle.std.specs.Prelude.{◌≡◌, ◌+◌, ◌-◌, ◌^◌, ◌/◌, ◌%◌, ℕ, [], ◌∷◌, map, None, Some, true, false};
 ghost use Rattle.std.specs.List.{range_with_len};
-ghost use Rattle.nvme_spec.specs.Configuration.{empty_configuration, first_config_fault};
+ghost use Rattle.nvme_spec.specs.Configuration.{capacity, config_fault, empty_configuration, first_config_fault};
 ghost use Rattle.nvme_spec.specs.Examples.{controller, namespace, single, cluster};
 ghost use Rattle.nvme_spec.specs.World.{opening_world, laid_out};
 ghost use Rattle.nvme_spec.specs.Reservation.{unreserved};
@@ -71,7 +71,7 @@ fn bad_sizes_and_counts()
         (record single { attached = map (λ (k : ℕ). (k, 1)) (range_with_len 0 129) }) 64 ≡ Some TooMany }
 {}
 
-/// Of two faults the first in the order of the tests is named.
+/// Of two faults, the result is the first in the order of the tests.
 fn two_faults()
     ensures count_before_id { first_config_fault
         (record single { namespaces = map (λ (k : ℕ). namespace k 1 true) (range_with_len 0 9) }) 64
@@ -80,4 +80,16 @@ fn two_faults()
         ≡ Some BadId }
     ensures size_before_fit { first_config_fault (record single { namespaces = namespace 1 65537 true ∷ [] }) 0
         ≡ Some BadSize }
+{}
+
+/// With a limit other than that of scripts: a namespace of 2^64 - 1 blocks, one above its limit, and two that have more
+/// blocks together than 64 bits can count.
+fn other_limits()
+    ensures largest { config_fault (record single { namespaces = namespace 1 (2 ^ 64 - 1) true ∷ [] })
+        (capacity (2 ^ 64 - 1) (2 ^ 64 - 1)) ≡ None }
+    ensures too_large { config_fault (record single { namespaces = namespace 1 70000 true ∷ [] }) (capacity 69999 70000)
+        ≡ Some BadSize }
+    ensures too_many_blocks { config_fault
+        (record single { namespaces = namespace 1 (2 ^ 64 - 1) true ∷ namespace 2 (2 ^ 64 - 1) true ∷ [] })
+        (capacity (2 ^ 64 - 1) (2 ^ 64 - 1)) ≡ Some DoesNotFit }
 {}

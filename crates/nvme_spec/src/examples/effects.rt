@@ -1,4 +1,4 @@
-//! Blocks that are read and written.
+//! Blocks that are read, written and compared.
 
 ghost use Rattle.std.specs.Prelude.{◌≡◌, ◌≢◌, ◌++◌, ◌∷◌, replicate};
 ghost use Rattle.nvme_spec.specs.Blocks.{block_at, blocks_from};

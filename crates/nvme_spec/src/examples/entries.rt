@@ -1,10 +1,16 @@
-//! Entries as bytes: a Write, and the completions that it may get.
+//! Entries as bytes: a Write, and completions for it.
 
 ghost use Rattle.std.specs.Prelude.{◌≡◌, ◌++◌, [], ◌∷◌, Some, replicate, true, false};
 ghost use Rattle.nvme_wire.specs.Submission as entry;
 ghost use Rattle.nvme_spec.specs.Commands.{command_of, starting_lba, block_count};
 ghost use Rattle.nvme_spec.specs.Entries.{command_entry, completion_entry};
-ghost use Rattle.nvme_spec.specs.Queues.{empty_submission_head, after_tail_doorbell, after_fetch, completion_place, phase_tag};
+ghost use Rattle.nvme_spec.specs.Queues.{
+  empty_submission_head,
+  after_tail_doorbell,
+  after_fetch,
+  completion_place,
+  phase_tag,
+};
 ghost use Rattle.nvme_spec.specs.Statuses as status;
 
 use crate::command::Command;
@@ -23,8 +29,7 @@ fn write()
     ensures count { block_count (command_entry 0x00070001 1 0x5000 0 0) ≡ 1 }
 {}
 
-/// The first completion of queue 1 of 32 entries at 3000h, for a submission queue of 8 entries of which one was
-/// fetched.
+/// The first completion of queue 1 of 32 entries at 3000h, for a submission queue of 8 entries, one of them fetched.
 fn first_completion()
     ensures place { completion_place 0x3000 32 0 ≡ 0x3000 }
     ensures head { (after_fetch (after_tail_doorbell (empty_submission_head 8) 1)).fetched ≡ 1 }
@@ -50,7 +55,7 @@ fn first_completion()
         ∷ 0x01 ∷ [] }
 {}
 
-/// After 33 reads the first slot holds the 33rd completion, of the other phase, and the second slot still the second.
+/// After 33 completions the first slot holds the 33rd, with the other phase, and the second slot still the second.
 fn next_turn()
     ensures first_slot { completion_entry
         (record {

@@ -1,7 +1,13 @@
-//! What controllers of a cluster tell of themselves and of namespaces.
+//! Identify data of a cluster's controllers and namespaces.
 
 ghost use Rattle.std.specs.Prelude.{◌≡◌, ◌++◌, [], ◌∷◌, codes, length, replicate, slice_range, true};
-ghost use Rattle.nvme_spec.specs.Identify.{identify_controller, identify_attached, attached_above, namespace_list, no_fields};
+ghost use Rattle.nvme_spec.specs.Identify.{
+  identify_controller,
+  identify_attached,
+  attached_above,
+  namespace_list,
+  no_fields,
+};
 ghost use Rattle.nvme_spec.specs.World.{with_protection};
 ghost use Rattle.nvme_spec.specs.AdminExamples.{cluster_world};
 
@@ -27,7 +33,7 @@ fn controller()
     ensures nothing_more { slice_range (identify_controller 3) 532 4096 ≡ replicate 3564 0 }
 {}
 
-/// The shared namespace of 64 blocks, and the private one of 8, which is attached to controller 1 alone.
+/// The shared namespace of 64 blocks, and the private one of 8, which is attached only to controller 1.
 fn namespaces()
     ensures sizes { slice_range (identify_attached cluster_world 2 1) 0 24
         ≡ 64 ∷ replicate 7 0 ++ 64 ∷ replicate 7 0 ++ 64 ∷ replicate 7 0 }
@@ -46,7 +52,7 @@ fn namespaces()
     ensures unknown { identify_attached cluster_world 1 3 ≡ no_fields }
 {}
 
-/// Which namespaces are attached to a controller.
+/// The lists of a controller's attached namespaces.
 fn namespace_lists()
     ensures both { attached_above cluster_world 1 0 ≡ 1 ∷ 2 ∷ [] }
     ensures second { attached_above cluster_world 1 1 ≡ 2 ∷ [] }

@@ -15,7 +15,7 @@ ghost use Rattle.nvme_spec.specs.declared.verdict.Verdict.TheVariants.{Allowed, 
 use crate::access::{Hold, Protection};
 use crate::command::Command;
 
-/// Host a1h registers so that it persists, and acquires namespace 1 by Write Exclusive.
+/// Host a1h registers with CPTPL 11b, so that its registration persists, and acquires namespace 1 with Write Exclusive.
 fn registrations_that_persist()
     ensures asked_for { after_sent cluster_world (registers 1 (3 * 2 ^ 30) 0 0x11 ∷ acquires 1 0 1 0x11 0 ∷ [])
         ≡ with_reservation cluster_world 1 (persistent (a1 0x11 ∷ []) (Hold.One 1 0xa1) 1) }
@@ -37,7 +37,7 @@ fn registrations_that_persist()
         ≡ Denied 6 status.invalid_field_in_command }
 {}
 
-/// The same without asking for it: after the power cycle nobody is registered.
+/// The same without it: after the power cycle nobody is registered.
 fn registrations_that_do_not()
     ensures gone { cycled_reservation (state (a1 0x11 ∷ []) (Hold.One 1 0xa1) 1) ≡ unreserved }
     ensures unfenced { verdict (cycled_world (with_reservation cluster_world 1
@@ -47,7 +47,7 @@ fn registrations_that_do_not()
         ≡ cluster_world }
 {}
 
-/// Write protection until a power cycle ends there, and no other does.
+/// Write protection until a power cycle ends there, any other stays.
 fn protections()
     ensures until_cycle { cycled_world (with_protection cluster_world 1 Protection.UntilCycle) ≡ cluster_world }
     ensures plain { cycled_protection Protection.Protected ≡ Protection.Protected }

@@ -1,9 +1,28 @@
 //! Ends of queues after doorbells, fetches and entries.
 
 ghost use Rattle.std.specs.Prelude.{◌≡◌, true, false};
-ghost use Rattle.nvme_spec.specs.Queues.{slot_of, phase_tag, submission_place, completion_place, empty_submission_head, after_tail_doorbell, after_fetch, empty_completion_tail, completion_room, after_post, after_head_doorbell, empty_submission_tail, submission_room, after_put, can_be_heard, after_head, empty_completion_head, after_consumption};
+ghost use Rattle.nvme_spec.specs.Queues.{
+  slot_of,
+  phase_tag,
+  submission_place,
+  completion_place,
+  empty_submission_head,
+  after_tail_doorbell,
+  after_fetch,
+  empty_completion_tail,
+  completion_room,
+  after_post,
+  after_head_doorbell,
+  empty_submission_tail,
+  submission_room,
+  after_put,
+  can_be_heard,
+  after_head,
+  empty_completion_head,
+  after_consumption,
+};
 
-/// A submission queue of 8 entries whose head is 3: its tail may move on and back.
+/// A submission queue of 8 entries whose head is 3: its tail may move forward and back.
 fn tail_doorbells()
     ensures two { (after_tail_doorbell (record { size = 8; fetched = 3; waiting = 0 }) 5).waiting ≡ 2 }
     ensures one { (after_tail_doorbell (record { size = 8; fetched = 3; waiting = 2 }) 4).waiting ≡ 1 }
@@ -35,8 +54,8 @@ fn small_completion_queue()
     ensures third_phase { phase_tag 2 2 ≡ false }
 {}
 
-/// The 33rd completion of a queue of 32 entries at 3000h lies where the first lay, and the ninth command of a queue of
-/// 8 entries at 2000h where the first lay.
+/// The 33rd completion of a queue of 32 entries at 3000h is in the slot of the first, and so is the ninth command of a
+/// queue of 8 entries at 2000h.
 fn places()
     ensures first { completion_place 0x3000 32 0 ≡ 0x3000 }
     ensures second { completion_place 0x3000 32 1 ≡ 0x3010 }
@@ -46,7 +65,8 @@ fn places()
     ensures ninth_command { submission_place 0x2000 8 8 ≡ 0x2000 }
 {}
 
-/// A host that has put seven commands into a queue of 8 has no room, until it hears of one that was fetched.
+/// A host that has put seven commands into a queue of 8 can put no more until a completion's head shows that one was
+/// fetched.
 fn heads_heard()
     ensures one_put { after_put (empty_submission_tail 8) ≡ record { size = 8; put = 1; unheard = 1 } }
     ensures full { submission_room (record { size = 8; put = 7; unheard = 7 }) ≡ 0 }

@@ -6,7 +6,7 @@ ghost use Rattle.nvme_spec.specs.RegisterExamples.{prepared_registers, ready_reg
 
 use crate::registers::{ControllerState, RegEffect};
 
-/// What a new controller shows.
+/// The registers of a new controller.
 fn new_controller()
     ensures capabilities_low { value_at initial_registers 0x00 ≡ 0x0101003f }
     ensures capabilities_high { value_at initial_registers 0x04 ≡ 0x20 }
@@ -39,7 +39,7 @@ fn life_of_a_controller()
     ensures nothing { (after_write (after_writes ready_registers ((0x14, 0) ∷ [])) 0x14 1).effect ≡ RegEffect.Nothing }
 {}
 
-/// An enabling write that carries a notification: the controller is ready, and shut down already.
+/// An enabling write with a shutdown notification: the controller is ready, and already shut down.
 fn enabled_and_shut_down()
     ensures effect { (after_write prepared_registers 0x14 0x00468001).effect ≡ RegEffect.Enable }
     ensures status { value_at (after_writes prepared_registers ((0x14, 0x00468001) ∷ [])) 0x1c ≡ 9 }
@@ -47,7 +47,7 @@ fn enabled_and_shut_down()
         ≡ ControllerState.Ready }
 {}
 
-/// Each test of an enabling, failed alone.
+/// Each test of an enabling write, failed alone.
 fn failed_enablings()
     ensures command_set { (after_write prepared_registers 0x14 0x00460011).registers.state ≡ ControllerState.Failed }
     ensures page_size { (after_write prepared_registers 0x14 0x00460081).registers.state ≡ ControllerState.Failed }
@@ -76,7 +76,7 @@ fn failed_enablings()
         ≡ ControllerState.Failed }
 {}
 
-/// What is taken while a controller is enabled: of CC the notification, and none of the admin queues' registers.
+/// Writes to an enabled controller: of CC only the notification counts, and the admin queues' registers are ignored.
 fn writes_while_enabled()
     ensures attributes { (after_writes ready_registers ((0x24, 0) ∷ [])).aqa ≡ 0x001f0007 }
     ensures address { (after_writes ready_registers ((0x28, 0x2000) ∷ (0x34, 1) ∷ [])).asq ≡ 0 }
@@ -86,7 +86,7 @@ fn writes_while_enabled()
         ≡ record { registers = ready_registers; effect = RegEffect.Nothing } }
 {}
 
-/// Doorbells ring while the controller is ready, of queues 0 to 4.
+/// Doorbells of queues 0 to 4 ring while the controller is ready.
 fn doorbells()
     ensures tail { (after_write ready_registers 0x1000 0x00010005).effect ≡ RegEffect.SqTail 0 5 }
     ensures head { (after_write ready_registers 0x100c 0xffff0003).effect ≡ RegEffect.CqHead 1 3 }

@@ -1,15 +1,37 @@
 //! Reservations of a namespace whose hosts have the identifiers a1h, b2h and c3h.
 
 ghost use Rattle.std.specs.Prelude.{◌≡◌, ◌+◌, ◌^◌, true, false, [], ◌∷◌, ◌++◌, Err, replicate};
-ghost use Rattle.nvme_spec.specs.Reservation.{unreserved, becomes, role_of, register, unregister, replace, acquire, preempt, release, clear};
+ghost use Rattle.nvme_spec.specs.Reservation.{
+  unreserved,
+  becomes,
+  role_of,
+  register,
+  unregister,
+  replace,
+  acquire,
+  preempt,
+  release,
+  clear,
+};
 ghost use Rattle.nvme_spec.specs.Statuses as status;
 ghost use Rattle.nvme_spec.specs.Access.{is_permitted};
 ghost use Rattle.nvme_spec.specs.Report.{reported_controllers, report_data};
-ghost use Rattle.nvme_spec.specs.ReservationExamples.{preempting, steps, permissions, state, a1, b2, c3, wide, four_controllers, wide_controllers};
+ghost use Rattle.nvme_spec.specs.ReservationExamples.{
+  preempting,
+  steps,
+  permissions,
+  state,
+  a1,
+  b2,
+  c3,
+  wide,
+  four_controllers,
+  wide_controllers,
+};
 
 use crate::access::{Group, Hold, Role};
 
-/// The table of reservation types: what an outsider, a registrant and a holder may read and write.
+/// The table of reservation types: what a host that is not registered, a registrant and a holder may read and write.
 fn reservation_types()
     ensures write_exclusive { permissions 1 ≡ (true, false) ∷ (true, false) ∷ (true, true) ∷ [] }
     ensures exclusive_access { permissions 2 ≡ (false, false) ∷ (false, false) ∷ (true, true) ∷ [] }
@@ -19,7 +41,7 @@ fn reservation_types()
     ensures exclusive_access_all_registrants { permissions 6 ≡ (false, false) ∷ (true, true) ∷ (true, true) ∷ [] }
 {}
 
-/// One host reserves the namespace with type 1; the others read it, and do not write it.
+/// One host reserves the namespace with type 1; the others may read it, but not write it.
 fn write_exclusive()
     ensures reserved { steps unreserved ((λ r. register r 0xa1 0x11) ∷ (λ r. acquire r 0xa1 1 0x11) ∷ [])
         ≡ becomes (state (a1 0x11 ∷ []) (Hold.One 1 0xa1) 1) }
@@ -33,7 +55,7 @@ fn write_exclusive()
     ensures free { is_permitted Hold.Free Role.Outsider Group.Write ≡ true }
 {}
 
-/// One host reserves the namespace with type 4: each of its controllers is a holder's.
+/// One host reserves the namespace with type 4: each of its controllers has the holder's role.
 fn roles_are_by_host()
     ensures reserved { steps unreserved ((λ r. register r 0xa1 0x11) ∷ (λ r. acquire r 0xa1 4 0x11) ∷ [])
         ≡ becomes (state (a1 0x11 ∷ []) (Hold.One 4 0xa1) 1) }
@@ -45,7 +67,7 @@ fn roles_are_by_host()
     ensures other_host_reads { is_permitted (Hold.One 4 0xa1) Role.Outsider Group.Read ≡ false }
 {}
 
-/// A registrant preempts all others of a type 6 reservation, and has it with type 1 then.
+/// A registrant preempts all others of a type 6 reservation, and then holds it alone with type 1.
 #[tactic(auto, unfolding(crate::specs::Report::report_data, crate::specs::Report::header, crate::specs::Report::entry_of))]
 fn preempt_of_all_registrants()
     ensures before { steps unreserved ((λ r. register r 0xa1 0x11) ∷ (λ r. register r 0xb2 0x22)
@@ -65,7 +87,7 @@ fn preempt_of_all_registrants()
         ≡ Err status.invalid_field_in_command }
 {}
 
-/// Hosts that differ in their upper 64 bits alone are two hosts, of which one holds the reservation; the other is no
+/// Hosts that differ only in their upper 64 bits are two hosts. One holds the reservation; the other is not a
 /// registrant, has no key, and is not reported.
 #[tactic(auto, unfolding(crate::specs::Report::report_data, crate::specs::Report::header, crate::specs::Report::entry_of))]
 fn hosts_of_128_bits()
@@ -86,7 +108,7 @@ fn hosts_of_128_bits()
         ++ replicate 7 0 ++ (0xa1 ∷ []) ++ replicate 7 0 ++ (1 ∷ []) ++ replicate 39 0 }
 {}
 
-/// Registrants leave a type 5 reservation: the hold stays until the last one leaves.
+/// Registrants leave a type 5 reservation: it stays until the last one leaves.
 #[tactic(auto, unfolding(crate::specs::Report::report_data, crate::specs::Report::header, crate::specs::Report::entry_of))]
 fn registrants_leave()
     ensures two_left { steps unreserved ((λ r. register r 0xa1 0x11) ∷ (λ r. register r 0xb2 0x22)
@@ -111,14 +133,14 @@ fn key_zero()
     ensures own_key { preempt (state (a1 0 ∷ []) (Hold.One 1 0xa1) 2) 0xa1 1 0 0 ≡ Err status.invalid_field_in_command }
 {}
 
-/// Two hosts have one key, and one preempts the other, which holds the reservation: the issuer stays.
+/// Two hosts have the same key, and one preempts the other, which holds the reservation: the issuer stays.
 fn preempt_of_the_holder()
     ensures preempted { steps unreserved ((λ r. register r 0xa1 0x11) ∷ (λ r. register r 0xb2 0x11)
         ∷ (λ r. acquire r 0xa1 1 0x11) ∷ (λ r. preempt r 0xb2 3 0x11 0x11) ∷ [])
         ≡ preempting (state (b2 0x11 ∷ []) (Hold.One 3 0xb2) 3) (0xa1 ∷ []) }
 {}
 
-/// A key that is no single holder's takes away each registrant that has it, the issuer too.
+/// A key that is not that of a single holder removes each registrant that has it, the issuer too.
 fn preempt_by_key()
     ensures free { preempt (state (a1 0x11 ∷ b2 0x11 ∷ c3 0x33 ∷ []) Hold.Free 3) 0xa1 1 0x11 0x11
         ≡ preempting (state (c3 0x33 ∷ []) Hold.Free 4) (0xa1 ∷ 0xb2 ∷ []) }
@@ -128,7 +150,7 @@ fn preempt_by_key()
         ≡ preempting (state [] Hold.Free 3) (0xa1 ∷ 0xb2 ∷ []) }
 {}
 
-/// Replace with IEKEY registers a newcomer, and Clear leaves nobody.
+/// Replace with IEKEY registers a new host, and Clear removes all.
 fn replace_and_clear()
     ensures newcomer { replace unreserved 0xa1 true 0 0x11 ≡ becomes (state (a1 0x11 ∷ []) Hold.Free 1) }
     ensures denied { replace unreserved 0xa1 false 0 0x11 ≡ Err status.reservation_conflict }

@@ -1,4 +1,4 @@
-//! What the rules answer to reads and writes of one controller.
+//! Verdicts on reads and writes of one controller.
 
 ghost use Rattle.std.specs.Prelude.{◌≡◌, true, false};
 ghost use Rattle.nvme_spec.specs.Examples.{single};
@@ -10,7 +10,7 @@ ghost use Rattle.nvme_spec.specs.Statuses as status;
 ghost use Rattle.nvme_spec.specs.declared.verdict.Verdict.TheVariants.{Allowed, Denied};
 ghost use Rattle.nvme_spec.specs.declared.command.Command.TheVariants.{Read, Write};
 
-/// A controller with one namespace of 64 blocks: what is read and written, and where it ends.
+/// A controller with one namespace of 64 blocks: reads and writes within it and past its end.
 fn one_namespace()
     ensures read { verdict (opening_world single) 1 (transfer_entry 2 1 0 1) false
         ≡ Allowed (record { kind = Read; first = 0; blocks = 1; bytes = 512 }) }

@@ -1,8 +1,8 @@
-//! What follows from the definitions of attaching and detaching.
+//! Laws of attaching and detaching.
 
 ghost use Rattle.nvme_spec.specs.AttachmentLaws.{AddsTheListed, RemovesTheListed};
 
-/// Which controllers a namespace is attached to after a list was attached, or detached.
+/// The controllers of a namespace after a list was attached, or detached.
 #[tactic(auto, using(crate::proofs::AttachmentLaws::adds_the_listed, crate::proofs::AttachmentLaws::removes_the_listed))]
 fn attachments()
     ensures attached { AddsTheListed }

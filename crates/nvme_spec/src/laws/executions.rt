@@ -1,11 +1,20 @@
-//! What follows from the definition of an execution.
+//! Laws of an execution.
 
 ghost use Rattle.nvme_spec.specs.Layout.{OpeningIsLaidOut};
 ghost use Rattle.nvme_spec.specs.Sound.{OpeningIsSound, ExecutionKeepsItSound, AdminExecutionKeepsItSound};
 ghost use Rattle.nvme_spec.specs.StatusLaws.{IsAmong, answers, AnswersFit, ExecutionAnswers, AdminExecutionAnswers};
-ghost use Rattle.nvme_spec.specs.ExecutionLaws.{FailuresNeverFall, FaultFreeExecutes, ExecutesAlone, ExecutionKeepsTheRest, OnlyAllowedWritesWrite, OnlyAllowedActionsReserve, FencedCommandsWriteNothing, LayoutStays};
+ghost use Rattle.nvme_spec.specs.ExecutionLaws.{
+  FailuresNeverFall,
+  FaultFreeExecutes,
+  ExecutesAlone,
+  ExecutionKeepsTheRest,
+  OnlyAllowedWritesWrite,
+  OnlyAllowedActionsReserve,
+  FencedCommandsWriteNothing,
+  LayoutStays,
+};
 
-/// Each command can be executed, and without a fault of the medium there is one execution alone.
+/// Each command can be executed, and has only one execution without a fault of the medium.
 #[tactic(auto, using(crate::proofs::FaultFree::failures_never_fall, crate::proofs::FaultFree::fault_free_executes, crate::proofs::FaultFree::executes_alone))]
 fn determined()
     ensures count { FailuresNeverFall }
@@ -13,7 +22,7 @@ fn determined()
     ensures alone { ExecutesAlone }
 {}
 
-/// An execution leaves controllers, attachments, other reservations and the layout of the namespaces.
+/// An execution leaves controllers, attachments, other reservations and the places of the namespaces.
 #[tactic(auto, using(crate::proofs::Openings::opening_is_laid_out, crate::proofs::Fencing::execution_keeps_the_rest, crate::proofs::Fencing::layout_stays))]
 fn framed()
     ensures opening { OpeningIsLaidOut }
@@ -29,7 +38,7 @@ fn fenced()
     ensures fenced { FencedCommandsWriteNothing }
 {}
 
-/// Every command is answered with a status of a list, and each of these fits its field of the completion queue entry.
+/// Every command is answered with a status of a list, each of which fits its field of the completion queue entry.
 #[tactic(auto, using(crate::proofs::StatusLaws::execution_answers, crate::proofs::StatusLaws::admin_execution_answers, crate::proofs::StatusLaws::answers_fit))]
 fn answered()
     ensures io { ExecutionAnswers (IsAmong answers) }
@@ -37,7 +46,7 @@ fn answered()
     ensures fits { AnswersFit }
 {}
 
-/// A world opens well formed, and every command keeps it so.
+/// A world is sound at its opening, and every command keeps it sound.
 #[tactic(auto, using(crate::proofs::SoundOpenings::opening_is_sound, crate::proofs::SoundWorlds::execution_keeps_it_sound, crate::proofs::SoundAttachments::admin_execution_keeps_it_sound))]
 fn sound()
     ensures opening { OpeningIsSound }

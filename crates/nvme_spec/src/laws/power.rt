@@ -1,9 +1,20 @@
-//! What follows from the definitions of a power cycle and of write protection.
+//! Laws of power cycles and of write protection.
 
-ghost use Rattle.nvme_spec.specs.PowerLaws.{CycleKeepsPlaces, CycleKeepsPersistent, CycleKeepsRights, CycleForgetsOthers, CycleEndsProtection, CycleKeepsItSound, CyclesAreOne, ProtectedCommandsWriteNothing, CommandsKeepProtection, ProtectionOutlastsCommands};
+ghost use Rattle.nvme_spec.specs.PowerLaws.{
+  CycleKeepsPlaces,
+  CycleKeepsPersistent,
+  CycleKeepsRights,
+  CycleForgetsOthers,
+  CycleEndsProtection,
+  CycleKeepsItSound,
+  CyclesAreOne,
+  ProtectedCommandsWriteNothing,
+  CommandsKeepProtection,
+  ProtectionOutlastsCommands,
+};
 
-/// A power cycle leaves controllers, attachments and where namespaces lie, and the reservations that persist; of the
-/// others it leaves nothing, and it ends the write protection that lasts until then.
+/// A power cycle leaves controllers, attachments, the places of namespaces, and reservations that persist. It removes
+/// other reservations, and the write protection that lasts until a power cycle.
 #[tactic(auto, using(crate::proofs::Power::cycle_keeps_places, crate::proofs::Power::cycle_keeps_persistent, crate::proofs::Power::cycle_keeps_rights, crate::proofs::Power::cycle_forgets_others, crate::proofs::Power::cycle_ends_protection, crate::proofs::Power::cycle_keeps_it_sound, crate::proofs::Power::cycles_are_one))]
 fn power_cycle()
     ensures places { CycleKeepsPlaces }
@@ -15,8 +26,8 @@ fn power_cycle()
     ensures twice { CyclesAreOne }
 {}
 
-/// No command changes a byte of a namespace that is write protected, and none takes off a protection that lasts until a
-/// power cycle.
+/// No command changes a byte of a namespace that is write protected, or removes a protection that lasts until a power
+/// cycle.
 #[tactic(auto, using(crate::proofs::Protected::protected_commands_write_nothing, crate::proofs::Protected::commands_keep_protection, crate::proofs::Protected::protection_outlasts_commands))]
 fn write_protection()
     ensures bytes { ProtectedCommandsWriteNothing }

@@ -1,29 +1,42 @@
-//! What follows from the definitions of queues.
+//! Laws of queues.
 
 ghost use Rattle.nvme_spec.specs.QueueChanges.{AdminChangesSuit};
-ghost use Rattle.nvme_spec.specs.QueueLaws.{NextTurn, TwoTurns, TailAtHead, HeadAtTail, AllFetched, SubmissionHeadStays, CompletionTailStays, SubmissionTailStays, CompletionHeadStays, EntryIsInside, CompletionRoom, SubmissionRoom};
+ghost use Rattle.nvme_spec.specs.QueueLaws.{
+  NextTurn,
+  TwoTurns,
+  TailAtHead,
+  HeadAtTail,
+  AllFetched,
+  SubmissionHeadStays,
+  CompletionTailStays,
+  SubmissionTailStays,
+  CompletionHeadStays,
+  EntryIsInside,
+  CompletionRoom,
+  SubmissionRoom,
+};
 
-/// Slots come again each turn round the ring, with the other phase tag.
+/// Slots repeat on each round of the ring, with the other phase tag.
 #[tactic(auto, using(crate::proofs::QueueLaws::next_turn, crate::proofs::QueueLaws::two_turns))]
 fn turns()
     ensures next { NextTurn }
     ensures two { TwoTurns }
 {}
 
-/// Each entry lies inside its queue.
+/// Each entry is inside its queue.
 #[tactic(auto, using(crate::proofs::QueueLaws::entry_is_inside))]
 fn placed()
     ensures { EntryIsInside }
 {}
 
-/// There is room until all entries but one are taken.
+/// There is room until all entries except one are used.
 #[tactic(auto, using(crate::proofs::QueueLaws::completion_has_room, crate::proofs::QueueLaws::submission_has_room))]
 fn rooms()
     ensures completion { CompletionRoom }
     ensures submission { SubmissionRoom }
 {}
 
-/// A doorbell or a head that names the other end empties the queue.
+/// A doorbell or a head equal to the other end empties the queue.
 #[tactic(auto, using(crate::proofs::QueueLaws::tail_at_head, crate::proofs::QueueLaws::head_at_tail, crate::proofs::QueueLaws::all_fetched))]
 fn emptied()
     ensures submission { TailAtHead }
@@ -40,8 +53,8 @@ fn bounded()
     ensures completion_head { CompletionHeadStays }
 {}
 
-/// A change of the queues that an admin command is allowed can be done: a new queue lies in host memory, and no
-/// submission queue is left without its completion queue.
+/// A change of queues that an admin command is allowed is possible: a new queue is in host memory, and each submission
+/// queue keeps its completion queue.
 #[tactic(auto, using(crate::proofs::QueueChanges::admin_changes_suit))]
 fn suited()
     ensures { AdminChangesSuit }

@@ -1,22 +1,35 @@
-//! What follows from the definitions of reservations. That a denied action changes nothing needs no law: it gives no
-//! state.
+//! Laws of reservations. No law says that a denied action changes nothing, since its outcome has no state.
 
 ghost use Rattle.std.specs.Prelude.{◌≡◌, ℕ, Bool, true, false, List, length};
-ghost use Rattle.nvme_spec.specs.Reservation.{Reservation, IsRising, unreserved, is_registered, is_of_all, role_of, register, unregister, replace, acquire, preempt, release, clear};
+ghost use Rattle.nvme_spec.specs.Reservation.{
+  Reservation,
+  IsRising,
+  unreserved,
+  is_registered,
+  is_of_all,
+  role_of,
+  register,
+  unregister,
+  replace,
+  acquire,
+  preempt,
+  release,
+  clear,
+};
 ghost use Rattle.nvme_spec.specs.Access.{is_permitted};
 ghost use Rattle.nvme_spec.specs.Report.{ControllerHost, HasRisingIds, reported_controllers, report_data};
 ghost use Rattle.nvme_spec.specs.ReservationLaws.{Gives, Keeps, IsHeldByRegistrants};
 
 use crate::access::{Group, Hold, Role};
 
-/// A host that registers and unregisters with its key leaves the registrants as they were.
+/// A host that registers and unregisters with its key leaves the registrants unchanged.
 fn unregister_undoes_register()
     ensures { (r : Reservation) → (host key : ℕ) → IsRising r.registrants → is_registered r.registrants host ≡ false
         → Gives (register r host key) (λ next. Gives (unregister next host false key) (λ last. last.registrants
         ≡ r.registrants)) }
 {}
 
-/// Where the reservation is all registrants', each registrant is a holder; where it is one host's, no other host is.
+/// Each registrant holds a reservation of all registrants; only its holder holds one of a single host.
 fn holders()
     ensures all { (r : Reservation) → (host : ℕ) → is_of_all r.hold ≡ true → is_registered r.registrants host ≡ true
         → role_of r host ≡ Role.Holder }
@@ -24,7 +37,7 @@ fn holders()
         → role_of r host ≡ Role.Holder → host ≡ holder }
 {}
 
-/// Who may write may read.
+/// A host that may write may read.
 fn writers_read()
     ensures { (hold : Hold) → (role : Role) → is_permitted hold role Group.Write ≡ true
         → is_permitted hold role Group.Read ≡ true }
@@ -35,7 +48,7 @@ fn holders_write()
     ensures { (hold : Hold) → is_permitted hold Role.Holder Group.Write ≡ true }
 {}
 
-/// A report has as many bytes as are asked for, and its entries rise by controller where the controllers do.
+/// A report has the requested length, and its entries are in rising order of controllers if the controllers are.
 fn reports()
     ensures size { (r : Reservation) → (controllers : List ControllerHost) → (size : ℕ)
         → length (report_data r controllers size) ≡ size }
@@ -43,7 +56,7 @@ fn reports()
         → HasRisingIds (reported_controllers r controllers) }
 {}
 
-/// From a new namespace on, the hold is never with a host that is not registered, whatever the actions are.
+/// From a new namespace on, whatever the actions are, the holder is registered.
 fn held_by_registrants()
     ensures new { IsHeldByRegistrants unreserved }
     ensures register { (r : Reservation) → (host key : ℕ) → IsHeldByRegistrants r

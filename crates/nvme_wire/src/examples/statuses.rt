@@ -1,4 +1,4 @@
-//! Each constant beside its status code type, its status code and its standard name.
+//! The status code type, status code and standard name of each constant.
 #![tactic(auto, unfolding(crate::specs::StatusNames::generic_name, crate::specs::StatusNames::specific_name, crate::specs::StatusNames::media_name))]
 
 ghost use Rattle.std.specs.Prelude.{codes};

@@ -2,8 +2,8 @@
 
 use super::Sqe;
 
-/// The fields of a submission queue entry that a host sets, each 0 unless it is given. What the entry has besides is
-/// 0: the command is not fused, its data pointer is PRP entries, and it has no metadata.
+/// The fields of a submission queue entry that a host sets, each 0 by default. All other fields are 0: the command is
+/// not fused, its data pointer is PRP entries, and it has no metadata.
 #[derive(Clone, Copy, Debug, Default, PartialEq, Eq)]
 pub struct SqeFields {
     /// Opcode.
@@ -12,11 +12,11 @@ pub struct SqeFields {
     pub cid: u16,
     /// Namespace Identifier.
     pub nsid: u32,
-    /// PRP Entry 1: where the data begin, as an address of host memory.
+    /// PRP Entry 1: the address of the data in host memory.
     pub prp1: u64,
-    /// PRP Entry 2: the second page of the data, or the address of a PRP list.
+    /// PRP Entry 2: the address of the second page of the data, or of a PRP list.
     pub prp2: u64,
-    /// Command double word 10, whose meaning the command gives, as that of those behind it.
+    /// Command double word 10. The meaning of double words 10 to 15 depends on the command.
     pub cdw10: u32,
     /// Command double word 11.
     pub cdw11: u32,
@@ -30,7 +30,7 @@ pub struct SqeFields {
     pub cdw15: u32,
 }
 
-/// The entry of these fields.
+/// The entry with these fields.
 impl From<SqeFields> for Sqe {
     ghost use Rattle.std.specs.Prelude.{◌≡◌};
     ghost use Rattle.nvme_wire.specs.Submission.{submission_entry};

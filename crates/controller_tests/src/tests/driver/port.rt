@@ -1,4 +1,4 @@
-//! A port whose controller the tests choose.
+//! A port to a controller that the tests define.
 
 ghost use Rattle.std.specs.Prelude.{◌≡◌, IfOk, [], true};
 ghost use Rattle.nvme_driver.specs.Layout.{slot_count};
@@ -11,27 +11,27 @@ use nvme_spec::Piece;
 use nvme_wire::{Cqe, NoMemory, Status};
 use std::alloc::Global;
 
-/// A controller that answers each of the driver's own commands by one completion, after some turns, with the identifier
-/// and the status that the test gives.
+/// A controller that answers each of the driver's own commands with one completion, after `delay` turns, with the
+/// identifier and the status of the test.
 #[derive(Drop)]
 pub struct TestPort {
     pub window: Window,
-    /// What Controller Status reads.
+    /// The value of Controller Status.
     pub csts: u32,
-    /// How many turns go by before an answer.
+    /// The number of turns before an answer.
     pub delay: u8,
     pub cid: u16,
     pub status: Status,
-    /// How many turns were granted.
+    /// The number of turns so far.
     pub turns: u32,
-    /// What was written last to the doorbells from 1000h on.
+    /// The last values of the doorbells from 1000h.
     pub doorbells: [u32; 4],
     waited: u8,
     answered: u16,
 }
 
 impl TestPort {
-    /// A controller that answers at once, as it should: it is ready, and completes the driver's own commands, whose
+    /// A controller that answers at once and correctly: it is ready, and completes the driver's own commands, whose
     /// identifier is that of no slot, with success.
     pub(crate) fn honest(alloc: Global) -> Result<TestPort, NoMemory>
         ensures ready { IfOk result (λ port. is_ready port.csts ≡ true) }

@@ -13,7 +13,7 @@ use nvme_wire::{Sqe, Status};
 use std::alloc::Global;
 use std::test::Fail;
 
-/// The access state, a medium of 72 blocks at least, and the memory of one host.
+/// The access state, a medium of at least 72 blocks, and the memory of one host.
 #[derive(Drop)]
 pub struct Bench<M> {
     pub spaces: Spaces,
@@ -36,7 +36,7 @@ pub(crate) fn bench_over<M: Medium + Drop>(alloc: Global, medium: M) -> Result<B
     })
 }
 
-/// Executes an entry: its status and the rule, or None where the controller isn't configured.
+/// Executes an entry: its status and the rule, or `None` if the controller isn't configured.
 pub(crate) fn run<M: Medium>(
     bench: &mut Bench<M>,
     cntlid: u16,

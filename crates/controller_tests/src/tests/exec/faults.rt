@@ -1,4 +1,4 @@
-//! Commands over a medium one of whose calls fails.
+//! Commands on a medium of which one call fails.
 
 ghost use Rattle.std.specs.Prelude.{IfOk};
 ghost use Rattle.nvme_spec.specs.World.{LiesWithin};
@@ -18,7 +18,7 @@ const WRITE_FAULT: Option<(Status, u8)> = Some((Status::WRITE_FAULT, 0));
 
 const READ_ERROR: Option<(Status, u8)> = Some((Status::UNRECOVERED_READ_ERROR, 0));
 
-// Blocks of 33h of which the call after `calls` calls fails, and 5Ah for three blocks in the window.
+// Blocks of 33h on a medium that fails the call after `calls` calls, and three blocks of 5Ah in the window.
 fn failing_after(alloc: Global, calls: u64) -> Result<Bench<Failing<MemMedium>>, Fail>
     ensures within { IfOk result (λ bench.
         LiesWithin (⟦<Failing<MemMedium> as Medium>⟧.size bench.medium) bench.spaces.namespaces) }
@@ -30,7 +30,7 @@ fn failing_after(alloc: Global, calls: u64) -> Result<Bench<Failing<MemMedium>>,
     Ok(bench)
 }
 
-// Whether each byte of a block is this one.
+// Whether each byte of a block is `byte`.
 fn is_filled<M: Medium>(medium: &mut M, i: u64, byte: u8) -> bool {
     let mut block = [0; 512];
     i < medium.blocks() && medium.read(i, &mut block).is_ok() && block == [byte; 512]

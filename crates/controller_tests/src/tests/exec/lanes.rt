@@ -1,7 +1,7 @@
-//! Bytes compared by lanes.
+//! Comparisons of bytes, 32 at a time.
 
 use crate::tests::asserting::expect_that;
-use nvme_exec::lanes_equal;
+use nvme_medium::lanes_equal;
 use std::test::Fail;
 
 fn differs_at(a: &[u8], i: usize) -> bool {

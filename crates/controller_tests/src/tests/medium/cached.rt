@@ -1,4 +1,4 @@
-//! Caches: what they keep, and what they forget.
+//! Caches: the blocks that they keep, and those that they drop.
 
 use super::files::{Slow, read, write};
 use crate::tests::asserting::expect_eq;
@@ -8,7 +8,7 @@ use std::fs;
 use std::num::NonZeroUsize;
 use std::test::Fail;
 
-/// A cache of two blocks before a medium.
+/// A cache of two blocks over a medium.
 fn cached_twice<M: Medium + Drop>(alloc: Global, inner: M) -> Result<Cached<M>, &'static str> {
     let two = NonZeroUsize::new(2).ok_or("not 0")?;
     Cached::new(alloc, inner, two)
@@ -47,8 +47,8 @@ fn kept_blocks_are_read_without_a_call(rt: HostRuntime) -> Result<(), Fail> {
     Ok(())
 }
 
-/// Reads a block onto the middle of bytes that are 7, and gives the bytes at its ends and those beside them; as an error
-/// where that failed.
+/// Reads a block onto the middle of bytes that are 7, and returns the bytes at its ends and next to them; as an error
+/// if the read failed.
 fn read_onto<M: Medium>(medium: &mut M, i: u64) -> Result<[u8; 4], [u8; 4]> {
     let mut bytes = [7; 1024];
     if i >= medium.blocks() {
@@ -74,7 +74,7 @@ fn a_block_is_read_onto_bytes_that_a_fault_leaves(rt: HostRuntime) -> Result<(),
     Ok(())
 }
 
-/// Writes three blocks by way of a cache of two, reads the first, and hands the medium back.
+/// Writes three blocks through a cache of two, reads the first, and returns the medium.
 fn write_three<M: Medium + Drop>(alloc: Global, inner: M) -> Result<M, &'static str> {
     let mut cached = cached_twice(alloc, inner)?;
     for i in 0..3 {

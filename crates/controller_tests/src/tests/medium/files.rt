@@ -82,7 +82,7 @@ fn read_whole<M: Medium>(medium: &mut M, i: u64) -> Result<[u8; 512], &'static s
     }
 }
 
-/// Reads a block, and gives its last byte.
+/// Reads a block, and returns its last byte.
 pub(crate) fn read<M: Medium>(medium: &mut M, i: u64) -> Result<u8, &'static str> {
     read_whole(medium, i).map(|block| block[511])
 }

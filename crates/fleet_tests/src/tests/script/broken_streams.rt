@@ -15,12 +15,12 @@ const THREE_WRITES: &[&[u8]] = &[
     b"write 1 1 2 1 hex:03",
 ];
 
-/// How many line feeds a text has.
+/// The number of line feeds of a text.
 fn lines_in(text: &[u8]) -> usize {
     text.iter().filter(|byte| **byte == b'\n').count()
 }
 
-/// How many of the bytes that the three commands write are on the medium, where they are there in their order.
+/// The number of the three commands whose bytes are on the medium, if those are the first.
 fn commands_done(medium: &MemMedium) -> Option<usize> {
     let bytes = medium.as_bytes();
     let firsts = [
@@ -55,7 +55,7 @@ fn a_reader_that_fails_leaves_all_as_it_was(rt: HostRuntime) -> Result<(), Fail>
     Ok(())
 }
 
-/// A text is read to its end and no further, and each line is one write.
+/// A text is read exactly to its end, and each line is one write.
 #[test]
 fn streams_are_called_no_more_than_once(rt: HostRuntime) -> Result<(), Fail> {
     let text = carried(rt.alloc(), THREE_WRITES)?;
@@ -64,7 +64,7 @@ fn streams_are_called_no_more_than_once(rt: HostRuntime) -> Result<(), Fail> {
     let medium = MemMedium::new(rt.alloc(), &[0; 32768])?;
     let ran = run_script(rt.alloc(), &mut reader, &mut writer, medium);
     expect_that(&rt, ran.is_ok());
-    // Seven bytes come with each read but the last of them, and none with the one behind it.
+    // Each read except the last gives seven bytes, and one more read gives none.
     expect_eq(&rt, reader.calls, text.len().div_ceil(7).saturating_add(1));
     expect_eq(&rt, writer.writes, 16);
     Ok(())
@@ -104,8 +104,8 @@ fn a_writer_that_fails_stops_behind_its_command(rt: HostRuntime) -> Result<(), F
     Ok(())
 }
 
-/// Each write of the transcript succeeds, and its last flush fails, as no stream of the system does. The image has what
-/// was written.
+/// Each write of the transcript succeeds, and its last flush fails, which no stream of the system does. The image has
+/// what was written.
 #[test]
 fn a_flush_that_fails_is_told(rt: HostRuntime) -> Result<(), Fail> {
     let text = carried(rt.alloc(), HELLO)?;

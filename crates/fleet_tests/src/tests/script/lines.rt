@@ -12,8 +12,8 @@ start
 /// A Write of a block, and a Read of it.
 pub const HELLO: &[&[u8]] = &[b"write 1 1 0 1 hex:48656c6c6f", b"read 1 1 0 1"];
 
-/// The setup, behind which the driver of controller 1 comes up, and each of these requests is placed, rung, fetched,
-/// executed and handed up.
+/// The setup, after which the driver of controller 1 comes up, and each of these requests is placed, rung, fetched,
+/// executed and delivered.
 pub(crate) fn carried(alloc: Global, requests: &[&[u8]]) -> Result<Vec<u8>, AllocError> {
     let mut text = Vec::new(alloc);
     text.extend_from_slice(SETUP)?;
@@ -25,7 +25,7 @@ pub(crate) fn carried(alloc: Global, requests: &[&[u8]]) -> Result<Vec<u8>, Allo
     Ok(text)
 }
 
-/// The lines of a transcript that begin so.
+/// The lines of a transcript that begin with `front`.
 pub(crate) fn lines_with(
     alloc: Global,
     transcript: &[u8],

@@ -16,7 +16,7 @@ const ONE_BLOCK: &[&[u8]] = &[
     b"read 1 1 3 1",
 ];
 
-/// The answers of `ONE_BLOCK` where the call of the medium of each number fails: each command makes one call.
+/// The answers of `ONE_BLOCK` if the call of the medium with each number fails: each command makes one call.
 const ANSWERS: [&[u8]; 6] = [
     b"poll 1 1 2:81 00000000
 poll 1 2 0:00 00000000
@@ -56,7 +56,7 @@ poll 1 5 0:00 00000000 512 0b
 ",
 ];
 
-/// The transcript of requests over a medium of 64 blocks of zeros whose call of this number fails.
+/// The transcript of requests over a medium of 64 blocks of zeros whose call with this number fails.
 fn transcript_of<R: Abort + AllocGlobal>(
     rt: &R,
     requests: &[&[u8]],
@@ -83,8 +83,8 @@ fn a_fault_of_the_medium_is_told_by_its_own_command(rt: HostRuntime) -> Result<(
     Ok(())
 }
 
-/// Runs of requests, and what each execution shows where the call of each number fails: the last line is that of a run
-/// that meets no failure.
+/// Runs of requests, and the executions' lines if the call with each number fails: the last line is that of a run
+/// without a failure.
 const RUNS: [(&[&[u8]], &[&[u8]]); 4] = [
     (
         &[b"write 1 1 0 1 hex:48656c6c6f", b"read 1 1 0 1"],
@@ -117,7 +117,7 @@ const RUNS: [(&[&[u8]], &[&[u8]]); 4] = [
     ),
 ];
 
-/// What the executions of a transcript show, one behind the other.
+/// The results of a transcript's executions, in order.
 fn executed_in(alloc: Global, transcript: &[u8]) -> Result<Vec<u8>, AllocError> {
     let mut shown = Vec::new(alloc);
     for line in transcript.split(|byte| *byte == b'\n') {

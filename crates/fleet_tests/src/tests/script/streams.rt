@@ -9,11 +9,11 @@ fn broken() -> io::Error {
     io::Error::from(io::ErrorKind::BrokenPipe)
 }
 
-/// Gives its text a few bytes a call. The call of this number, counted from 0, fails, and so do all later ones.
+/// Gives its text a few bytes a call. The call with this number, counted from 0, fails, and so do all later ones.
 #[derive(Drop)]
 pub struct FailingReader<'a> {
     text: &'a [u8],
-    /// How many calls were made.
+    /// The number of calls so far.
     pub calls: usize,
     failing: usize,
 }
@@ -42,11 +42,11 @@ impl<'a> Read for FailingReader<'a> {
     }
 }
 
-/// Keeps what is written. The write or flush of this number, counted from 0, fails, and so do all later ones.
+/// Keeps what is written. The write or flush with this number, counted from 0, fails, and so do all later ones.
 #[derive(Drop)]
 pub struct FailingWriter {
     pub kept: Vec<u8>,
-    /// How many writes were made.
+    /// The number of writes so far.
     pub writes: usize,
     flushes: usize,
     failing_write: Option<usize>,

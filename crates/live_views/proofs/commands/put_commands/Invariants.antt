@@ -4,7 +4,8 @@ use Rattle.live_views.proofs.commands.put_commands.Given as goal
 
 abbrev pub invariant-loop-command : goal.invariant-loop-command
 invariant-loop-command g l = record {
-  wrote : g.P.Page.written l.page ++ commands_text l.place l.rest ≡ g.P.Page.written l.initial.page ++ commands_text 0 l.initial.rest;
+  wrote : g.P.Page.written l.page ++ commands_text l.place l.rest ≡ g.P.Page.written l.initial.page
+      ++ commands_text 0 l.initial.rest;
   few : l.place + length l.rest < 2 ^ 64;
 }
 

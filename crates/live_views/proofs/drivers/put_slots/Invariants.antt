@@ -4,7 +4,8 @@ use Rattle.live_views.specs.Showing.{slot_text}
 use Rattle.live_views.proofs.drivers.put_slots.Given as goal
 
 abbrev pub invariant-loop-first : goal.invariant-loop-first
-invariant-loop-first g l = g.P.Page.written l.page ++ flat_map slot_text l.rest ≡ g.P.Page.written l.initial.page ++ flat_map slot_text l.initial.rest
+invariant-loop-first g l = g.P.Page.written l.page ++ flat_map slot_text l.rest ≡ g.P.Page.written l.initial.page
+    ++ flat_map slot_text l.initial.rest
 
 abbrev pub decreases-loop-first : goal.decreases-loop-first
 decreases-loop-first g l = length l.rest

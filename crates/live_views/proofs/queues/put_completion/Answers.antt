@@ -6,11 +6,17 @@ use Rattle.live_views.proofs.queues.put_completion.Goals as goal
 pub returns : goal.returns
 returns g c =
     let old = g.P.Page.written c.args.page.now in
-    let queue = ((((codes " cq " ++ decimal c.args.qid) ++ codes " place ") ++ decimal c.base.result) ++ codes " size ") ++ decimal c.size.result in
+    let queue = ((((codes " cq " ++ decimal c.args.qid) ++ codes " place ") ++ decimal c.base.result) ++ codes " size ")
+    ++ decimal c.size.result in
     let head = decimal c.head.result in
     let tail = decimal c.tail.result in
     let both = ((codes " head " ++ head) ++ codes " tail ") ++ tail in
-    let flat : completion_text c.args.qid (Some c.in-Some.queue) ≡ (((((queue ++ codes " head ") ++ head) ++ codes " tail ") ++ tail) ++ codes " phase ") ++ c.bit_name.result.now = cc in
-    ends g.P.Page.room c.put_both.result old (g.P.Page.written c.put_ends.new.page) (queue ++ both) (codes " phase ") (c.bit_name.result.now) (completion_text c.args.qid c.args.queue) (g.P.Page.written c.put_both.new.page)
-    (after old (g.P.Page.written c.put_queue.new.page) (g.P.Page.written c.put_ends.new.page) queue both c.in_ok-put_queue.ensures c.in_ok-put_ends.ensures)
-    (ap (completion_text c.args.qid) c.in-Some.is ∙ flat ∙ ap (λ t. (t ++ codes " phase ") ++ c.bit_name.result.now) (four queue (codes " head ") head (codes " tail ") tail)) c.put_both.ensures
+    let flat : completion_text c.args.qid (Some c.in-Some.queue)
+    ≡ (((((queue ++ codes " head ") ++ head) ++ codes " tail ") ++ tail) ++ codes " phase ")
+    ++ c.bit_name.result.now = cc in
+    ends g.P.Page.room c.put_both.result old (g.P.Page.written c.put_ends.new.page) (queue ++ both) (codes " phase ")
+    (c.bit_name.result.now) (completion_text c.args.qid c.args.queue) (g.P.Page.written c.put_both.new.page)
+    (after old (g.P.Page.written c.put_queue.new.page)
+    (g.P.Page.written c.put_ends.new.page) queue both c.in_ok-put_queue.ensures c.in_ok-put_ends.ensures)
+    (ap (completion_text c.args.qid) c.in-Some.is ∙ flat ∙ ap (λ t. (t ++ codes " phase ") ++ c.bit_name.result.now)
+    (four queue (codes " head ") head (codes " tail ") tail)) c.put_both.ensures

@@ -7,5 +7,7 @@ pub returns : goal.returns
 returns g c =
     let front = codes " controller " ++ decimal c.from.result in
     let parts : attachment_text c.args.attachment ≡ (front ++ codes " namespace ") ++ decimal c.from-2.result = cc in
-    ends g.P.Page.room c.put_labelled-2.result (g.P.Page.written c.args.page.now) (g.P.Page.written c.put_labelled.new.page) front (codes " namespace ") (decimal c.from-2.result) (attachment_text c.args.attachment) (g.P.Page.written c.put_labelled-2.new.page)
+    ends g.P.Page.room c.put_labelled-2.result (g.P.Page.written c.args.page.now)
+    (g.P.Page.written c.put_labelled.new.page) front (codes " namespace ") (decimal c.from-2.result)
+    (attachment_text c.args.attachment) (g.P.Page.written c.put_labelled-2.new.page)
     c.in_ok-put_labelled.ensures parts c.put_labelled-2.ensures

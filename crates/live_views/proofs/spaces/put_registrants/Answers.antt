@@ -7,11 +7,15 @@ use Rattle.live_views.proofs.spaces.put_registrants.Goals as goal
 pub loop-first-preserved : goal.loop-first-preserved
 loop-first-preserved g c =
     let joined : c.loop-first.rest.now ≡ c.in-Some.first.now ∷ c.in-Some.behind.now = search rules in
-    next_piece _ _ (registrant_text c.in-Some.first.now) (flat_map registrant_text c.in-Some.behind.now) (flat_map registrant_text c.loop-first.rest.now) _
+    next_piece _ _ (registrant_text c.in-Some.first.now) (flat_map registrant_text c.in-Some.behind.now)
+    (flat_map registrant_text c.loop-first.rest.now) _
     c.in_ok-put_registrant.ensures (ap (flat_map registrant_text) joined) c.loop-first.invariant
 
 pub returns-in_err-put_registrant : goal.returns-in_err-put_registrant
 returns-in_err-put_registrant g c =
     let joined : c.loop-first.rest.now ≡ c.in-Some.first.now ∷ c.in-Some.behind.now = search rules in
-    lacks_piece g.P.Page.room c.from_residual.result (g.P.Page.written c.loop-first.page) (registrant_text c.in-Some.first.now) (flat_map registrant_text c.in-Some.behind.now) (flat_map registrant_text c.loop-first.rest.now) (g.P.Page.written c.args.page.now) (flat_map registrant_text c.args.registrants.now) (g.P.Page.written c.put_registrant.new.page) (search rules)
+    lacks_piece g.P.Page.room c.from_residual.result (g.P.Page.written c.loop-first.page)
+    (registrant_text c.in-Some.first.now) (flat_map registrant_text c.in-Some.behind.now)
+    (flat_map registrant_text c.loop-first.rest.now) (g.P.Page.written c.args.page.now)
+    (flat_map registrant_text c.args.registrants.now) (g.P.Page.written c.put_registrant.new.page) (search rules)
     c.in_err-put_registrant.ensures (ap (flat_map registrant_text) joined) c.loop-first.invariant

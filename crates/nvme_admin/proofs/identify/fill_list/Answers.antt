@@ -7,7 +7,10 @@ use Rattle.nvme_admin.proofs.identify.fill_list.Goals as goal
 
 pub put_u32-requires : goal.put_u32-requires
 put_u32-requires c =
-    record { inside = list-room _ c.loop-n.n c.loop-n.at (length c.loop-n.structure) c.loop-n.invariant.at c.loop-n-test.true (c.loop-n.auto.structure ∙ length-zeros c.args.structure.now c.requires.zeros) }
+    record {
+      inside = list-room _ c.loop-n.n c.loop-n.at (length c.loop-n.structure) c.loop-n.invariant.at c.loop-n-test.true
+          (c.loop-n.auto.structure ∙ length-zeros c.args.structure.now c.requires.zeros);
+    }
 
 pub loop-n-preserved : goal.loop-n-preserved
 loop-n-preserved c =
@@ -15,8 +18,10 @@ loop-n-preserved c =
     let old = c.args.structure.now in
     elim c.if-is_listed.branch [
       | then-is_listed w ↦
-          let both = listed-more old c.loop-n.structure w.put_u32.new.structure p c.loop-n.n c.loop-n.at c.loop-n.auto.n c.loop-n-test.true (length-zeros old c.requires.zeros)
-          (sym c.is_listed.ensures ∙ w.if-is_listed.true) c.loop-n.invariant.so_far c.loop-n.invariant.at w.put_u32.ensures in
+          let both = listed-more old c.loop-n.structure w.put_u32.new.structure p c.loop-n.n c.loop-n.at c.loop-n.auto.n
+          c.loop-n-test.true (length-zeros old c.requires.zeros)
+          (sym c.is_listed.ensures ∙ w.if-is_listed.true) c.loop-n.invariant.so_far c.loop-n.invariant.at
+          w.put_u32.ensures in
           record { so_far = w.structure-is ∙ both.0; at = w.at-is ∙ both.1 }
       | else-is_listed w ↦
           let same = listed-same p c.loop-n.n c.loop-n.auto.n (sym c.is_listed.ensures ∙ w.if-is_listed.false) in

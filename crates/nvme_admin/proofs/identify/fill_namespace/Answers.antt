@@ -10,7 +10,8 @@ returns-clause-filled c =
     let one = c.put_u64.ensures ∙ ap (λ v. with_field c.args.structure.now (qword_field 0 v)) c.blocks-2.ensures in
     let two = c.put_u64-2.ensures ∙ ap (λ v. with_field c.put_u64.new.structure (qword_field 8 v)) c.blocks-3.ensures
     ∙ ap (λ x. with_field x (qword_field 8 n.blocks)) one in
-    let three = c.put_u64-3.ensures ∙ ap (λ v. with_field c.put_u64-2.new.structure (qword_field 16 v)) c.blocks-4.ensures
+    let three =
+    c.put_u64-3.ensures ∙ ap (λ v. with_field c.put_u64-2.new.structure (qword_field 16 v)) c.blocks-4.ensures
     ∙ ap (λ x. with_field x (qword_field 16 n.blocks)) two in
     let shared : c.from.result ≡ bit_of n.shared = search rules in
     let four = c.put_u8.ensures ∙ ap (λ v. with_field c.put_u64-3.new.structure (byte_field 30 v)) shared

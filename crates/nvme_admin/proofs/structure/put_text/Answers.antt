@@ -11,4 +11,5 @@ returns c =
     let count : length spaces ≡ c.args.size - length text = length-replicate {A = ℕ} (c.args.size - length text) 0x20 in
     c.put_spaces.ensures
     ∙ ap (λ s. with_bytes s (c.args.at + length text) spaces) c.put_bytes.ensures
-    ∙ with_bytes-append c.args.structure.now c.args.at text spaces (omega (arith, c.requires.short, c.requires.inside, count))
+    ∙ with_bytes-append c.args.structure.now c.args.at text spaces
+    (omega (arith, c.requires.short, c.requires.inside, count))

@@ -6,4 +6,5 @@ use Rattle.nvme_ctrl.proofs.marking.mark_all.Goals as goal
 pub loop-i-preserved : goal.loop-i-preserved
 loop-i-preserved c =
     rw c.marked.ensures
-    (map_over_more (with_mark c.args.nsid) c.args.commands.now c.loop-i.commands c.loop-i.i c.index-commands-i.result (omega arith) c.loop-i.invariant c.index-commands-i.is)
+    (map_over_more (with_mark c.args.nsid) c.args.commands.now c.loop-i.commands c.loop-i.i c.index-commands-i.result
+    (omega arith) c.loop-i.invariant c.index-commands-i.is)

@@ -7,5 +7,6 @@ use Rattle.nvme_driver.proofs.payload.spell_list.Given as goal
 abbrev pub invariant-loop-index : goal.invariant-loop-index
 invariant-loop-index l =
     record {
-      page : l.page ≡ (to_le_bytes w16 (length l.fn.list) ++ flat_map (to_le_bytes w16) (take l.index l.fn.list)) ++ replicate (4094 - 2 * l.index) 0;
+      page : l.page ≡ (to_le_bytes w16 (length l.fn.list) ++ flat_map (to_le_bytes w16) (take l.index l.fn.list))
+          ++ replicate (4094 - 2 * l.index) 0;
     }

@@ -8,11 +8,15 @@ returns-in-Ok-clause-acts c =
     removed _ _ _ _ _ _ _ (outcome-is _ _ _ _ _ _ c.requires.admitted c.gather.ensures.bytes) c.in-Ok.is c.act.ensures
 
 pub returns-in-Ok-clause-world : goal.returns-in-Ok-clause-world
-returns-in-Ok-clause-world c = left _ _ _ _ _ _ (outcome-is _ _ _ _ _ _ c.requires.admitted c.gather.ensures.bytes) c.act.ensures
+returns-in-Ok-clause-world c =
+    left _ _ _ _ _ _ (outcome-is _ _ _ _ _ _ c.requires.admitted c.gather.ensures.bytes) c.act.ensures
 
 pub returns-in-Err-clause-acts : goal.returns-in-Err-clause-acts
-returns-in-Err-clause-acts c =
-    (refl, refused _ _ _ _ _ _ _ (outcome-is _ _ _ _ _ _ c.requires.admitted c.gather.ensures.bytes) c.in-Err.is c.act.ensures)
+returns-in-Err-clause-acts c = (
+  refl,
+  refused _ _ _ _ _ _ _ (outcome-is _ _ _ _ _ _ c.requires.admitted c.gather.ensures.bytes) c.in-Err.is c.act.ensures,
+)
 
 pub returns-in-Err-clause-world : goal.returns-in-Err-clause-world
-returns-in-Err-clause-world c = left _ _ _ _ _ _ (outcome-is _ _ _ _ _ _ c.requires.admitted c.gather.ensures.bytes) c.act.ensures
+returns-in-Err-clause-world c =
+    left _ _ _ _ _ _ (outcome-is _ _ _ _ _ _ c.requires.admitted c.gather.ensures.bytes) c.act.ensures

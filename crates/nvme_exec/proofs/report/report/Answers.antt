@@ -8,8 +8,11 @@ pub returns-clause-stored : goal.returns-clause-stored
 returns-clause-stored c =
     c.scatter_padded.ensures.window
     ∙ ap (with_scattered c.args.window.now (addresses c.args.pieces.now.parts.items))
-    (padded-front (namespace_of c.args.spaces.now c.args.nsid) c.args.spaces.now.controllers c.args.bytes _ (length (addresses c.args.pieces.now.parts.items)) _
-    c.requires.named c.fill_report.ensures.few c.requires.size (search rules ∙ c.min.ensures) c.fill_report.ensures.report)
+    (padded-front (namespace_of c.args.spaces.now c.args.nsid) c.args.spaces.now.controllers c.args.bytes _
+    (length (addresses c.args.pieces.now.parts.items)) _
+    c.requires.named c.fill_report.ensures.few c.requires.size
+    (search rules ∙ c.min.ensures) c.fill_report.ensures.report)
 
 pub returns-clause-size : goal.returns-clause-size
-returns-clause-size c = report-size (namespace_of c.args.spaces.now c.args.nsid) c.args.spaces.now.controllers c.args.bytes c.requires.named
+returns-clause-size c =
+    report-size (namespace_of c.args.spaces.now c.args.nsid) c.args.spaces.now.controllers c.args.bytes c.requires.named

@@ -9,7 +9,8 @@ returns-in_err-cntlid c =
     let is = read.ensures in
     let same : c.as_slice.result.now ≡ read.new.numbers.items = c.as_slice.ensures.value in
     let none : c.from_residual.result ≡ None = search rules in
-    rw none (attached-numbers c.args.line.now read.result.now read.new.numbers.items is.text is.words is.most is.all (rw same at c.in_err-cntlid.ensures.none refl))
+    rw none (attached-numbers c.args.line.now read.result.now read.new.numbers.items is.text is.words is.most is.all
+    (rw same at c.in_err-cntlid.ensures.none refl))
 
 pub returns-then-is_empty : goal.returns-then-is_empty
 returns-then-is_empty c =
@@ -18,7 +19,8 @@ returns-then-is_empty c =
     let same : c.as_slice.result.now ≡ read.new.numbers.items = c.as_slice.ensures.value in
     let two = c.in_ok-cntlid.ensures.some in
     let none : length read.result.now ≡ 0 = search rules in
-    attached-sentence c.args.line.now read.result.now read.new.numbers.items is.text is.words c.in_ok-cntlid.cntlid c.in_ok-cntlid.nsid (rw same at two.0) two.1 two.2 none
+    attached-sentence c.args.line.now read.result.now read.new.numbers.items is.text is.words c.in_ok-cntlid.cntlid
+    c.in_ok-cntlid.nsid (rw same at two.0) two.1 two.2 none
 
 pub returns-else-is_empty : goal.returns-else-is_empty
 returns-else-is_empty c =
@@ -27,4 +29,5 @@ returns-else-is_empty c =
     let same : c.as_slice.result.now ≡ read.new.numbers.items = c.as_slice.ensures.value in
     let two = c.in_ok-cntlid.ensures.some in
     let more : 0 < length read.result.now = grind (arith, common_steps) in
-    attached-others c.args.line.now read.result.now read.new.numbers.items is.text is.words (ap length (rw same at two.0)) is.apart more
+    attached-others c.args.line.now read.result.now read.new.numbers.items is.text is.words
+    (ap length (rw same at two.0)) is.apart more

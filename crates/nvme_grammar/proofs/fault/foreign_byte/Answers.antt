@@ -23,5 +23,7 @@ bounds-line-len c =
 
 pub returns-clause-some : goal.returns-clause-some
 returns-clause-some c =
-    let other : c.text_len-len.result ≢ length c.args.line.now = search rules in
-    (not-all-pass is_text c.args.line.now (λ same. other (c.text_len-len.ensures ∙ same)), rw c.text_len-len.ensures refl)
+    let other : c.text_len-len.result ≢ length c.args.line.now = search rules in (
+      not-all-pass is_text c.args.line.now (λ same. other (c.text_len-len.ensures ∙ same)),
+      rw c.text_len-len.ensures refl,
+    )

@@ -17,4 +17,5 @@ either_way false false h = absurd (false≢true h)
 
 pub returns-clause-exact : goal.returns-clause-exact
 returns-clause-exact c =
-    either_way _ _ (sym (is_some-mapped fault_by_value _) ∙ ap is_some c.fault_of.ensures ∙ fault-tie c.args.started c.args.line.now)
+    either_way _ _
+    (sym (is_some-mapped fault_by_value _) ∙ ap is_some c.fault_of.ensures ∙ fault-tie c.args.started c.args.line.now)

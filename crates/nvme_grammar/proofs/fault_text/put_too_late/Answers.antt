@@ -6,7 +6,8 @@ use Rattle.nvme_grammar.specs.declared.keyword.Keyword.TheVariants as word
 use Rattle.script_text.specs.Pages.{Adds}
 use Rattle.nvme_grammar.proofs.fault_text.put_too_late.Goals as goal
 
-too-late : (k : Keyword) → (k ≡ word.Start → ⊥) → too_late_text k ≡ keyword_text k ++ codes " stands before 'start', which was said already"
+too-late : (k : Keyword)
+    → (k ≡ word.Start → ⊥) → too_late_text k ≡ keyword_text k ++ codes " must come before 'start'"
 too-late word.Controller other = refl
 too-late word.Namespace other = refl
 too-late word.Attached other = refl
@@ -37,6 +38,7 @@ too-late word.PowerCycle other = refl
 
 pub returns-in_default : goal.returns-in_default
 returns-in_default g c =
-    let said = codes " stands before 'start', which was said already" in
+    let said = codes " must come before 'start'" in
     let same = ap (λ t. t ++ said) c.text.ensures ∙ sym (too-late c.args.keyword c.in_default.not-Start) in
-    subst (λ t. Adds g.P.Page.room c.put_both.result (g.P.Page.written c.args.page.now) t (g.P.Page.written c.put_both.new.page)) same c.put_both.ensures
+    subst (λ t. Adds g.P.Page.room c.put_both.result (g.P.Page.written c.args.page.now) t
+    (g.P.Page.written c.put_both.new.page)) same c.put_both.ensures

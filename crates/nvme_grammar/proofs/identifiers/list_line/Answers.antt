@@ -11,7 +11,8 @@ returns-in_err-cntlid c =
     let is = read.ensures in
     let same : c.as_slice.result.now ≡ read.new.numbers.items = c.as_slice.ensures.value in
     let none : c.from_residual.result ≡ None = search rules in
-    rw none (list-none c.args.keyword c.args.line.now read.result.now read.new.numbers.items c.requires.list is.text is.words is.most is.all (rw same at c.in_err-cntlid.ensures.none refl))
+    rw none (list-none c.args.keyword c.args.line.now read.result.now read.new.numbers.items c.requires.list is.text
+    is.words is.most is.all (rw same at c.in_err-cntlid.ensures.none refl))
 
 pub returns : goal.returns
 returns c =
@@ -22,5 +23,8 @@ returns c =
     let two = named.ensures.some in
     let list = take c.in_ok-count.count c.identifiers_behind.new.buffer in
     let numbers : line_numbers read.result.now ≡ Some list = search rules in
-    let asked : Some (request_by_value c.in_ok-request.request) ≡ list_request c.args.keyword named.nsid list = search rules in
-    list-sentence c.args.keyword c.args.line.now read.result.now read.new.numbers.items named.cntlid named.nsid list (request_by_value c.in_ok-request.request) c.requires.list is.text is.words (rw same at two.0) two.1 two.2 numbers asked
+    let asked : Some (request_by_value c.in_ok-request.request) ≡ list_request c.args.keyword named.nsid list =
+    search rules in
+    list-sentence c.args.keyword c.args.line.now read.result.now read.new.numbers.items named.cntlid named.nsid list
+    (request_by_value c.in_ok-request.request) c.requires.list is.text is.words
+    (rw same at two.0) two.1 two.2 numbers asked

@@ -12,4 +12,7 @@ returns-then-is_empty-2 c =
     let start = c.behind_separators-start in
     let none : length start.result.now ≡ 0 = search rules in
     let comment : is_comment c.args.line.now ≡ false = search rules in
-    record { line = sentence-blank c.args.line.now start.result.now start.ensures.words start.ensures.text none ∙ line-sentence c.args.line.now comment }
+    record {
+      line = sentence-blank c.args.line.now start.result.now start.ensures.words start.ensures.text none
+          ∙ line-sentence c.args.line.now comment;
+    }

@@ -1,5 +1,15 @@
 use Rattle.std.proofs.Common.{◌≡◌, rules}
-use Rattle.nvme_grammar.proofs.EventLemmas.{says_up, says_ring, says_poll, says_reset, says_fetch, says_execute, says_identify, says_write32, says_power_cycle}
+use Rattle.nvme_grammar.proofs.EventLemmas.{
+  says_up,
+  says_ring,
+  says_poll,
+  says_reset,
+  says_fetch,
+  says_execute,
+  says_identify,
+  says_write32,
+  says_power_cycle,
+}
 use Rattle.nvme_grammar.proofs.numbers.event_in.Goals as goal
 
 pub returns-in_ok-alone_in-in-Up-clause-some : goal.returns-in_ok-alone_in-in-Up-clause-some
@@ -48,4 +58,5 @@ returns-in_ok-cntlid-in-Write32-clause-some c =
     λ words h. rw c.in-Write32.is (says_write32 asked.cntlid is.1 asked.offset asked.value is.2 words (rw is.0 at h))
 
 pub returns-in-PowerCycle-clause-some : goal.returns-in-PowerCycle-clause-some
-returns-in-PowerCycle-clause-some c = λ words h. rw c.in-PowerCycle.is (says_power_cycle c.args.numbers.now (search rules) words h)
+returns-in-PowerCycle-clause-some c =
+    λ words h. rw c.in-PowerCycle.is (says_power_cycle c.args.numbers.now (search rules) words h)

@@ -12,7 +12,9 @@ loop-numbers-preserved c =
     let is = c.in-Some.ensures in
     record {
       words = λ text.
-          rw c.push.ensures.items (Numbers-more before.numbers.items (line_words line) (line_words before.rest.now) (line_words front.behind.now) front.number (before.invariant.words text) (is.words (before.invariant.text ∙ text)));
+          rw c.push.ensures.items (Numbers-more before.numbers.items (line_words line)
+          (line_words before.rest.now) (line_words front.behind.now) front.number (before.invariant.words text)
+          (is.words (before.invariant.text ∙ text)));
       text = is.text ∙ before.invariant.text;
       apart = is.apart;
       within = omega (arith, is.shorter, before.invariant.within);

@@ -10,4 +10,6 @@ returns-in_err-cntlid-clause-none c =
     let read = c.numbers_in-rest in
     let is = read.ensures in
     let same : c.as_slice.result.now ≡ read.new.numbers.items = c.as_slice.ensures.value in
-    λ none. sym (front-none Store c.args.line.now read.result.now read.new.numbers.items is.text is.words (take 2 (places_of Store)) (Bytes ∷ []) refl refl refl is.most is.all (rw same at c.in_err-cntlid.ensures.none refl))
+    λ none. sym
+    (front-none Store c.args.line.now read.result.now read.new.numbers.items is.text is.words (take 2 (places_of Store))
+    (Bytes ∷ []) refl refl refl is.most is.all (rw same at c.in_err-cntlid.ensures.none refl))

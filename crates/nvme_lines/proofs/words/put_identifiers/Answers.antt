@@ -7,12 +7,16 @@ pub loop-first-preserved : goal.loop-first-preserved
 loop-first-preserved g c =
     let joined : c.loop-first.rest.now ≡ c.in-Some.first.now ∷ c.in-Some.behind.now = search rules in
     let wide = joined ∙ ap (λ n. n ∷ c.in-Some.behind.now) (sym c.from.ensures) in
-    next_piece _ _ (codes " " ++ decimal c.from.result) (spaced (decimals c.in-Some.behind.now)) (spaced (decimals c.loop-first.rest.now)) _
+    next_piece _ _ (codes " " ++ decimal c.from.result) (spaced (decimals c.in-Some.behind.now))
+    (spaced (decimals c.loop-first.rest.now)) _
     c.in_ok-put_labelled.ensures (ap (λ ns. spaced (decimals ns)) wide) c.loop-first.invariant
 
 pub returns-in_err-put_labelled : goal.returns-in_err-put_labelled
 returns-in_err-put_labelled g c =
     let joined : c.loop-first.rest.now ≡ c.in-Some.first.now ∷ c.in-Some.behind.now = search rules in
     let wide = joined ∙ ap (λ n. n ∷ c.in-Some.behind.now) (sym c.from.ensures) in
-    lacks_piece g.P.Page.room c.from_residual.result (g.P.Page.written c.loop-first.page) (codes " " ++ decimal c.from.result) (spaced (decimals c.in-Some.behind.now)) (spaced (decimals c.loop-first.rest.now)) (g.P.Page.written c.args.page.now) (spaced (decimals c.args.list.now)) (g.P.Page.written c.put_labelled.new.page) (search rules)
+    lacks_piece g.P.Page.room c.from_residual.result
+    (g.P.Page.written c.loop-first.page) (codes " " ++ decimal c.from.result) (spaced (decimals c.in-Some.behind.now))
+    (spaced (decimals c.loop-first.rest.now)) (g.P.Page.written c.args.page.now) (spaced (decimals c.args.list.now))
+    (g.P.Page.written c.put_labelled.new.page) (search rules)
     c.in_err-put_labelled.ensures (ap (λ ns. spaced (decimals ns)) wide) c.loop-first.invariant

@@ -1,5 +1,9 @@
 use Rattle.nvme_live.proofs.InBytes.{answered_lines_are_a_session}
-use Rattle.nvme_live.proofs.SessionLaws.{lines_before_start_are_answered, lines_of_a_run_are_answered, start_is_answered}
+use Rattle.nvme_live.proofs.SessionLaws.{
+  lines_before_start_are_answered,
+  lines_of_a_run_are_answered,
+  start_is_answered,
+}
 use Rattle.nvme_live.proofs.laws.lines_are_answered.Goals as goal
 
 pub returns-clause-before : goal.returns-clause-before

@@ -8,5 +8,7 @@ returns-clause-kept c =
     let bytes = c.args.bytes.now in
     let ok = c.args.line.now.ok.0 in
     let fits : length items ≤ 1048577 = omega (arith, ok, c.requires) in
-    let room : c.min-room.result ≡ min (1048577 - length items) (length bytes) = omega (arith, c.min-room.ensures, c.len.ensures, ok) in
-    extended c.extend_from_slice.result _ items _ _ c.extend_from_slice.ensures.items (kept-added items bytes c.min-room.result fits room)
+    let room : c.min-room.result ≡ min (1048577 - length items) (length bytes) =
+    omega (arith, c.min-room.ensures, c.len.ensures, ok) in
+    extended c.extend_from_slice.result _ items _ _ c.extend_from_slice.ensures.items
+    (kept-added items bytes c.min-room.result fits room)

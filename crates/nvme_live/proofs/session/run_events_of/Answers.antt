@@ -18,13 +18,19 @@ run_events-requires-clause-identifiers_room g c = search (rules, longest-length 
 pub returns-clause-ok : goal.returns-clause-ok
 returns-clause-ok g c =
     let events : kept_events c.as_slice.result.now c.as_slice-2.result.now ≡ events_in c.args.opening.now.text.items =
-    ap (λ t. kept_events t c.as_slice-2.result.now) (search rules) ∙ ap (kept_events c.args.opening.now.text.items) (search rules) ∙ c.requires.ready.events in
-    subst (λ es. OnOk c.run_events.result (TranscribesBy (RanCalling g.M.Medium.step g.M.Medium.tells) g.W.Sink.step g.W.Sink.contents (over (layers_of c.args.fleet.now.state) c.args.fleet.now.medium) es
-    (over (layers_of c.run_events.new.fleet.state) c.run_events.new.fleet.medium) c.args.writer.now c.run_events.new.writer)) events c.run_events.ensures.ok
+    ap (λ t. kept_events t c.as_slice-2.result.now) (search rules)
+    ∙ ap (kept_events c.args.opening.now.text.items) (search rules) ∙ c.requires.ready.events in
+    subst (λ es. OnOk c.run_events.result (TranscribesBy (RanCalling g.M.Medium.step g.M.Medium.tells) g.W.Sink.step
+    g.W.Sink.contents (over (layers_of c.args.fleet.now.state) c.args.fleet.now.medium) es
+    (over (layers_of c.run_events.new.fleet.state) c.run_events.new.fleet.medium) c.args.writer.now
+    c.run_events.new.writer)) events c.run_events.ensures.ok
 
 pub returns-clause-err : goal.returns-clause-err
 returns-clause-err g c =
     let events : kept_events c.as_slice.result.now c.as_slice-2.result.now ≡ events_in c.args.opening.now.text.items =
-    ap (λ t. kept_events t c.as_slice-2.result.now) (search rules) ∙ ap (kept_events c.args.opening.now.text.items) (search rules) ∙ c.requires.ready.events in
-    subst (λ es. OnErr c.run_events.result (StopsAtBy (RanCalling g.M.Medium.step g.M.Medium.tells) g.W.Sink.step g.W.Sink.contents (over (layers_of c.args.fleet.now.state) c.args.fleet.now.medium) es
-    (over (layers_of c.run_events.new.fleet.state) c.run_events.new.fleet.medium) c.args.writer.now c.run_events.new.writer)) events c.run_events.ensures.err
+    ap (λ t. kept_events t c.as_slice-2.result.now) (search rules)
+    ∙ ap (kept_events c.args.opening.now.text.items) (search rules) ∙ c.requires.ready.events in
+    subst (λ es. OnErr c.run_events.result (StopsAtBy (RanCalling g.M.Medium.step g.M.Medium.tells) g.W.Sink.step
+    g.W.Sink.contents (over (layers_of c.args.fleet.now.state) c.args.fleet.now.medium) es
+    (over (layers_of c.run_events.new.fleet.state) c.run_events.new.fleet.medium) c.args.writer.now
+    c.run_events.new.writer)) events c.run_events.ensures.err

@@ -9,4 +9,5 @@ returns-in_default g c =
     let n = c.args.number in
     let looking = c.args.looking in
     let l = layers_of c.args.fleet.now.state in
-    shown-of n looking l.subsystem _ _ _ c.shown_in.ensures c.named.ensures c.spaces.ensures ∙ sym (shown-other n looking l c.in_default.not-Driver)
+    shown-of n looking l.subsystem _ _ _ c.shown_in.ensures c.named.ensures c.spaces.ensures
+    ∙ sym (shown-other n looking l c.in_default.not-Driver)

@@ -4,7 +4,7 @@ use Rattle.nvme_ns.specs.declared.refusal.SetupLine.TheVariants.{Attached}
 use Rattle.nvme_ns.specs.Refusals.{first_line, attachment_breaks}
 use Rattle.nvme_ns.proofs.refusal.bad_attachment.Given as goal
 
--- what is left decides
+-- the remaining lines decide
 abbrev pub invariant-loop-i : goal.invariant-loop-i
 invariant-loop-i l =
     first_line Attached (attachment_breaks (configuration l.config)) (take l.i l.attached) (drop l.i l.attached)

@@ -3,6 +3,7 @@ use Rattle.nvme_ns.specs.declared.refusal.SetupLine.TheVariants.{Controller}
 use Rattle.nvme_ns.specs.Refusals.{first_line, controller_breaks}
 use Rattle.nvme_ns.proofs.refusal.bad_controller.Given as goal
 
--- what is left decides
+-- the remaining lines decide
 abbrev pub invariant-loop-i : goal.invariant-loop-i
-invariant-loop-i l = first_line Controller controller_breaks (take l.i l.controllers) (drop l.i l.controllers) ≡ first_line Controller controller_breaks [] l.controllers
+invariant-loop-i l = first_line Controller controller_breaks (take l.i l.controllers) (drop l.i l.controllers)
+    ≡ first_line Controller controller_breaks [] l.controllers

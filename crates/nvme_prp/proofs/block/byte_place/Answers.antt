@@ -7,7 +7,8 @@ pub bounds-as_slice-0 : goal.bounds-as_slice-0
 bounds-as_slice-0 c = some-pieces _ _ _ c.as_slice.ensures.value c.args.pieces.now.pages c.requires
 
 pub returns-then-at-first-clause-block : goal.returns-then-at-first-clause-block
-returns-then-at-first-clause-block c = in-first _ _ _ c.as_slice.ensures.value c.args.pieces.now.pages c.requires c.if-at-first.true
+returns-then-at-first-clause-block c =
+    in-first _ _ _ c.as_slice.ensures.value c.args.pieces.now.pages c.requires c.if-at-first.true
 
 pub returns-else-at-first : goal.returns-else-at-first
 returns-else-at-first c =

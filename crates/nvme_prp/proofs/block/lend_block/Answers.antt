@@ -10,9 +10,11 @@ returns-in-One c =
     let whole = rw c.unwrap.ensures at c.as_array.ensures.cases in
     record {
       block =
-          run-read c.args.window.now c.in-One.address 512 _ _ _ refl refl (omega arith) (whole.same ∙ c.bytes.ensures.bytes)
+          run-read c.args.window.now c.in-One.address 512 _ _ _ refl refl (omega arith)
+          (whole.same ∙ c.bytes.ensures.bytes)
           ∙ ap (gathered_bytes c.args.window.now) (sym c.in-One.ensures.addresses);
     }
 
 pub returns-in-Two : goal.returns-in-Two
-returns-in-Two c = record { block = c.gather_two.ensures ∙ ap (gathered_bytes c.args.window.now) (sym c.in-Two.ensures.addresses) }
+returns-in-Two c =
+    record { block = c.gather_two.ensures ∙ ap (gathered_bytes c.args.window.now) (sym c.in-Two.ensures.addresses) }

@@ -10,7 +10,8 @@ returns-in-One c =
     let bytes : length c.args.block.now ≡ 512 = search rules in
     record {
       window =
-          run-store c.args.window.now c.in-One.address 512 _ _ _ refl c.copy_from_slice.ensures.after bytes (omega arith)
+          run-store c.args.window.now c.in-One.address 512 _ _ _ refl c.copy_from_slice.ensures.after
+          bytes (omega arith)
           ∙ ap (λ xs. with_scattered c.args.window.now xs c.args.block.now) (sym c.in-One.ensures.addresses);
     }
 
@@ -21,8 +22,10 @@ returns-in-Two c =
     let bytes : length c.args.block.now ≡ 512 = search rules in
     record {
       window =
-          two-store c.args.window.now c.in-Two.address c.in-Two.len _ c.in-Two.next (512 - c.in-Two.len) _ _ _ c.args.block.now
-          refl refl (c.copy_from_slice-in-Two.ensures.after ∙ c.split_at.ensures.front) (c.copy_from_slice-in-Two-2.ensures.after ∙ c.split_at.ensures.back)
+          two-store c.args.window.now c.in-Two.address c.in-Two.len _ c.in-Two.next
+          (512 - c.in-Two.len) _ _ _ c.args.block.now
+          refl refl (c.copy_from_slice-in-Two.ensures.after ∙ c.split_at.ensures.front)
+          (c.copy_from_slice-in-Two-2.ensures.after ∙ c.split_at.ensures.back)
           (omega (arith, bytes, lies.1)) (omega (arith, lies.2)) (omega (arith, lies.3))
           ∙ ap (λ xs. with_scattered c.args.window.now xs c.args.block.now) (sym c.in-Two.ensures.addresses);
     }

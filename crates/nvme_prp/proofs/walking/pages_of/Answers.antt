@@ -4,7 +4,16 @@ use Rattle.std.specs.List.{range_with_len}
 use Rattle.nvme_prp.specs.Walk.{list_of, list_tests, listed_piece}
 use Rattle.nvme_spec.specs.Pointer.{Transfer, transfer, first_fault, further_pages, room}
 use Rattle.nvme_spec.specs.declared.pointer.Piece.{Piece}
-use Rattle.nvme_prp.proofs.Judged.{first-fault, none-further, one-further, many-further, same-list, parts-none, parts-one, parts-many}
+use Rattle.nvme_prp.proofs.Judged.{
+  first-fault,
+  none-further,
+  one-further,
+  many-further,
+  same-list,
+  parts-none,
+  parts-one,
+  parts-many,
+}
 use Rattle.nvme_prp.proofs.walking.pages_of.Goals as goal
 
 pub returns-in_err-check-clause-fault : goal.returns-in_err-check-clause-fault
@@ -28,7 +37,8 @@ returns-in_err-walk_list-clause-fault c =
     let first = c.min-first.ensures in
     let more : 1 < further_pages t = omega arith in
     let rest : c.args.len - c.min-first.result ≡ t.bytes - room t.prp1 = omega arith in
-    let e = ap (λ l. first_fault (list_tests l)) (sym (same-list t (c.args.len - c.min-first.result) rest)) ∙ c.in_err-walk_list.ensures.err in
+    let e = ap (λ l. first_fault (list_tests l)) (sym (same-list t (c.args.len - c.min-first.result) rest))
+    ∙ c.in_err-walk_list.ensures.err in
     rw (p.1, p.2) (many-further t _ c.in_ok-check.ensures.judged more c.in_ok-check-2.ensures.judged ∙ e)
 
 pub returns-in_err-check-3-clause-fault : goal.returns-in_err-check-3-clause-fault
@@ -39,11 +49,13 @@ returns-in_err-check-3-clause-fault c =
     let one : further_pages t ≡ 1 = omega arith in
     rw (p.1, p.2) (one-further t _ c.in_ok-check.ensures.judged one c.in_err-check-3.ensures.judged)
 
--- the first piece stands alone
-started : (t : Transfer) (first : ℕ) (before after : List Piece) → before ≡ [] → first ≡ min t.bytes (room t.prp1) → after ≡ before ++ record { address = t.prp1; len = first } ∷ []
+-- there is only the first piece
+started : (t : Transfer) (first : ℕ) (before after : List Piece) → before ≡ [] → first ≡ min t.bytes (room t.prp1)
+    → after ≡ before ++ record { address = t.prp1; len = first } ∷ []
     → after ≡ record { address = t.prp1; len = min t.bytes (room t.prp1) } ∷ []
 started t first before after empty is pushed =
-    pushed ∙ ap (λ ps. ps ++ record { address = t.prp1; len = first } ∷ []) empty ∙ ap (λ n. record { address = t.prp1; len = n } ∷ []) is
+    pushed ∙ ap (λ ps. ps ++ record { address = t.prp1; len = first } ∷ []) empty
+    ∙ ap (λ n. record { address = t.prp1; len = n } ∷ []) is
 
 pub returns-in_ok-walk_list-clause-sound : goal.returns-in_ok-walk_list-clause-sound
 returns-in_ok-walk_list-clause-sound c =
@@ -52,7 +64,8 @@ returns-in_ok-walk_list-clause-sound c =
     let rest : c.args.len - c.min-first.result ≡ t.bytes - room t.prp1 = omega arith in
     let more : 1 < further_pages t = omega arith in
     many-further t None c.in_ok-check.ensures.judged more c.in_ok-check-2.ensures.judged
-    ∙ ap (λ l. first_fault (list_tests l)) (sym (same-list t (c.args.len - c.min-first.result) rest)) ∙ c.in_ok-walk_list.ensures.ok.0
+    ∙ ap (λ l. first_fault (list_tests l)) (sym (same-list t (c.args.len - c.min-first.result) rest))
+    ∙ c.in_ok-walk_list.ensures.ok.0
 
 pub returns-in_ok-walk_list-clause-parts : goal.returns-in_ok-walk_list-clause-parts
 returns-in_ok-walk_list-clause-parts c =
@@ -64,8 +77,10 @@ returns-in_ok-walk_list-clause-parts c =
     let piece : Piece = record { address = t.prp1; len = min t.bytes (room t.prp1) } in
     let start = started t _ _ _ c.requires.empty first c.push.ensures.items in
     c.in_ok-walk_list.ensures.ok.1
-    ∙ ap (λ ps. ps ++ map (listed_piece (list_of t.window t.prp2 left) left) (range_with_len 0 ((left + 4095) / 4096))) start
-    ∙ ap (λ n. piece ∷ map (listed_piece (list_of t.window t.prp2 left) left) (range_with_len 0 ((n + 4095) / 4096))) rest
+    ∙ ap
+    (λ ps. ps ++ map (listed_piece (list_of t.window t.prp2 left) left) (range_with_len 0 ((left + 4095) / 4096))) start
+    ∙ ap
+    (λ n. piece ∷ map (listed_piece (list_of t.window t.prp2 left) left) (range_with_len 0 ((n + 4095) / 4096))) rest
     ∙ sym (parts-many t left more rest)
 
 pub returns-in_ok-check-3-clause-sound : goal.returns-in_ok-check-3-clause-sound
@@ -82,7 +97,8 @@ returns-in_ok-check-3-clause-parts c =
     let rest : c.args.len - c.min-first.result ≡ t.bytes - room t.prp1 = omega arith in
     let one : further_pages t ≡ 1 = omega arith in
     let start = started t _ _ _ c.requires.empty first c.push.ensures.items in
-    c.push-then-rest-gt0.ensures.items ∙ ap (λ ps. ps ++ record { address = c.args.prp2; len = c.args.len - c.min-first.result } ∷ []) start
+    c.push-then-rest-gt0.ensures.items
+    ∙ ap (λ ps. ps ++ record { address = c.args.prp2; len = c.args.len - c.min-first.result } ∷ []) start
     ∙ sym (parts-one t (c.args.len - c.min-first.result) one rest)
 
 pub returns-else-rest-gt0-clause-sound : goal.returns-else-rest-gt0-clause-sound

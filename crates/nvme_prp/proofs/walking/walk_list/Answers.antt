@@ -9,11 +9,14 @@ use Rattle.nvme_spec.specs.Pointer.{PageList, first_fault, entry_tests}
 use Rattle.nvme_prp.proofs.Turns.{IsShort, Reached, turn, page-fault, next-fault, found-length}
 use Rattle.nvme_prp.proofs.walking.walk_list.Goals as goal
 
-short : (window : List ℕ) (start bytes : ℕ) → start % 8 ≡ 0 → start < 4194304 → bytes ≤ most_bytes → IsShort (list_of window start bytes)
+short : (window : List ℕ) (start bytes : ℕ) → start % 8 ≡ 0 → start < 4194304 → bytes ≤ most_bytes
+    → IsShort (list_of window start bytes)
 short window start bytes a b s = record { aligned = a; in_window = b; short = omega arith }
 
 -- once all entries are read, no test is left
-done : (l : PageList) (bytes j left at : ℕ) (before parts : List Piece) → Reached l bytes j left at before parts → l.pages ≤ j → (first_fault (list_tests l) ≡ None) × (parts ≡ before ++ map (listed_piece l bytes) (range_with_len 0 l.pages))
+done : (l : PageList) (bytes j left at : ℕ) (before parts : List Piece)
+    → Reached l bytes j left at before parts → l.pages ≤ j
+    → (first_fault (list_tests l) ≡ None) × (parts ≡ before ++ map (listed_piece l bytes) (range_with_len 0 l.pages))
 unfolding first_fault
 done l bytes j left at before parts r h =
     let within = r.within in
@@ -31,7 +34,8 @@ returns-in_err-slot-clause-err c =
     let count = c.loop-j.invariant.count in
     let e = c.in_err-slot.ensures.err in
     let more = ltb-true _ _ e.0 in
-    rw (p.1, p.2) (next-fault l c.args.rest c.loop-j.j c.loop-j.left c.loop-j.slot c.args.parts.now.items c.loop-j.parts.items c.in_err-slot.field-0.0 c.loop-j.invariant.reached s (omega arith) (omega arith) e.1 e.2)
+    rw (p.1, p.2) (next-fault l c.args.rest c.loop-j.j c.loop-j.left c.loop-j.slot c.args.parts.now.items
+    c.loop-j.parts.items c.in_err-slot.field-0.0 c.loop-j.invariant.reached s (omega arith) (omega arith) e.1 e.2)
 
 pub returns-in_err-check-clause-err : goal.returns-in_err-check-clause-err
 returns-in_err-check-clause-err c =
@@ -41,7 +45,9 @@ returns-in_err-check-clause-err c =
     let f = rw c.loop-j.invariant.count at c.in_ok-slot.ensures.ok in
     let count = c.loop-j.invariant.count in
     let fault = rw c.u64_at-page.ensures.number at c.in_err-check.ensures.judged in
-    rw (p.1, p.2) (page-fault l c.args.rest c.loop-j.j c.loop-j.left c.loop-j.slot c.in_ok-slot.slot c.args.parts.now.items c.loop-j.parts.items c.in_err-check.field-0.0 c.loop-j.invariant.reached s (omega arith) f fault)
+    rw (p.1, p.2)
+    (page-fault l c.args.rest c.loop-j.j c.loop-j.left c.loop-j.slot c.in_ok-slot.slot c.args.parts.now.items
+    c.loop-j.parts.items c.in_err-check.field-0.0 c.loop-j.invariant.reached s (omega arith) f fault)
 
 pub push-requires : goal.push-requires
 push-requires c =
@@ -60,7 +66,8 @@ loop-j-preserved c =
       count = c.loop-j.invariant.count;
       reached =
           rw (c.push.ensures.items, c.u64_at-page.ensures.number, c.min-len.ensures)
-          (turn l c.args.rest c.loop-j.j c.loop-j.left c.loop-j.slot c.in_ok-slot.slot c.args.parts.now.items c.loop-j.parts.items c.loop-j.invariant.reached s (omega arith) f ok);
+          (turn l c.args.rest c.loop-j.j c.loop-j.left c.loop-j.slot c.in_ok-slot.slot c.args.parts.now.items
+          c.loop-j.parts.items c.loop-j.invariant.reached s (omega arith) f ok);
     }
 
 pub returns-clause-ok : goal.returns-clause-ok

@@ -9,16 +9,20 @@ blank = record { address = 0; len = 0 }
 pub overflow_add-end : goal.overflow_add-end
 overflow_add-end c =
     let inside = piece-fits _ _ _ blank c.loop-piece.invariant.items c.args.pieces.now.pages c.loop-piece-test.true in
-    let room = gathering-fits _ _ _ _ _ _ blank c.loop-piece.invariant.items c.loop-piece.invariant.gathering c.loop-piece-test.true in
+    let room = gathering-fits _ _ _ _ _ _ blank c.loop-piece.invariant.items c.loop-piece.invariant.gathering
+    c.loop-piece-test.true in
     record { fits = omega arith }
 
 pub slice_bounds-copy_from_slice-end : goal.slice_bounds-copy_from_slice-end
 slice_bounds-copy_from_slice-end c =
-    let room = gathering-fits _ _ _ _ _ _ blank c.loop-piece.invariant.items c.loop-piece.invariant.gathering c.loop-piece-test.true in
+    let room = gathering-fits _ _ _ _ _ _ blank c.loop-piece.invariant.items c.loop-piece.invariant.gathering
+    c.loop-piece-test.true in
     omega arith
 
 pub bytes-requires : goal.bytes-requires
-bytes-requires c = record { inside = piece-fits _ _ _ blank c.loop-piece.invariant.items c.args.pieces.now.pages c.loop-piece-test.true }
+bytes-requires c = record {
+  inside = piece-fits _ _ _ blank c.loop-piece.invariant.items c.args.pieces.now.pages c.loop-piece-test.true;
+}
 
 pub loop-piece-preserved : goal.loop-piece-preserved
 loop-piece-preserved c =
@@ -28,7 +32,8 @@ loop-piece-preserved c =
       items = e;
       gathering =
           rw e
-          (gathering-turn _ _ _ _ _ _ _ _ blank c.args.pieces.now.pages c.bytes.ensures.whole_len c.loop-piece.invariant.gathering (omega (arith, ap length e)) refl (omega arith)
+          (gathering-turn _ _ _ _ _ _ _ _ blank c.args.pieces.now.pages c.bytes.ensures.whole_len
+          c.loop-piece.invariant.gathering (omega (arith, ap length e)) refl (omega arith)
           (rw e at (c.copy_from_slice.ensures.after ∙ c.bytes.ensures.bytes)));
     }
 

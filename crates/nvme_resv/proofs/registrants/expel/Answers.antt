@@ -5,4 +5,5 @@ use Rattle.nvme_resv.proofs.registrants.expel.Goals as goal
 
 pub returns-clause-stay : goal.returns-clause-stay
 returns-clause-stay c =
-    filter-from_retain _ (λ r. not (leaves_test c.args.key c.args.spared r)) _ (λ x b f' y k. search rules) _ _ c.retain.ensures.filtered
+    filter-from_retain _ (λ r. not (leaves_test c.args.key c.args.spared r)) _
+    (λ x b f' y k. search rules) _ _ c.retain.ensures.filtered

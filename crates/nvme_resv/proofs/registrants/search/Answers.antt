@@ -6,4 +6,5 @@ use Rattle.nvme_resv.proofs.registrants.search.Goals as goal
 pub returns : goal.returns
 returns c =
     let facts = c.binary_search_by_key.ensures in
-    searched _ c.requires c.args.host _ facts.bound (facts.position (λ r. r.host) (answers_always _ _ _ (λ f a r g called. search rules)))
+    searched _ c.requires c.args.host _ facts.bound
+    (facts.position (λ r. r.host) (answers_always _ _ _ (λ f a r g called. search rules)))

@@ -14,7 +14,16 @@ second other (name ∷ next ∷ names) = next
 
 pub returns-clause-ends : goal.returns-clause-ends
 unfolding ScriptProgramEnds
-returns-clause-ends g c = (c.args.streams.now, c.launch.new.runner, refl, refl, refl, refl, c.launch.ensures.ends)
+returns-clause-ends g c = (
+  c.args.streams.now,
+  c.launch.new.runner,
+  refl,
+  refl,
+  c.requires.allowed,
+  refl,
+  refl,
+  rw c.after_any_size.ensures at c.launch.ensures.ends,
+)
 
 pub returns-clause-input : goal.returns-clause-input
 returns-clause-input g c = ap (first c.args.streams.now.input_name) c.launch.ensures.links

@@ -10,7 +10,9 @@ use Rattle.nvme_script.proofs.run.run_events.Given as goal
 -- the events so far have happened
 abbrev pub invariant-loop-kept : goal.invariant-loop-kept
 invariant-loop-kept g l = record {
-  called : TranscribesBy (RanCalling g.M.Medium.step g.M.Medium.tells) g.W.Sink.step g.W.Sink.contents (over (layers_of l.fn.fleet.state) l.fn.fleet.medium) (kept_events l.text (take l.kept-index l.events)) (over (layers_of l.fleet.state) l.fleet.medium)
+  called : TranscribesBy (RanCalling g.M.Medium.step g.M.Medium.tells) g.W.Sink.step g.W.Sink.contents
+      (over (layers_of l.fn.fleet.state) l.fn.fleet.medium) (kept_events l.text (take l.kept-index l.events))
+      (over (layers_of l.fleet.state) l.fleet.medium)
       l.fn.writer l.writer;
   unmarked : l.marks ≡ no_marks;
 }

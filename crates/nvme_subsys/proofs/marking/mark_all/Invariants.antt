@@ -4,4 +4,5 @@ use Rattle.nvme_subsys.proofs.marking.mark_all.Given as goal
 
 -- those before i are marked
 abbrev pub invariant-loop-i : goal.invariant-loop-i
-invariant-loop-i l = l.controllers ≡ marked_from l.spaces l.marks 1 (take l.i l.initial.controllers) ++ drop l.i l.initial.controllers
+invariant-loop-i l =
+    l.controllers ≡ marked_from l.spaces l.marks 1 (take l.i l.initial.controllers) ++ drop l.i l.initial.controllers

@@ -4,7 +4,7 @@ use Rattle.nvme_spec.specs.declared.config.ControllerConfig.{ControllerConfig}
 use Rattle.nvme_machine.specs.Controllers.{new_controller}
 use Rattle.nvme_subsys.proofs.opening.controllers_of.Given as goal
 
--- the controllers so far, and there is room for the rest
+-- the controllers so far, with memory for the rest
 abbrev pub invariant-loop-config : goal.invariant-loop-config
 invariant-loop-config l = record {
   made : l.controllers.items ≡ map (λ (k : ControllerConfig). new_controller k.cntlid) (take l.config-index l.configs);

@@ -11,7 +11,8 @@ returns-in-None-clause-text c =
     let front = c.in_ok-len.ensures in
     let back = c.split_at.ensures.back in
     let stop = stops-end line k (ap length (sym back) ∙ c.in-None.ensures.cases) in
-    ap is_line_text back ∙ front-text line k c.in_ok-len.number front.within (omega (arith, c.if-len-eq0.false)) front.digits stop
+    ap is_line_text back
+    ∙ front-text line k c.in_ok-len.number front.within (omega (arith, c.if-len-eq0.false)) front.digits stop
 
 pub returns-in-None-clause-words : goal.returns-in-None-clause-words
 returns-in-None-clause-words c =
@@ -20,7 +21,8 @@ returns-in-None-clause-words c =
     let front = c.in_ok-len.ensures in
     let back = c.split_at.ensures.back in
     let stop = stops-end line k (ap length (sym back) ∙ c.in-None.ensures.cases) in
-    rw back (front-number line k c.in_ok-len.number front.within (omega (arith, c.if-len-eq0.false)) front.digits stop front.value front.fits)
+    rw back (front-number line k c.in_ok-len.number front.within
+    (omega (arith, c.if-len-eq0.false)) front.digits stop front.value front.fits)
 
 pub returns-in-Some-clause-text : goal.returns-in-Some-clause-text
 returns-in-Some-clause-text c =
@@ -47,5 +49,7 @@ returns-in-Some-clause-words c =
     let parts : c.split_at.result.1.now ≡ s ∷ rest = search rules in
     let split : drop k line ≡ s ∷ rest = sym c.split_at.ensures.back ∙ parts in
     let stop = stops-separator line k s rest split apart in
-    let behind : line_words c.behind_separators.result.now ≡ line_words (drop k line) = c.behind_separators.ensures.words ∙ sym (separator-words s rest apart) ∙ ap line_words (sym split) in
-    rw behind (front-number line k c.in_ok-len.number front.within (omega (arith, c.if-len-eq0.false)) front.digits stop front.value front.fits)
+    let behind : line_words c.behind_separators.result.now ≡ line_words (drop k line) =
+    c.behind_separators.ensures.words ∙ sym (separator-words s rest apart) ∙ ap line_words (sym split) in
+    rw behind (front-number line k c.in_ok-len.number front.within
+    (omega (arith, c.if-len-eq0.false)) front.digits stop front.value front.fits)

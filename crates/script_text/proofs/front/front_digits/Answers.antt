@@ -11,7 +11,8 @@ loop-len-preserved c =
     let below : c.loop-len.len < length line = c.loop-len-test.true in
     record {
       within = omega arith;
-      digits = rw (list_all_more (is_digit 10) line c.loop-len.len 0 below, c.loop-len.invariant.digits) (grind (arith, common_steps, c.in-Some.ensures));
+      digits = rw (list_all_more (is_digit 10) line c.loop-len.len 0 below, c.loop-len.invariant.digits)
+          (grind (arith, common_steps, c.in-Some.ensures));
       value = rw (digits_value_more 10 line c.loop-len.len below) (grind (arith, common_steps, c.in-Some.ensures));
       fits = grind (arith, common_steps);
     }

@@ -18,15 +18,20 @@ loop-chunk-preserved c =
     let ends = c.in-Some.ensures.cases in
     let joined : chunk ++ behind ≡ rest = rw (ends.0, ends.1) (take-append-drop 128 rest) in
     let lengths : length behind + 128 ≡ length rest = ends.2 in
-    let digits : c.copy_from_slice.new.self ≡ flat_map hex_pair chunk = c.copy_from_slice.ensures.after ∙ c.encode.ensures in
+    let digits : c.copy_from_slice.new.self ≡ flat_map hex_pair chunk =
+    c.copy_from_slice.ensures.after ∙ c.encode.ensures in
     let wide : k ≡ 256 = omega arith in
-    let long : length c.copy_from_slice.new.self ≡ k = ap length c.copy_from_slice.ensures.after ∙ c.encode.array_long ∙ sym wide in
+    let long : length c.copy_from_slice.new.self ≡ k =
+    ap length c.copy_from_slice.ensures.after ∙ c.encode.array_long ∙ sym wide in
     let within : at + k ≤ length buffer = omega (arith, wide, lengths, inv.place, inv.size) in
     record {
-      size = put-length buffer c.copy_from_slice.new.self (flat_map hex_pair c.args.bytes.now) at k within long ∙ inv.size;
+      size =
+          put-length buffer c.copy_from_slice.new.self (flat_map hex_pair c.args.bytes.now) at k within long ∙ inv.size;
       place = omega (arith, inv.place, lengths);
-      encoded = ap (λ n. take n (put_mid at k buffer c.copy_from_slice.new.self) ++ flat_map hex_pair behind) (ap (λ n. at + n) (sym wide))
-          ∙ chunk-put buffer c.copy_from_slice.new.self (flat_map hex_pair c.args.bytes.now) at k within long chunk behind rest digits joined inv.encoded;
+      encoded = ap (λ n. take n (put_mid at k buffer c.copy_from_slice.new.self) ++ flat_map hex_pair behind)
+          (ap (λ n. at + n) (sym wide))
+          ∙ chunk-put buffer c.copy_from_slice.new.self
+          (flat_map hex_pair c.args.bytes.now) at k within long chunk behind rest digits joined inv.encoded;
     }
 
 pub returns : goal.returns
@@ -37,7 +42,10 @@ returns c =
     let k = length buffer - at in
     let rest = c.loop-chunk.rest.now in
     let digits : c.copy_from_slice-2.new.self ≡ flat_map hex_pair rest =
-    c.copy_from_slice-2.ensures.after ∙ ap (take (2 * length rest)) c.encode-2.ensures ∙ pairs-take (length rest) c.padded.result ∙ ap (flat_map hex_pair) c.padded.ensures in
+    c.copy_from_slice-2.ensures.after ∙ ap (take (2 * length rest)) c.encode-2.ensures
+    ∙ pairs-take (length rest) c.padded.result ∙ ap (flat_map hex_pair) c.padded.ensures in
     let end : at + k ≡ length buffer = omega (arith, inv.place, inv.size) in
-    let long : length c.copy_from_slice-2.new.self ≡ k = ap length digits ∙ length-pairs rest ∙ omega (arith, inv.place, inv.size) in
-    last-put buffer c.copy_from_slice-2.new.self (flat_map hex_pair c.args.bytes.now) at k (omega (arith, end)) long rest digits end inv.encoded
+    let long : length c.copy_from_slice-2.new.self ≡ k =
+    ap length digits ∙ length-pairs rest ∙ omega (arith, inv.place, inv.size) in
+    last-put buffer c.copy_from_slice-2.new.self (flat_map hex_pair c.args.bytes.now) at k
+    (omega (arith, end)) long rest digits end inv.encoded

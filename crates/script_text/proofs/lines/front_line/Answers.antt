@@ -16,7 +16,8 @@ returns-in-Some-clause-lines c =
     let front = c.split_at.ensures.front ∙ ap (λ k. take k text) c.line_len.ensures in
     let back = c.split_at.ensures.back ∙ ap (λ k. drop k text) c.line_len.ensures in
     let parts : c.split_at.result.1.now ≡ c.in-Some.field-0-0.now ∷ c.in-Some.rest.now = search rules in
-    first_line text ∙ ap (λ t. t ∷ lines_behind (drop n text)) (sym front) ∙ ap (λ t. c.split_at.result.0.now ∷ lines_behind t) (sym back ∙ parts)
+    first_line text ∙ ap (λ t. t ∷ lines_behind (drop n text)) (sym front)
+    ∙ ap (λ t. c.split_at.result.0.now ∷ lines_behind t) (sym back ∙ parts)
 
 pub returns-in-None-clause-lines : goal.returns-in-None-clause-lines
 returns-in-None-clause-lines c =
@@ -37,10 +38,13 @@ returns-in-Some-clause-end c =
     rest-is-end text n c.in-Some.field-0-0.now c.in-Some.rest.now whole
 
 pub returns-in-Some-clause-longest : goal.returns-in-Some-clause-longest
-returns-in-Some-clause-longest c = longest-first c.args.text.now c.split_at.result.0.now (text_lines c.in-Some.rest.now) (returns-in-Some-clause-lines c)
+returns-in-Some-clause-longest c = longest-first c.args.text.now c.split_at.result.0.now (text_lines c.in-Some.rest.now)
+    (returns-in-Some-clause-lines c)
 
 pub returns-in-None-clause-longest : goal.returns-in-None-clause-longest
-returns-in-None-clause-longest c = longest-first c.args.text.now c.split_at.result.0.now [] (returns-in-None-clause-lines c)
+returns-in-None-clause-longest c =
+    longest-first c.args.text.now c.split_at.result.0.now [] (returns-in-None-clause-lines c)
 
 pub returns-in-Some-clause-left : goal.returns-in-Some-clause-left
-returns-in-Some-clause-left c = longest-behind c.args.text.now c.split_at.result.0.now (text_lines c.in-Some.rest.now) (returns-in-Some-clause-lines c)
+returns-in-Some-clause-left c = longest-behind c.args.text.now c.split_at.result.0.now (text_lines c.in-Some.rest.now)
+    (returns-in-Some-clause-lines c)

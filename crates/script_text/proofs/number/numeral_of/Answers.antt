@@ -11,8 +11,12 @@ pub loop-byte-preserved : goal.loop-byte-preserved
 loop-byte-preserved c =
     let below : c.loop-byte.byte-index < length c.args.digits.now = omega arith in
     record {
-      digits = rw (list_all_more (is_digit c.args.base) c.args.digits.now c.loop-byte.byte-index 0 below, c.loop-byte.invariant.digits) (grind (arith, common_steps, c.in_ok-digit.ensures));
-      value = rw (digits_value_more c.args.base c.args.digits.now c.loop-byte.byte-index below) (grind (arith, common_steps, c.in_ok-digit.ensures));
+      digits = rw (
+        list_all_more (is_digit c.args.base) c.args.digits.now c.loop-byte.byte-index 0 below,
+        c.loop-byte.invariant.digits,
+      ) (grind (arith, common_steps, c.in_ok-digit.ensures));
+      value = rw (digits_value_more c.args.base c.args.digits.now c.loop-byte.byte-index below)
+          (grind (arith, common_steps, c.in_ok-digit.ensures));
       fits = grind (arith, common_steps);
     }
 
@@ -21,7 +25,8 @@ returns-in_err-checked_mul c =
     let digits = c.args.digits.now in
     let next = digits_value_more c.args.base digits c.loop-byte.byte-index c.loop-byte-test.true in
     let most = digits_value-take-le c.args.base digits (c.loop-byte.byte-index + 1) (omega arith) in
-    let large : 2 ^ 64 ≤ digits_value c.args.base (take (c.loop-byte.byte-index + 1) digits) = grind (arith, common_steps) in
+    let large : 2 ^ 64 ≤ digits_value c.args.base (take (c.loop-byte.byte-index + 1) digits) =
+    grind (arith, common_steps) in
     rw (below-too_large (2 ^ 64) c.args.base digits (omega arith)) (search rules)
 
 pub returns-in_err-value : goal.returns-in_err-value
@@ -29,7 +34,8 @@ returns-in_err-value c =
     let digits = c.args.digits.now in
     let next = digits_value_more c.args.base digits c.loop-byte.byte-index c.loop-byte-test.true in
     let most = digits_value-take-le c.args.base digits (c.loop-byte.byte-index + 1) (omega arith) in
-    let large : 2 ^ 64 ≤ digits_value c.args.base (take (c.loop-byte.byte-index + 1) digits) = grind (arith, common_steps) in
+    let large : 2 ^ 64 ≤ digits_value c.args.base (take (c.loop-byte.byte-index + 1) digits) =
+    grind (arith, common_steps) in
     rw (below-too_large (2 ^ 64) c.args.base digits (omega arith)) (search rules)
 
 pub returns : goal.returns

@@ -7,7 +7,8 @@ use Rattle.script_text.proofs.reading.read_text.Given as goal
 abbrev pub invariant-loop-chunk : goal.invariant-loop-chunk
 invariant-loop-chunk g l = record {
   rest : (outcome : Result (List ℕ) ReadFault) (new : g.row.R.Denot)
-      → ReadsOn g.R.Source.step g.R.Source.remaining l.text.items l.reader outcome new → IsRead g.R.Source.step g.R.Source.remaining l.fn.reader outcome new;
+      → ReadsOn g.R.Source.step g.R.Source.remaining l.text.items l.reader outcome new
+      → IsRead g.R.Source.step g.R.Source.remaining l.fn.reader outcome new;
   bound : vec_len l.text ≤ 4194305;
 }
 

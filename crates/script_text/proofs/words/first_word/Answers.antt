@@ -2,7 +2,15 @@ use Rattle.std.proofs.Common.{◌≡◌, ◌<◌, ◌∷◌, arith, length, take
 use Rattle.std.proofs.lemmas.List.Sums.{prefix_len-le-length}
 use Rattle.std.proofs.lemmas.Grind.{common_steps}
 use Rattle.script_text.specs.Words.{line_words, is_visible, is_line_text, is_separator}
-use Rattle.script_text.proofs.WordLemmas.{behind-text, front-words, separator-words, separator-text, no_end, word-behind, word-last}
+use Rattle.script_text.proofs.WordLemmas.{
+  behind-text,
+  front-words,
+  separator-words,
+  separator-text,
+  no_end,
+  word-behind,
+  word-last,
+}
 use Rattle.script_text.proofs.words.first_word.Goals as goal
 
 pub split_at-requires : goal.split_at-requires
@@ -28,7 +36,8 @@ returns-in-Some-clause-text c =
     let back = c.split_at.ensures.back ∙ ap (λ k. drop k line) c.word_len.ensures in
     let parts : c.split_at.result.1.now ≡ c.in-Some.separator.now ∷ c.in-Some.behind.now = search rules in
     let apart : is_separator c.in-Some.separator.now ≡ true = search rules in
-    c.behind_separators.ensures.text ∙ sym (separator-text c.in-Some.separator.now c.in-Some.behind.now apart) ∙ ap is_line_text (sym parts) ∙ ap is_line_text back ∙ behind-text line
+    c.behind_separators.ensures.text ∙ sym (separator-text c.in-Some.separator.now c.in-Some.behind.now apart)
+    ∙ ap is_line_text (sym parts) ∙ ap is_line_text back ∙ behind-text line
 
 pub returns-in-Some-clause-words : goal.returns-in-Some-clause-words
 returns-in-Some-clause-words c =
@@ -38,7 +47,8 @@ returns-in-Some-clause-words c =
     let some : 0 < length c.split_at.result.0.now = grind (arith, common_steps) in
     let parts : c.split_at.result.1.now ≡ c.in-Some.separator.now ∷ c.in-Some.behind.now = search rules in
     let apart : is_separator c.in-Some.separator.now ≡ true = search rules in
-    let behind = c.behind_separators.ensures.words ∙ sym (separator-words c.in-Some.separator.now c.in-Some.behind.now apart) ∙ ap line_words (sym parts) in
+    let behind = c.behind_separators.ensures.words
+    ∙ sym (separator-words c.in-Some.separator.now c.in-Some.behind.now apart) ∙ ap line_words (sym parts) in
     λ text. front-words line text (rw (← front) some) ∙ rw (← front, ← back, behind) refl
 
 pub returns-in-Some-2-clause-none : goal.returns-in-Some-2-clause-none
@@ -62,4 +72,5 @@ returns-in-Some-clause-exact c =
     let back = c.split_at.ensures.back ∙ ap (λ k. drop k line) c.word_len.ensures in
     let parts : c.split_at.result.1.now ≡ c.in-Some.separator.now ∷ c.in-Some.behind.now = search rules in
     let apart : is_separator c.in-Some.separator.now ≡ true = search rules in
-    word-behind line _ c.in-Some.behind.now c.in-Some.separator.now (sym back ∙ parts) apart c.behind_separators.ensures.exact
+    word-behind line _ c.in-Some.behind.now c.in-Some.separator.now
+    (sym back ∙ parts) apart c.behind_separators.ensures.exact

@@ -10,7 +10,8 @@ invariant-loop-written g l = record {
   within : l.written ≤ length l.bytes;
   appended : Appends (g.W.Sink.contents l.fn.writer) (g.W.Sink.contents l.writer) (take l.written l.bytes);
   rest : (outcome : Result (Unit {0}) Error) (new : g.row.W.Denot)
-      → IsWritten g.W.Sink.step (drop l.written l.bytes) l.writer outcome new → IsWritten g.W.Sink.step l.bytes l.fn.writer outcome new;
+      → IsWritten g.W.Sink.step (drop l.written l.bytes) l.writer outcome new
+      → IsWritten g.W.Sink.step l.bytes l.fn.writer outcome new;
 }
 
 abbrev pub decreases-loop-written : goal.decreases-loop-written

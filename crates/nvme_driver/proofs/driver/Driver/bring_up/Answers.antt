@@ -4,11 +4,13 @@ use Rattle.nvme_driver.proofs.driver.Driver.bring_up.Goals as goal
 
 pub returns-then-not-start-clause-rises : goal.returns-then-not-start-clause-rises
 returns-then-not-start-clause-rises g c =
-    λ u. rises-not g.P.Port.step g.P.Port.bytes c.args.self.now _ _ _ c.if-not-start.ensures.calls c.start.ensures.driver
+    λ u.
+    rises-not g.P.Port.step g.P.Port.bytes c.args.self.now _ _ _ c.if-not-start.ensures.calls c.start.ensures.driver
 
 pub returns-in_err-judge-clause-rises : goal.returns-in_err-judge-clause-rises
 returns-in_err-judge-clause-rises g c =
-    λ u. rises-first g.P.Port.step g.P.Port.bytes c.args.self.now c.start.new.self _ _ _ _ _ c.create.result c.judge.result
+    λ u.
+    rises-first g.P.Port.step g.P.Port.bytes c.args.self.now c.start.new.self _ _ _ _ _ c.create.result c.judge.result
     c.from_residual.result c.in_err-judge.field-0.0 c.if-not-start.ensures.calls c.start.ensures.driver
     c.completion_queue.ensures c.create.ensures.creates c.judge.ensures c.in_err-judge.was (search rules)
 

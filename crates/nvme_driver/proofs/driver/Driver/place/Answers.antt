@@ -7,9 +7,11 @@ pub returns-clause-holds : goal.returns-clause-holds
 returns-clause-holds g c = (
   c.in_ok-slot.slot,
   search rules,
-  holds c.args.self.now _ _ _ _ _ _ _ c.args.request.now c.in_ok-slot.slot _ _ (c.submission_queue.result + 64 * c.from.result) c.store.ensures.whole (search rules)
+  holds c.args.self.now _ _ _ _ _ _ _ c.args.request.now c.in_ok-slot.slot _ _
+      (c.submission_queue.result + 64 * c.from.result) c.store.ensures.whole (search rules)
       (search rules) (search rules) c.data_area.ensures c.payload.ensures.bytes refl
-      (search rules) (search rules) (search rules) c.store.ensures.bytes c.store_page_list.ensures.bytes c.store-2.ensures.bytes c.entry.ensures.says,
+      (search rules) (search rules) (search rules) c.store.ensures.bytes c.store_page_list.ensures.bytes
+      c.store-2.ensures.bytes c.entry.ensures.says,
 )
 
 pub invariant_of-self : goal.invariant_of-self

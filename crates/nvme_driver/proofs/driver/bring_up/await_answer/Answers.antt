@@ -16,7 +16,8 @@ loop-preserved g c =
     sym (ap (own_answer c.args.ends) c.window.ensures) ∙ sym c.own_answer.ensures ∙ c.in_default.is in
     let p : 4 - c.loop.counter ≡ suc (4 - (c.loop.counter + 1)) = omega (arith, c.loop-test.true) in
     record {
-      rest = λ answer new h. c.loop.invariant.rest _ _ (awaits-more _ _ (4 - c.loop.counter) (4 - (c.loop.counter + 1)) _ _ _ _ p c.turn.ensures.step e h);
+      rest = λ answer new h. c.loop.invariant.rest _ _
+          (awaits-more _ _ (4 - c.loop.counter) (4 - (c.loop.counter + 1)) _ _ _ _ p c.turn.ensures.step e h);
       links = c.turn.ensures.links ∙ c.loop.invariant.links;
     }
 

@@ -3,10 +3,12 @@ use Rattle.nvme_driver.specs.Calls.{Awaits}
 use Rattle.nvme_driver.specs.Rises.{own_answer}
 use Rattle.nvme_driver.proofs.driver.bring_up.await_answer.Given as goal
 
--- whatever the turns that are left come to, all four come to
+-- the outcome of the remaining turns is that of all four
 abbrev pub invariant-loop : goal.invariant-loop
 invariant-loop g l =
     record {
-      rest : (answer : Option (List ℕ)) (new : g.row.P.Denot) → Awaits g.P.Port.step (λ p. own_answer l.ends (g.P.Port.bytes p)) (4 - l.counter) l.port answer new → Awaits g.P.Port.step (λ p. own_answer l.ends (g.P.Port.bytes p)) 4 l.fn.port answer new;
+      rest : (answer : Option (List ℕ)) (new : g.row.P.Denot)
+          → Awaits g.P.Port.step (λ p. own_answer l.ends (g.P.Port.bytes p)) (4 - l.counter) l.port answer new
+          → Awaits g.P.Port.step (λ p. own_answer l.ends (g.P.Port.bytes p)) 4 l.fn.port answer new;
       links : g.P.Port.links l.port ≡ g.P.Port.links l.fn.port;
     }

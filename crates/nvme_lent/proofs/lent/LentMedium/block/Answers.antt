@@ -4,4 +4,5 @@ use Rattle.nvme_lent.proofs.Whole.{block-inside}
 use Rattle.nvme_lent.proofs.lent.LentMedium.block.Goals as goal
 
 pub returns-clause-block : goal.returns-clause-block
-returns-clause-block c = let self = c.args.self.now in ap (λ xs. block_at xs c.args.i) c.deref.ensures.value ∙ block-inside self.bytes.items self.blocks c.args.i c.requires
+returns-clause-block c = let self = c.args.self.now in ap (λ xs. block_at xs c.args.i) c.deref.ensures.value
+    ∙ block-inside self.bytes.items self.blocks c.args.i c.requires

@@ -8,8 +8,10 @@ returns-clause-step c =
     let long : length c.args.block.now ≡ 512 = search rules in
     let within : at + 512 ≤ 512 * self.blocks = omega (arith, c.requires) in (
       refl,
-      blocks-put self at 512 c.deref_mut.result.now c.copy_from_slice.new.self c.args.block.now c.deref_mut.ensures.value c.copy_from_slice.ensures.after long within,
-      behind-put self at 512 c.deref_mut.result.now c.copy_from_slice.new.self c.args.block.now c.deref_mut.ensures.value c.copy_from_slice.ensures.after long within,
+      blocks-put self at 512 c.deref_mut.result.now c.copy_from_slice.new.self c.args.block.now
+          c.deref_mut.ensures.value c.copy_from_slice.ensures.after long within,
+      behind-put self at 512 c.deref_mut.result.now c.copy_from_slice.new.self c.args.block.now
+          c.deref_mut.ensures.value c.copy_from_slice.ensures.after long within,
       refl,
       refl,
     )

@@ -1,4 +1,4 @@
--- A right to bytes says the same to every thread.
+-- The right to bytes means the same in every thread.
 use base.Shift.{Keyless}
 use denote.Array.{Array}
 use denote.Builtin.{u8}
@@ -21,4 +21,5 @@ held (Some bytes) = lies (Array u8 bytes.len) (array_send u8 bytes.len byte) byt
 pub send : IsSend the_row
 send =
     let all : AllSend (fields the_type) = tt in
-    owning_send the_type all (λ r. held r.bytes) (λ k. quiet (to the_type) (exits_of k (fields the_type)) ((struct_send (shape the_type) all).leaving k))
+    owning_send the_type all (λ r. held r.bytes)
+    (λ k. quiet (to the_type) (exits_of k (fields the_type)) ((struct_send (shape the_type) all).leaving k))

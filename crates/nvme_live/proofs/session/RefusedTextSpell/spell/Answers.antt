@@ -13,5 +13,7 @@ returns g c =
     let put : g.P.Page.written c.put_both.new.page ≡ old ++ front =
     c.in_ok-put_both.ensures ∙ ap (λ t. t ++ (codes ": " ++ name)) c.in_ok-put_labelled.ensures
     ∙ append_assoc old line (codes ": " ++ name) ∙ ap (λ t. old ++ t) (sym (append_assoc line (codes ": ") name)) in
-    puts_behind g.P.Page.room c.put_reason.result old (g.P.Page.written c.put_both.new.page) front (reason_text text.reason) (refused_text text.number text.fault text.reason) (g.P.Page.written c.put_reason.new.page)
-    put (ap (λ t. ((line ++ codes ": ") ++ t) ++ reason_text text.reason) (sym c.config_fault_name.ensures)) c.put_reason.ensures
+    puts_behind g.P.Page.room c.put_reason.result old (g.P.Page.written c.put_both.new.page) front
+    (reason_text text.reason) (refused_text text.number text.fault text.reason) (g.P.Page.written c.put_reason.new.page)
+    put (ap (λ t. ((line ++ codes ": ") ++ t) ++ reason_text text.reason) (sym c.config_fault_name.ensures))
+    c.put_reason.ensures

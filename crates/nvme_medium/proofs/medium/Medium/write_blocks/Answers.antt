@@ -10,7 +10,9 @@ loop-j-preserved g c =
     let block = rw c.unwrap-block.ensures at c.as_array.ensures.cases in
     let all : length c.args.bytes.now ≡ 512 * (length c.args.bytes.now / 512) = omega (arith, c.requires.whole) in
     record {
-      written = λ tells. with_bytes-next (g.Self.Medium.device c.args.self.now).content c.args.first c.args.bytes.now c.loop-j.j (length c.args.bytes.now / 512) _ _ _ (c.loop-j.invariant.written tells) (c.in_ok-write.ensures.ok tells)
+      written = λ tells.
+          with_bytes-next (g.Self.Medium.device c.args.self.now).content c.args.first c.args.bytes.now c.loop-j.j
+          (length c.args.bytes.now / 512) _ _ _ (c.loop-j.invariant.written tells) (c.in_ok-write.ensures.ok tells)
           block.same (omega arith) all (omega (arith, g.met.Self.Medium.whole c.args.self.now tells, all));
       size = c.write.ensures.size ∙ c.loop-j.invariant.size;
       calls = one-passed _ (writes_from c.args.first c.args.bytes.now) c.loop-j.j _ _ _ _ c.loop-j.invariant.calls
@@ -24,5 +26,6 @@ returns-in_err-write-clause-calls g c =
     let p = err_from_is_err_and c.from_residual.result c.from_residual.ensures.1 in
     let call = writes_from c.args.first c.args.bytes.now in
     one-failed _ call c.loop-j.j _ _ _ _ _ _ c.loop-j.invariant.calls
-    (ap (λ bytes. Writes (c.args.first + c.loop-j.j) bytes (Err c.in_err-write.field-0.0)) block.same ∙ ap (call c.loop-j.j) (ap Err (sym p.2) ∙ sym p.1))
+    (ap (λ bytes. Writes (c.args.first + c.loop-j.j) bytes (Err c.in_err-write.field-0.0)) block.same
+    ∙ ap (call c.loop-j.j) (ap Err (sym p.2) ∙ sym p.1))
     c.in_err-write.ensures.step (omega arith) c.from_residual.ensures.0

@@ -6,5 +6,7 @@ use Rattle.nvme_medium.proofs.memory.MemMediumMedium.read_blocks.Goals as goal
 
 pub returns-clause-reads : goal.returns-clause-reads
 returns-clause-reads c =
-    read-at-once memory_step c.args.first c.args.self.now.blocks (memory_bytes c.args.self.now) c.args.target.now c.copy_from_slice.new.self c.args.self.now
-    (c.copy_from_slice.ensures.after ∙ ap (λ xs. blocks_from xs c.args.first (length c.args.target.now)) c.deref.ensures.value) c.requires.whole c.requires.within c.args.self.now.whole (λ i. (refl, refl))
+    read-at-once memory_step c.args.first c.args.self.now.blocks
+    (memory_bytes c.args.self.now) c.args.target.now c.copy_from_slice.new.self c.args.self.now
+    (c.copy_from_slice.ensures.after ∙ ap (λ xs. blocks_from xs c.args.first (length c.args.target.now))
+    c.deref.ensures.value) c.requires.whole c.requires.within c.args.self.now.whole (λ i. (refl, refl))

@@ -3,10 +3,11 @@ use Rattle.nvme_spec.specs.Rules.{first_failure}
 use Rattle.nvme_spec.specs.Attachments.{attach_each, has_controller}
 use Rattle.nvme_ns.proofs.spaces.Spaces.check_attachable.Given as goal
 
--- what is left decides
+-- the remaining controllers decide
 abbrev pub invariant-loop-cntlid : goal.invariant-loop-cntlid
 invariant-loop-cntlid l =
-    first_failure (attach_each l.self l.nsid l.has_other l.rest) ≡ first_failure (attach_each l.self l.nsid (has_controller l.self l.nsid) l.controllers)
+    first_failure (attach_each l.self l.nsid l.has_other l.rest)
+    ≡ first_failure (attach_each l.self l.nsid (has_controller l.self l.nsid) l.controllers)
 
 abbrev pub decreases-loop-cntlid : goal.decreases-loop-cntlid
 decreases-loop-cntlid l = length l.rest

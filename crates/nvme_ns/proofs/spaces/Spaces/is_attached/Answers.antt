@@ -15,4 +15,5 @@ pub returns-else-is_pair : goal.returns-else-is_pair
 unfolding is_attached
 returns-else-is_pair c =
     rw (← c.self.view_is, c.if-is_pair.false)
-    (sym (none_outside c.self.inside.attachments.items (c.args.cntlid, c.args.nsid) c.self.invariant.2.0 (λ q. let passed = (c.if-is_pair.ensures {u = tt}).1 q in absurd (cc))))
+    (sym (none_outside c.self.inside.attachments.items (c.args.cntlid, c.args.nsid) c.self.invariant.2.0
+    (λ q. let passed = (c.if-is_pair.ensures {u = tt}).1 q in absurd (cc))))

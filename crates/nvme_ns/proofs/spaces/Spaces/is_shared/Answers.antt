@@ -5,5 +5,6 @@ use Rattle.nvme_ns.proofs.spaces.Spaces.is_shared.Goals as goal
 
 pub returns-clause-known : goal.returns-clause-known
 returns-clause-known c =
-    let named = has_its_nsid c.args.self.now c.args.nsid c.unwrap.result.now (sym c.namespace.ensures ∙ ap option_copied c.unwrap.ensures) in
+    let named = has_its_nsid c.args.self.now c.args.nsid c.unwrap.result.now
+    (sym c.namespace.ensures ∙ ap option_copied c.unwrap.ensures) in
     rw named at c.is_shared.ensures.known

@@ -14,36 +14,45 @@ overflow_mul-j c =
 
 pub overflow_add-address : goal.overflow_add-address
 overflow_add-address c =
-    let b = begins _ _ _ _ _ no_piece c.as_slice-parts.ensures.value c.args.self.now.pages c.byte_place-i.ensures.place in
+    let b =
+    begins _ _ _ _ _ no_piece c.as_slice-parts.ensures.value c.args.self.now.pages c.byte_place-i.ensures.place in
     let s = b.skip_fits in let f = b.inside in
     record { fits = omega arith }
 
 pub bounds-parts-i-else-len-ge-BLOCK : goal.bounds-parts-i-else-len-ge-BLOCK
 bounds-parts-i-else-len-ge-BLOCK c =
     let part = c.if-len-ge-BLOCK.false in
-    (goes-on _ _ _ _ _ _ no_piece c.as_slice-parts.ensures.value c.args.self.now.pages c.byte_place-i.ensures.place (omega arith) part c.requires.inside).0
+    (goes-on _ _ _ _ _ _ no_piece c.as_slice-parts.ensures.value c.args.self.now.pages c.byte_place-i.ensures.place
+    (omega arith) part c.requires.inside).0
 
 pub returns-then-len-ge-BLOCK-clause-addresses : goal.returns-then-len-ge-BLOCK-clause-addresses
 returns-then-len-ge-BLOCK-clause-addresses c =
     let whole = c.if-len-ge-BLOCK.true in
-    lies-in_one _ _ _ _ _ 512 no_piece c.as_slice-parts.ensures.value c.args.self.now.pages c.byte_place-i.ensures.place (omega arith) (omega arith) c.requires.inside
+    lies-in_one _ _ _ _ _ 512 no_piece c.as_slice-parts.ensures.value c.args.self.now.pages c.byte_place-i.ensures.place
+    (omega arith) (omega arith) c.requires.inside
     ∙ append-nil _
 
 pub returns-then-len-ge-BLOCK-clause-lies : goal.returns-then-len-ge-BLOCK-clause-lies
 returns-then-len-ge-BLOCK-clause-lies c =
-    let b = begins _ _ _ _ _ no_piece c.as_slice-parts.ensures.value c.args.self.now.pages c.byte_place-i.ensures.place in
+    let b =
+    begins _ _ _ _ _ no_piece c.as_slice-parts.ensures.value c.args.self.now.pages c.byte_place-i.ensures.place in
     let s = b.skip_fits in let f = b.inside in let whole = c.if-len-ge-BLOCK.true in
     omega arith
 
 pub returns-else-len-ge-BLOCK-clause-addresses : goal.returns-else-len-ge-BLOCK-clause-addresses
 returns-else-len-ge-BLOCK-clause-addresses c =
     let part = c.if-len-ge-BLOCK.false in
-    lies-in_two _ _ _ _ _ ((slice_index_or c.as_slice-parts.result.now c.byte_place-i.result.0 no_piece).len - c.byte_place-i.result.1) no_piece c.as_slice-parts.ensures.value c.args.self.now.pages c.byte_place-i.ensures.place (omega arith) c.requires.inside
+    lies-in_two _ _ _ _ _
+    ((slice_index_or c.as_slice-parts.result.now c.byte_place-i.result.0 no_piece).len - c.byte_place-i.result.1)
+    no_piece c.as_slice-parts.ensures.value c.args.self.now.pages c.byte_place-i.ensures.place
+    (omega arith) c.requires.inside
 
 pub returns-else-len-ge-BLOCK-clause-lies : goal.returns-else-len-ge-BLOCK-clause-lies
 returns-else-len-ge-BLOCK-clause-lies c =
-    let b = begins _ _ _ _ _ no_piece c.as_slice-parts.ensures.value c.args.self.now.pages c.byte_place-i.ensures.place in
+    let b =
+    begins _ _ _ _ _ no_piece c.as_slice-parts.ensures.value c.args.self.now.pages c.byte_place-i.ensures.place in
     let s = b.skip_fits in let f = b.inside in
     let part = c.if-len-ge-BLOCK.false in
-    let more = goes-on _ _ _ _ _ _ no_piece c.as_slice-parts.ensures.value c.args.self.now.pages c.byte_place-i.ensures.place (omega arith) part c.requires.inside in
+    let more = goes-on _ _ _ _ _ _ no_piece c.as_slice-parts.ensures.value c.args.self.now.pages
+    c.byte_place-i.ensures.place (omega arith) part c.requires.inside in
     (omega arith, part, omega arith, more.1)

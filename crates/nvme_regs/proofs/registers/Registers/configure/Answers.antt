@@ -1,4 +1,4 @@
--- What a write of CC leaves is consistent, as what it found was.
+-- A write of CC keeps registers consistent.
 use Rattle.std.proofs.Common.{ap, subst}
 use Rattle.nvme_spec.specs.Registers.{Written}
 use Rattle.nvme_spec.specs.RegisterLaws.{IsConsistent}

@@ -1,4 +1,4 @@
--- What the effect of a write tells follows from what the write does.
+-- The contract on the effect of `write32` follows from that of `write`.
 use Rattle.std.proofs.Common.{subst}
 use Rattle.nvme_spec.specs.Registers.{Written}
 use Rattle.nvme_spec.specs.RegisterLaws.{TellsItsEffect, NamesQueue}

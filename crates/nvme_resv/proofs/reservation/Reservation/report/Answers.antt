@@ -15,8 +15,15 @@ loop-cntlid-preserved c =
           rw (← c.self.view_is, ← c.deref-in-loop-cntlid.ensures.0) (sym w.in-Some.ensures) in
           record {
             so_far =
-                rw (w.report-is, w.append-in-Some.ensures, w.deref-in-Some.ensures.0, w.entry.ensures, w.is_holder.ensures)
-                (more-registered r controllers (header r controllers) i (0, 0) w.in-Some.key _ c.loop-cntlid-test.true c.loop-cntlid.invariant.so_far has);
+                rw (
+                  w.report-is,
+                  w.append-in-Some.ensures,
+                  w.deref-in-Some.ensures.0,
+                  w.entry.ensures,
+                  w.is_holder.ensures,
+                )
+                (more-registered r controllers (header r controllers) i
+                (0, 0) w.in-Some.key _ c.loop-cntlid-test.true c.loop-cntlid.invariant.so_far has);
             room =
                 rw (w.report-is, w.append-in-Some.ensures)
                 (omega (arith, length-append {A = ℕ}, c.loop-cntlid.invariant.room, w.deref-in-Some.ensures.1));
@@ -25,7 +32,8 @@ loop-cntlid-preserved c =
           let has : key_of r.registrants (get_or controllers i (0, 0)).1 ≡ None =
           rw (← c.self.view_is, ← c.deref-in-loop-cntlid.ensures.0) (sym c.key_of.ensures ∙ w.in_default.is) in
           record {
-            so_far = rw w.report-is (more-absent r controllers (header r controllers) i (0, 0) _ c.loop-cntlid-test.true c.loop-cntlid.invariant.so_far has);
+            so_far = rw w.report-is (more-absent r controllers (header r controllers) i
+                (0, 0) _ c.loop-cntlid-test.true c.loop-cntlid.invariant.so_far has);
             room = rw w.report-is (omega (arith, c.loop-cntlid.invariant.room));
           }
     ]

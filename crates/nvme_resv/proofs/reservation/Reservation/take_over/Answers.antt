@@ -9,4 +9,5 @@ invariant_of-self c = rw c.expel-removed.ensures.stay (rising-filter _ c.self.in
 pub returns-clause-removed : goal.returns-clause-removed
 returns-clause-removed c =
     rw (← c.self.view_is, c.expel-removed.ensures.stay, c.expel-removed.ensures.removed)
-    (sym (removed_hosts-filter (leaves_test c.args.key (Some c.args.host)) c.self.inside.registrants.items c.self.invariant))
+    (sym
+    (removed_hosts-filter (leaves_test c.args.key (Some c.args.host)) c.self.inside.registrants.items c.self.invariant))

@@ -10,9 +10,11 @@ returns c =
     let count = c.args.count in
     let left = c.self.inside.len - count in
     let held = ap length c.self.view_is in
-    let inside : count ≤ c.self.inside.len = omega (arith, held, length-take c.self.inside.len room, c.requires, c.self.invariant.1) in
+    let inside : count ≤ c.self.inside.len =
+    omega (arith, held, length-take c.self.inside.len room, c.requires, c.self.invariant.1) in
     let same : left ≡ 0 + left = omega arith in
     let whole : count + left ≡ c.self.inside.len = omega (arith, inside) in
     ap (take left) c.copy_within.ensures.items ∙ ap (λ k. take k (paste room 0 (drop count room) left)) same
-    ∙ take-paste room 0 (drop count room) left (omega arith) (omega (arith, length-drop count room, c.self.invariant.0, c.self.invariant.1))
+    ∙ take-paste room 0 (drop count room) left (omega arith)
+    (omega (arith, length-drop count room, c.self.invariant.0, c.self.invariant.1))
     ∙ sym (drop-take count left room) ∙ ap (λ k. drop count (take k room)) whole ∙ ap (drop count) c.self.view_is

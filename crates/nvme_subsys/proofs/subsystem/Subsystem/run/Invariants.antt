@@ -5,11 +5,13 @@ use Rattle.nvme_machine.specs.Subsystems.{Run}
 use Rattle.nvme_machine.specs.EventCalls.{AreCallsOfRun}
 use Rattle.nvme_subsys.proofs.subsystem.Subsystem.run.Given as goal
 
--- what was seen so far is a run, whose calls were made, and there is room for the rest
+-- the events so far are a run with its calls, and there is memory for the rest
 abbrev pub invariant-loop-event : goal.invariant-loop-event
 invariant-loop-event g l = record {
   ran : Run g.M.Medium.tells l.fn.self.state (take l.event-index l.events) l.seen.items l.self.state;
-  calls : MakesCalls g.M.Medium.step (AreCallsOfRun g.M.Medium.tells l.fn.self.state (take l.event-index l.events) l.seen.items l.self.state) l.fn.self.medium l.self.medium;
+  calls : MakesCalls g.M.Medium.step
+      (AreCallsOfRun g.M.Medium.tells l.fn.self.state (take l.event-index l.events) l.seen.items l.self.state)
+      l.fn.self.medium l.self.medium;
   so_far : vec_len l.seen ≡ l.event-index;
   room : vec_capacity l.seen ≡ length l.events;
 }

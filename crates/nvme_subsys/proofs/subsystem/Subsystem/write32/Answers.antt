@@ -10,14 +10,19 @@ use Rattle.nvme_subsys.proofs.subsystem.Subsystem.write32.Goals as goal
 pub invariant_of-self : goal.invariant_of-self
 invariant_of-self g c =
     let items = c.self.inside.controllers.items in
-    let found = found-at _ _ items c.args.self.now.state c.in-Some.place c.index_mut.result.now (state-is c.self.view_is) c.in-Some.ensures.some.1 c.index_mut.ensures.value in
-    sound-set _ _ items c.in-Some.place c.index_mut.result.now c.write32.new.controller found
-    (ap (λ (r : Reaction). r.controller.cntlid) (sym c.write32.ensures) ∙ write-id c.args.offset c.args.value c.index_mut.result.now) c.self.invariant
+    let found = found-at _ _ items c.args.self.now.state c.in-Some.index c.index_mut.result.now
+    (state-is c.self.view_is) c.in-Some.ensures.some.1 c.index_mut.ensures.value in
+    sound-set _ _ items c.in-Some.index c.index_mut.result.now c.write32.new.controller found
+    (ap (λ (r : Reaction). r.controller.cntlid) (sym c.write32.ensures)
+    ∙ write-id c.args.offset c.args.value c.index_mut.result.now) c.self.invariant
 
 pub returns-clause-reacts : goal.returns-clause-reacts
 returns-clause-reacts g c =
     let items = c.self.inside.controllers.items in
-    let found = found-at _ _ items c.args.self.now.state c.in-Some.place c.index_mut.result.now (state-is c.self.view_is) c.in-Some.ensures.some.1 c.index_mut.ensures.value in
+    let found = found-at _ _ items c.args.self.now.state c.in-Some.index c.index_mut.result.now
+    (state-is c.self.view_is) c.in-Some.ensures.some.1 c.index_mut.ensures.value in
     rw (← c.self.view_is)
-    (reacts (record { world = c.self.inside.spaces; device = g.M.Medium.device c.self.inside.medium; controllers = items }) c.args.cntlid c.in-Some.place c.index_mut.result.now c.write32.new.controller
+    (reacts
+    (record { world = c.self.inside.spaces; device = g.M.Medium.device c.self.inside.medium; controllers = items })
+    c.args.cntlid c.in-Some.index c.index_mut.result.now c.write32.new.controller
     (wrote c.args.offset c.args.value) (seen_of c.write32.result) c.in-Some.ensures.some.0 found c.write32.ensures)

@@ -1,4 +1,4 @@
--- The double words that were read spell the bytes that they were read from.
+-- Writing the double words that were read gives back the bytes.
 use Rattle.nvme_wire.proofs.Bytes.{completion-read}
 use Rattle.nvme_wire.proofs.cqe.Cqe.from_bytes.Goals as goal
 
