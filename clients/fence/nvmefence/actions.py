@@ -11,7 +11,7 @@ from .reports import RESERVATIONS, Report
 
 
 def check_single(disk: Disk, report: Report, key: int) -> None:
-    """Refuses a key that two hosts have: fencing one would fence the other."""
+    """Refuses a key that two hosts use, since fencing one would fence the other."""
     if len({it.host or f"controller {it.cntlid}" for it in report.registrants if it.key == key}) > 1:
         raise Failure(f"{disk.path}: key {key:#x} is registered by several hosts; each node needs a key of its own")
 
@@ -24,12 +24,12 @@ def check_on(disk: Disk, key: int, rtype: int) -> Report:
         raise Failure(f"{disk.path}: key {key:#x} is registered by another host; each node needs a key of its own")
     if report.rtype not in (0, rtype):
         held = RESERVATIONS.get(report.rtype, "unknown")
-        raise Failure(f"{disk.path} has a reservation of type {report.rtype}, {held}, and not of type {rtype}")
+        raise Failure(f"{disk.path} has a reservation of type {report.rtype}, {held}, not of type {rtype}")
     return report
 
 
 def switch_on(disk: Disk, key: int, rtype: int) -> None:
-    """Registers this node's key on a disk, and has the reservation held."""
+    """Registers this node's key on a disk, and acquires the reservation if it is free."""
     report = check_on(disk, key, rtype)
     disk.register(key, disk.own_key(report))
     if report.rtype == 0:
@@ -54,7 +54,7 @@ def check_off(disk: Disk, victim: int, rtype: int) -> Tuple[Report, int]:
 
 
 def switch_off(disk: Disk, victim: int, rtype: int) -> None:
-    """Takes the victim's key away on a disk, and looks whether it is gone and the rest is excluded."""
+    """Removes the victim's key on a disk, and checks that it is removed and the victim is excluded."""
     report, own = check_off(disk, victim, rtype)
     if report.rtype == 0:
         disk.acquire(own, rtype)
@@ -89,12 +89,12 @@ def change(asked: Asked, disks: Sequence[Disk], progress: Progress) -> int:
 
 
 def tell_status(disks: Iterable[Disk], key: int) -> int:
-    """Whether a node is registered on all disks, or on none; what is between is neither on nor off."""
+    """Whether a node is registered on all disks, or on none; on some it is neither on nor off."""
     has: Dict[bool, List[str]] = {True: [], False: []}
     for disk in disks:
         has[key in disk.report().keys].append(disk.path)
     if has[True] and has[False]:
-        raise Failure(f"key {key:#x} is registered on {', '.join(has[True])}, and not on {', '.join(has[False])}")
+        raise Failure(f"key {key:#x} is registered on {', '.join(has[True])}, not on {', '.join(has[False])}")
     print(f"Status: {'ON' if has[True] else 'OFF'}")
     return SUCCEEDED if has[True] else IS_OFF
 
@@ -119,7 +119,7 @@ def monitor(disks: Iterable[Disk], rtype: int) -> int:
 
 
 def carry_out(asked: Asked, open_device: Callable[[str], Device], progress: Progress) -> int:
-    """The action that is asked for, over the devices; its exit status. A failure says what has been changed."""
+    """Executes the requested action on the devices. Returns its exit status. A failure reports what was changed."""
     progress.state = "; nothing was changed" if asked.action in ("on", "off") else ""
     try:
         disks = []

@@ -1,33 +1,32 @@
-"""The command: reads what is asked, and has it done within its time limit."""
+"""The command: reads the options, and executes the action within its time limit.
+
+Each action imports only what it needs: a loaded node is slow, and Pacemaker gives `metadata` 10 seconds.
+"""
 from __future__ import annotations
 
-import ctypes
 import os
 import select
 import signal
 import sys
 import time
-import traceback
 from typing import Callable, Sequence, TextIO
 
-from .actions import carry_out
-from .device import LinuxDevice
-from .disk import Progress
 from .failures import FAILED, SUCCEEDED, TIMED_OUT, Failure
-from .metadata import metadata
 from .options import NAME, VERSION, Asked, given_words, parser_of, truth_of
+from .progress import Progress
 
 PR_SET_PDEATHSIG = 1
 
 
 def complain(fault: Failure) -> int:
-    """Says why on standard error; the exit status."""
+    """Prints the reason on standard error. Returns the exit status."""
     print(f"{NAME}: {fault}", file=sys.stderr)
     return fault.status
 
 
 def in_child(parent: int, work: Callable[[Progress], int], progress: Progress) -> int:
-    """The work's exit status, whatever becomes of it. A child whose agent was killed must not fence anybody later."""
+    """The work's exit status, whatever happens. A child whose agent was killed must not fence a node later."""
+    import ctypes
     ctypes.CDLL(None).prctl(PR_SET_PDEATHSIG, signal.SIGKILL)
     try:
         status = work(progress) if os.getppid() == parent else FAILED
@@ -36,12 +35,12 @@ def in_child(parent: int, work: Callable[[Progress], int], progress: Progress) -
     except Failure as fault:
         return complain(fault)
     except Exception:
-        traceback.print_exc()
+        sys.excepthook(*sys.exc_info())
         return FAILED
 
 
 def within(seconds: float, work: Callable[[Progress], int], is_verbose: bool) -> int:
-    """Does work in a child: a process whose disk does not answer can't be interrupted, not even by a signal."""
+    """Does the work in a child process, since one that waits for a disk can't be interrupted, not even by a signal."""
     reading, writing = os.pipe()
     parent, child = os.getpid(), os.fork()
     if child == 0:
@@ -63,7 +62,7 @@ def within(seconds: float, work: Callable[[Progress], int], is_verbose: bool) ->
 
 
 def run(words: Sequence[str], stream: TextIO) -> int:
-    """The agent, with its command line and its standard input; the exit status."""
+    """Runs the agent on a command line and standard input. Returns the exit status."""
     given = given_words(words, stream)
     if truth_of(given, "help"):
         parser_of().print_help()
@@ -73,12 +72,15 @@ def run(words: Sequence[str], stream: TextIO) -> int:
         return SUCCEEDED
     asked = Asked.of(given)
     if asked.action == "metadata":
+        from .metadata import metadata
         print(metadata())
         return SUCCEEDED
     if asked.action == "validate-all":
         return SUCCEEDED
     if asked.action == "off":
         time.sleep(asked.delay)
+    from .actions import carry_out
+    from .device import LinuxDevice
     return within(asked.seconds, lambda progress: carry_out(asked, LinuxDevice, progress), asked.is_verbose)
 
 

@@ -1,4 +1,4 @@
-"""Commands to a namespace, by the control calls of Linux."""
+"""Commands to a namespace, by the ioctls of Linux."""
 from __future__ import annotations
 
 import ctypes
@@ -6,8 +6,7 @@ import errno
 import fcntl
 import os
 import struct
-from dataclasses import dataclass
-from typing import Protocol, Tuple
+from typing import NamedTuple, Protocol, Tuple
 
 from .failures import Failure
 
@@ -16,9 +15,8 @@ PASSTHROUGH = struct.Struct("<BBHIIIQQIIIIIIIIII")
 ADMIN_COMMAND, IO_COMMAND, IDENTIFIER = 0xC0484E41, 0xC0484E43, 0x4E40
 
 
-@dataclass(frozen=True)
-class Command:
-    """A command: its name and opcode, double words 10 and 11, the bytes that go to the device, and how many come."""
+class Command(NamedTuple):
+    """A command: its name and opcode, double words 10 and 11, the bytes for the device, and how many it returns."""
 
     name: str
     opcode: int
@@ -37,11 +35,11 @@ class Device(Protocol):
     nsid: int
 
     def submit(self, command: Command) -> Tuple[int, bytes]:
-        """A command to its end: its status, type and code, and the data that came."""
+        """Executes a command. Returns its status, type and code, and the returned data."""
 
 
 class LinuxDevice:
-    """A namespace by the control calls of Linux. It is opened for reading, which is no use of its blocks."""
+    """A namespace by the ioctls of Linux. It is opened for reading only, and its blocks are not read."""
 
     def __init__(self, path: str) -> None:
         self.path = path

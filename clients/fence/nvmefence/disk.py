@@ -1,14 +1,12 @@
 """A disk's reservation, and the commands that change it."""
 from __future__ import annotations
 
-import os
 import struct
-import sys
 from typing import Optional
 
 from .device import Command, Device
 from .failures import Failure
-from .options import NAME
+from .progress import Progress
 from .reports import RESERVATIONS, Registrant, Report
 
 IDENTIFY, GET_FEATURES, REGISTER, REPORT, ACQUIRE = 0x06, 0x0A, 0x0D, 0x0E, 0x11
@@ -26,25 +24,8 @@ STATUSES = {
 }
 
 
-class Progress:
-    """The progress, for the process that waits for it, and on standard error with --verbose.
-
-    Attributes:
-        state: what has been changed so far, in words that follow a failure.
-    """
-
-    def __init__(self, pipe: Optional[int] = None, is_verbose: bool = False) -> None:
-        self.pipe, self.is_verbose, self.state = pipe, is_verbose, ""
-
-    def asks(self, path: str, command: str) -> None:
-        if self.pipe is not None:
-            os.write(self.pipe, f"{path} has not answered {command}{self.state}\n".encode())
-        if self.is_verbose:
-            print(f"{NAME}: {path}: {command}", file=sys.stderr)
-
-
 class Disk:
-    """A shared namespace with its reservation, and which of its registrants this host is."""
+    """A shared namespace with its reservation, and this host among its registrants."""
 
     def __init__(self, device: Device, progress: Progress) -> None:
         self._device, self._progress, self.path = device, progress, device.path
@@ -72,7 +53,7 @@ class Disk:
         return data
 
     def _host_identifier(self) -> int:
-        """The host's identifier; 0 if it has none, or the device does not tell it."""
+        """The host's identifier; 0 if it has none, or the device does not report it."""
         size = 16 if self._is_extended else 8
         command = Command("Get Features", GET_FEATURES, HOST_IDENTIFIER, int(self._is_extended), wanted=size,
                           is_admin=True, has_nsid=False)
@@ -117,7 +98,7 @@ class Disk:
         self._ask(Command("Reservation Register", REGISTER, action | persist, sent=struct.pack("<QQ", old or 0, key)))
 
     def acquire(self, key: int, rtype: int) -> None:
-        """Acquires the reservation, which another node may have done meanwhile: the report says what holds."""
+        """Acquires the reservation. Another node may acquire it first, which the next report shows."""
         try:
             self._ask(Command("Reservation Acquire", ACQUIRE, rtype << 8, sent=struct.pack("<QQ", key, 0)))
         except Failure:
@@ -125,6 +106,6 @@ class Disk:
                 raise
 
     def preempt(self, key: int, victim: int, rtype: int) -> None:
-        """Takes a key away from its host, and has that host's commands aborted."""
+        """Preempts a key, and aborts its host's commands."""
         self._ask(Command("Preempt and Abort", ACQUIRE, PREEMPT_AND_ABORT | rtype << 8,
                           sent=struct.pack("<QQ", key, victim)))

@@ -1,7 +1,6 @@
 """Keys of nodes, made from names."""
 from __future__ import annotations
 
-import hashlib
 import re
 
 from .failures import Failure
@@ -11,6 +10,7 @@ COROSYNC = "/etc/corosync/corosync.conf"
 
 def key_of_name(node: str, cluster: str) -> str:
     """The key of a node, made like fence_scsi's with key_value=hash, from 8 instead of 4 digits of each MD5."""
+    import hashlib
     return "".join(hashlib.md5(it.encode(), usedforsecurity=False).hexdigest()[:8] for it in (cluster, node))
 
 

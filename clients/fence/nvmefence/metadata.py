@@ -1,4 +1,4 @@
-"""What the agent says of itself, in the form of fence agents."""
+"""The agent's metadata, in the XML form of fence agents."""
 from __future__ import annotations
 
 import xml.etree.ElementTree as xml
@@ -7,13 +7,13 @@ from .options import ACTIONS, NAME, OPTIONS
 
 
 def metadata() -> str:
-    """What the agent says of itself, in the form of fence agents."""
+    """The agent's metadata, in the XML form of fence agents."""
     agent = xml.Element("resource-agent", name=NAME, shortdesc="Fence agent for NVMe reservations")
     xml.SubElement(agent, "longdesc").text = (
         f"{NAME} is an I/O fencing agent that uses NVMe reservations to control access to shared namespaces. "
         "'on' registers this node's key on each device, persistently if the device can, and acquires the reservation: "
         "only registered nodes may write. 'off' takes the key of another node away by Preempt and Abort: its commands "
-        "that are under way are aborted, and its writes get Reservation Conflict from then on. The fenced node is not "
+        "in progress are aborted, and its writes get Reservation Conflict from then on. The fenced node is not "
         "powered off, and has to be rebooted before it may join again. All nodes need access to all devices.")
     xml.SubElement(agent, "vendor-url")
     parameters = xml.SubElement(agent, "parameters")
@@ -26,7 +26,8 @@ def metadata() -> str:
             content.set("default", it.default)
         xml.SubElement(one, "shortdesc", lang="en").text = it.words
     actions = xml.SubElement(agent, "actions")
-    xml.SubElement(actions, "action", name="on", on_target="1", required="1", automatic="1")
+    # Without `required`, an older word for `automatic`, which pcs refuses.
+    xml.SubElement(actions, "action", name="on", on_target="1", automatic="1")
     for action in ACTIONS[1:]:
         xml.SubElement(actions, "action", name=action)
     xml.indent(agent, "\t")

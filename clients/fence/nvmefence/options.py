@@ -3,8 +3,7 @@ from __future__ import annotations
 
 import argparse
 import re
-from dataclasses import dataclass
-from typing import Any, Dict, NoReturn, Optional, Sequence, TextIO, Tuple
+from typing import Any, Dict, NamedTuple, NoReturn, Optional, Sequence, TextIO, Tuple
 
 from .failures import Failure
 from .keys import COROSYNC, cluster_name, key_of_name
@@ -56,7 +55,7 @@ YES, NO = ("1", "yes", "on", "true"), ("", "0", "no", "off", "false")
 
 
 class Parser(argparse.ArgumentParser):
-    """A bad command line is a failure: argparse's own exit status 2 would say that the node is off."""
+    """A bad command line is a failure: argparse's own exit status 2 would mean that the node is off."""
 
     def error(self, message: str) -> NoReturn:
         raise Failure(message)
@@ -92,8 +91,7 @@ def given_words(words: Sequence[str], stream: TextIO) -> Dict[str, str]:
     return found
 
 
-@dataclass(frozen=True)
-class Asked:
+class Asked(NamedTuple):
     """The requested action, with all values checked."""
 
     action: str
@@ -118,7 +116,7 @@ class Asked:
         key = key_of(given) if needs_key and action != "metadata" else None
         rtype = given.get("reservation_type", NAMES["reservation_type"].default)
         if rtype not in ("3", "4", "5", "6"):
-            raise Failure(f"reservation_type is 3, 4, 5 or 6, so that all registrants may write, and not {rtype!r}")
+            raise Failure(f"reservation_type is 3, 4, 5 or 6, so that all registrants may write, not {rtype!r}")
         return cls(action, devices, key, int(rtype), seconds_of(given, "delay"),
                    seconds_of(given, "power_timeout", 1), truth_of(given, "verbose"))
 
@@ -126,25 +124,25 @@ class Asked:
 def seconds_of(given: Dict[str, str], name: str, least: int = 0) -> float:
     text = given.get(name, NAMES[name].default)
     if not re.fullmatch(r"\d{1,6}(\.\d{1,3})?s?", text) or float(text.rstrip("s")) < least:
-        raise Failure(f"{name} is a number of seconds, {least} at least, and not {text!r}")
+        raise Failure(f"{name} is a number of seconds, at least {least}, not {text!r}")
     return float(text.rstrip("s"))
 
 
 def truth_of(given: Dict[str, str], name: str) -> bool:
     text = given.get(name, "").lower()
     if text not in YES + NO:
-        raise Failure(f"{name} is 1 or 0, and not {text!r}")
+        raise Failure(f"{name} is 1 or 0, not {text!r}")
     return text in YES
 
 
 def key_of(given: Dict[str, str]) -> int:
-    """The key that is given, or else that of the node's name."""
+    """The given key, or else the key of the node's name."""
     text = given.get("key", "")
     node = given.get("plug") or given.get("nodename")
     if not text and not node:
         raise Failure("no node is given: --plug=NAME, or --key=KEY")
     if text and not re.fullmatch(r"(0[xX])?[0-9a-fA-F]{1,16}", text):
-        raise Failure(f"key is a number of at most 16 hexadecimal digits, and not {text!r}")
+        raise Failure(f"key is a number of at most 16 hexadecimal digits, not {text!r}")
     key = int(text or key_of_name(node or "", given.get("cluster_name") or cluster_name()), 16)
     if key == 0:
         raise Failure("key 0 is no key: to preempt it would take away the registrations of all nodes")

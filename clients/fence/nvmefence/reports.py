@@ -1,9 +1,8 @@
-"""Reservation Report, taken apart."""
+"""Reservation Report, parsed."""
 from __future__ import annotations
 
 import struct
-from dataclasses import dataclass
-from typing import Tuple
+from typing import NamedTuple, Tuple
 
 RESERVATIONS = {
     1: "Write Exclusive", 2: "Exclusive Access", 3: "Write Exclusive - Registrants Only",
@@ -12,8 +11,7 @@ RESERVATIONS = {
 }
 
 
-@dataclass(frozen=True)
-class Registrant:
+class Registrant(NamedTuple):
     """A controller whose host is registered."""
 
     cntlid: int
@@ -21,8 +19,7 @@ class Registrant:
     key: int
 
 
-@dataclass(frozen=True)
-class Report:
+class Report(NamedTuple):
     """A Reservation Report: the type of the reservation, 0 if there is none, and the registrants."""
 
     rtype: int

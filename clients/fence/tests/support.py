@@ -40,7 +40,7 @@ class SubsystemDevice:
         self.path, self.nsid, self.host, self.disk, self.before = path, disk.number, host, disk, before
 
     def submit(self, command: Command) -> Tuple[int, bytes]:
-        """Carries a command out, or answers it with its status."""
+        """Executes a command, or answers it with its status."""
         if self.before is not None:
             self.before(self.path, command)
         try:

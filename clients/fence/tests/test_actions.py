@@ -50,7 +50,7 @@ class ActionsTest(ClusterCase):
         self.unfence()
         victim, disk = self.cluster.hosts[B], self.cluster.disks[0]
         victim.write(disk, 0, b"early")
-        ticket = victim.place_write(disk, 0, b"under way")
+        ticket = victim.place_write(disk, 0, b"in progress")
         victim.ring()
         victim.controller.fetch()
         self.expect(A, "status", KEY_B, 0, "Status: ON")
@@ -97,7 +97,7 @@ class ActionsTest(ClusterCase):
     def test_status_of_a_part_is_neither(self) -> None:
         self.unfence()
         self.cluster.hosts[B].register(self.cluster.disks[1], 0, KEY_B, RegisterAction.UNREGISTER)
-        self.expect(A, "status", KEY_B, 1, "registered on /dev/nvme0n1, and not on /dev/nvme0n2")
+        self.expect(A, "status", KEY_B, 1, "registered on /dev/nvme0n1, not on /dev/nvme0n2")
 
     def test_list_and_monitor(self) -> None:
         self.unfence()
@@ -173,7 +173,7 @@ class SafetyTest(ClusterCase):
             host, disk = self.cluster.hosts[B], self.cluster.disks[1]
             host.register(disk, KEY_B)
             host.acquire(disk, ReservationType.WRITE_EXCLUSIVE, KEY_B)
-            self.expect(A, "on", KEY_A, 1, "/dev/nvme0n2 has a reservation of type 1, Write Exclusive, and not of "
+            self.expect(A, "on", KEY_A, 1, "/dev/nvme0n2 has a reservation of type 1, Write Exclusive, not of "
                         "type 5; nothing was changed")
             self.assertEqual(self.cluster.keys(), [[], [KEY_B]])
 
@@ -188,7 +188,7 @@ class SafetyTest(ClusterCase):
         self.assertEqual(self.cluster.keys(), [[KEY_A], [KEY_A, KEY_B]])
 
     def test_a_disk_that_forgets_the_preempt_is_not_believed(self) -> None:
-        """A device answers success and does nothing: the report says so."""
+        """A device answers success and does nothing: the agent reports that."""
         original = self.cluster.device
 
         def device(node: int, path: str) -> SubsystemDevice:

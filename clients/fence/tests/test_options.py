@@ -15,7 +15,7 @@ import time
 import unittest
 import xml.etree.ElementTree as xml
 from pathlib import Path
-from typing import Dict, List, Tuple
+from typing import Dict, List, Set, Tuple
 from unittest import mock
 
 from .support import AGENT
@@ -35,14 +35,21 @@ WRONG: Tuple[Tuple[Dict[str, str], str], ...] = (
     ({"key": ""}, "no node is given"),
     ({"key": "0"}, "key 0 is no key"),
     ({"key": "0x0000"}, "key 0 is no key"),
-    ({"key": "node"}, "key is a number of at most 16 hexadecimal digits, and not 'node'"),
+    ({"key": "node"}, "key is a number of at most 16 hexadecimal digits, not 'node'"),
     ({"key": "1" * 17}, "key is a number of at most 16"),
     ({"reservation_type": "1"}, "reservation_type is 3, 4, 5 or 6"),
-    ({"power_timeout": "0"}, "power_timeout is a number of seconds, 1 at least, and not '0'"),
+    ({"power_timeout": "0"}, "power_timeout is a number of seconds, at least 1, not '0'"),
     ({"power_timeout": "soon"}, "power_timeout is a number of seconds"),
     ({"delay": "-1"}, "delay is a number of seconds"),
-    ({"verbose": "maybe"}, "verbose is 1 or 0, and not 'maybe'"),
+    ({"verbose": "maybe"}, "verbose is 1 or 0, not 'maybe'"),
 )
+# Elements and their attributes in ocf-1.0.rng of pcs 0.11.5, of those that fence agents use.
+ACCEPTED: Dict[str, Set[str]] = {
+    "resource-agent": {"name", "version", "shortdesc"}, "longdesc": {"lang"}, "shortdesc": {"lang"}, "vendor-url": set(),
+    "parameters": set(), "parameter": {"name", "unique", "required", "deprecated", "obsoletes"},
+    "getopt": {"mixed"}, "content": {"type", "default"}, "actions": set(),
+    "action": {"name", "timeout", "interval", "start-delay", "depth", "role", "on_target", "automatic"},
+}
 
 
 def run(words: List[str], given: str = "") -> "subprocess.CompletedProcess[str]":
@@ -86,6 +93,18 @@ class OptionsTest(unittest.TestCase):
     def test_validate_all(self) -> None:
         self.assertEqual(run(["-o", "validate-all", "-d", DEVICES, "-k", "1"]).returncode, 0)
         self.assertEqual(run(["-o", "validate-all", "-d", DEVICES, "-k", "0"]).returncode, 1)
+
+
+class StartTest(unittest.TestCase):
+    def test_metadata_imports_little(self) -> None:
+        """Pacemaker gives it 10 seconds, which a loaded node once exceeded."""
+        words = [sys.executable, "-S", "-X", "importtime", str(AGENT)]
+        done = subprocess.run(words, input="action=metadata\n", capture_output=True, text=True, timeout=60)
+        self.assertEqual((done.returncode, done.stdout), (0, metadata() + "\n"))
+        found = {line.split("|")[-1].strip() for line in done.stderr.splitlines()}
+        self.assertIn("nvmefence.metadata", found)
+        slow = {"ctypes", "dataclasses", "hashlib", "inspect", "pathlib", "shutil", "traceback", "nvmefence.actions"}
+        self.assertEqual(found & slow, set())
 
 
 class KeysTest(unittest.TestCase):
@@ -137,7 +156,12 @@ class MetadataTest(unittest.TestCase):
         self.assertEqual([it.tag for it in agent], ["longdesc", "vendor-url", "parameters", "actions"])
         actions = {it.get("name"): it.attrib for it in agent.iter("action")}
         self.assertEqual(tuple(actions), ACTIONS)
-        self.assertEqual(actions["on"], {"name": "on", "on_target": "1", "required": "1", "automatic": "1"})
+        self.assertEqual(actions["on"], {"name": "on", "on_target": "1", "automatic": "1"})
+
+    def test_pcs_accepts_it(self) -> None:
+        """pcs 0.11 refuses an agent whose metadata has an element or attribute that its schema lacks."""
+        for it in xml.fromstring(metadata()).iter():
+            self.assertLessEqual(set(it.attrib), ACCEPTED[it.tag], it.tag)
 
     def test_help_and_version(self) -> None:
         self.assertIn("--reservation-type", run(["--help"]).stdout)
@@ -172,7 +196,7 @@ class TimeLimitTest(unittest.TestCase):
             self.assertEqual(command.within(5, lambda _: os.kill(os.getpid(), 9) or 0, False), 1)
         self.assertIn("ended by signal 9", told.getvalue())
 
-    def test_a_fault_of_the_agent_is_told(self) -> None:
+    def test_an_internal_error_is_reported(self) -> None:
         words = "import sys; from nvmefence.command import within; sys.exit(within(5, lambda _: 1 // 0, False))"
         done = subprocess.run([sys.executable, "-Bc", words], cwd=AGENT.parent, capture_output=True, text=True)
         self.assertEqual(done.returncode, 1)

@@ -134,7 +134,7 @@ int creat64(const char *path, mode_t mode) {
     return opens(path, O_CREAT | O_WRONLY | O_TRUNC, &fd) ? fd : NEXT(creat64)(path, mode);
 }
 
-// The forms that checked builds call where no mode is given.
+// The forms that checked builds call if no mode is given.
 int __open_2(const char *path, int flags);
 int __open64_2(const char *path, int flags);
 int __openat_2(int folder, const char *path, int flags);
@@ -160,7 +160,7 @@ int __openat64_2(int folder, const char *path, int flags) {
     return opens(path, flags, &fd) ? fd : NEXT(__openat64_2)(folder, path, flags);
 }
 
-// The place of a path, or the path itself where it is not the lab's.
+// The place of a path, or the path itself if it is not the lab's.
 static const char *placed(const char *path, char place[PATH_MAX]) {
     return lab_place(path, place) == LAB_NO_PATH ? path : place;
 }

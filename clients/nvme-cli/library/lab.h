@@ -56,7 +56,7 @@ uint64_t lab_blocks(const struct lab_device *device);
 // wire.c
 enum lab_asking { LAB_COMMAND = 1, LAB_RESET = 2, LAB_LOOK = 3 };
 
-// The location of a command's data. There may be none (`count` 0); `is_mapped` is false where there is a length, and no
+// The location of a command's data. There may be none (`count` 0); `is_mapped` is false if there is a length, and no
 // address.
 struct lab_data {
     struct iovec *parts;

@@ -16,7 +16,7 @@ _Static_assert(sizeof(struct dirent) == sizeof(struct dirent64), "one form of en
 
 static const char *const shared[] = {"/dev", "/sys/block", "/sys/class/block", NULL};
 
-// A listing under way: the folder as the C library has it, and the lab's, once it is its turn.
+// A listing in progress: the folder as the C library has it, and the lab's, once it is its turn.
 struct listing {
     _Atomic(DIR *) whole;
     const char *folder;

@@ -36,7 +36,7 @@ static bool is_in_folder(const char *path) {
     return false;
 }
 
-// A path of the host's view; false where there is no lab, or no room.
+// A path of the host's view; false if there is no lab, or no room.
 bool lab_view_path(const char *name, char *place, size_t room) {
     const char *view = getenv(LAB_VIEW);
     if (!view || view[0] != '/') {
@@ -117,7 +117,7 @@ bool lab_opened(int fd, struct lab_device *device) {
     return strncmp(found, devices, front) == 0 && lab_named(found + front, device);
 }
 
-// How many blocks a namespace has, by its file under sys; 0 where there is none.
+// How many blocks a namespace has, by its file under sys; 0 if there is none.
 uint64_t lab_blocks(const struct lab_device *device) {
     char name[64], place[PATH_MAX], text[32] = "";
     snprintf(name, sizeof name, "/sys/block/nvme%un%u/size", (unsigned)device->controller, (unsigned)device->nsid);

@@ -1,5 +1,5 @@
-"""CONFIG: the lines of a script before its `start`, which describe the subsystem. The programs read them: nvmesim says
-what is wrong with them, and nvmelive answers `?line` by each line in one form."""
+"""CONFIG: the lines of a script before its `start`, which describe the subsystem. The programs read them: nvmesim
+reports errors, and nvmelive answers `?line` with the normal form of a line."""
 import subprocess
 from dataclasses import dataclass, field
 from pathlib import Path
@@ -14,13 +14,13 @@ SETTING_UP = ("controller", "namespace", "attached")
 
 # Answers lines, each by one.
 Ask = Callable[[List[str]], List[str]]
-# Says why a script is refused, or None: its text.
+# Returns why a script is refused, given its text, or None.
 Judge = Callable[[str], Optional[str]]
 
 
 @dataclass
 class Configuration:
-    """The lines for the subsystem, one for each of CONFIG, and what the lab needs to know of them."""
+    """The lines for the subsystem, one for each line of CONFIG, and what the lab needs from them."""
     handed: List[str] = field(default_factory=list)
     # The host of each controller, those controllers whose host has a driver, and the size of each namespace in blocks.
     hosts: Dict[int, int] = field(default_factory=dict)
@@ -29,15 +29,15 @@ class Configuration:
 
     @property
     def image_bytes(self) -> int:
-        """How long an image has to be to hold all namespaces."""
+        """The size in bytes of an image that holds all namespaces."""
         return sum(self.blocks.values()) * BLOCK_BYTES
 
     def controllers_of(self, host: int) -> List[int]:
         return [cntlid for cntlid, its_host in sorted(self.hosts.items()) if its_host == host]
 
     def take(self, words: List[str], has_drivers: bool) -> None:
-        """Takes a line in, by its words as nvmelive answers them. A host has a driver if `--drivers` is given and its
-        line does not end in `raw`; else the lab itself is its software, and it is handed on as a raw host."""
+        """Adds a line, in the words of nvmelive's answer. A host has a driver if `--drivers` is given and its line does
+        not end in `raw`; else the lab drives it as a raw host."""
         if words[0] == "controller":
             cntlid = int(words[1])
             self.hosts[cntlid] = int(words[3], 16)
@@ -50,7 +50,7 @@ class Configuration:
         self.handed.append(" ".join(words))
 
     def packed(self) -> Dict[str, Any]:
-        """The same for a file of options."""
+        """Reads CONFIG as a file of options."""
         return {"handed": self.handed, "hosts": [*self.hosts.items()], "drivers": sorted(self.drivers),
                 "blocks": [*self.blocks.items()]}
 
@@ -60,8 +60,8 @@ class Configuration:
 
 
 def judge_by(program: str, room: Path, medium_bytes: int, name: str) -> Judge:
-    """Checks scripts by nvmesim, over `medium_bytes` zero bytes, with files in a folder; the reason names the script
-    so."""
+    """Checks scripts by nvmesim, over `medium_bytes` zero bytes, with files in a folder. Reasons call the script
+    `name`."""
     medium, script = room / "medium", room / "script"
 
     def judge(text: str) -> Optional[str]:
@@ -83,7 +83,7 @@ def judge_by(program: str, room: Path, medium_bytes: int, name: str) -> Judge:
 
 
 def answered(name: str, lines: List[str], ask: Ask) -> List[List[str]]:
-    """The words of each line in one form; none for a line that is not understood."""
+    """The words of each line in normal form; none for a line that is not understood."""
     answers = ask([f"?line {line}" for line in lines])
     for number, answer in enumerate(answers, 1):
         if not answer.startswith(("line ", "! ")):
@@ -97,8 +97,8 @@ def column_of(line: str) -> int:
 
 
 def read_configuration(text: str, name: str, has_drivers: bool, ask: Ask, judge: Judge) -> Configuration:
-    """Reads CONFIG, or says what is wrong with it, as `FILE:LINE:COLUMN: REASON`. `start` may be missing, and nothing
-    but comments may follow it."""
+    """Reads CONFIG, or raises its error as `FILE:LINE:COLUMN: REASON`. `start` may be missing; only comments may follow
+    it."""
     lines = text.split("\n")
     said = answered(name, lines, ask)
     reason = judge(text if ["start"] in said else f"{text}\nstart\n")
@@ -111,7 +111,7 @@ def read_configuration(text: str, name: str, has_drivers: bool, ask: Ask, judge:
             raise LabFault(f"{name}:{number}:1: the line is too long for a lab")
         if words != ["blank"] and words[0] not in (*SETTING_UP, "start"):
             place = f"{name}:{number}:{column_of(line)}"
-            raise LabFault(f"{place}: this line is an event, and a configuration has none")
+            raise LabFault(f"{place}: this line is an event; a configuration has none")
         is_started = is_started or words == ["start"]
         if not is_started and words == ["blank"]:
             configuration.handed.append(line)

@@ -1,4 +1,4 @@
-"""A host with a driver: each command is a request of its driver, which is brought to its end by single events."""
+"""A host with a driver: each command is a request of its driver, which single events complete."""
 from typing import List, Tuple
 
 from nvmelab.entries import Command, Completion
@@ -12,14 +12,15 @@ QUEUE_ENTRIES = 8
 
 
 class DriverHost(Host):
-    """A host with a driver: it has the commands alone that a request says."""
+    """A host with a driver. It supports only the commands that a request can express."""
 
     @property
     def queue_entries(self) -> int:
         return QUEUE_ENTRIES
 
     def bring_up(self) -> None:
-        """Resets the driver and its controller, and brings both up. No request waits: each was brought to its end."""
+        """Resets the driver and its controller, and brings both up. No request waits, since each is completed at
+        once."""
         c = self.cntlid
         up, = self.ask([f"reset {c}", f"up {c}"], [f"reset {c}"])
         if up != f"up {c} ok":
@@ -37,8 +38,7 @@ class DriverHost(Host):
         return completion, came[:len(data.content)] + data.content[len(came):]
 
     def carry_out(self, line: str, queue: int) -> Tuple[int, int, bytes]:
-        """Places a request, rings, fetches, executes and polls: the answer's status and double word 0, and the data
-        that came with it."""
+        """Places a request, rings, fetches, executes and polls. Returns the status, double word 0 and the data."""
         c = self.cntlid
         placed, *answers = self.ask([line, f"ring {c}", f"fetch {c} {queue}", f"execute {c} 0", f"poll {c}"], [])
         ticket = placed.rpartition(" ")[2]
@@ -57,5 +57,5 @@ def status_of(word: str) -> int:
 
 
 def answer_data(words: List[str]) -> bytes:
-    """The data of a poll's answer: how many bytes, and the bytes; none if it has none."""
+    """The data of a poll's answer, or no bytes."""
     return data_bytes(words[1], int(words[0])) if words else b""

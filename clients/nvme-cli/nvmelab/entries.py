@@ -1,4 +1,4 @@
-"""The entries of commands and completions, and the PRP entries that name data."""
+"""Submission and completion queue entries, and the PRP entries for data."""
 import struct
 from typing import List, Tuple
 
@@ -11,7 +11,7 @@ WRITE_PROTECTION = 0x84
 
 
 class Command:
-    """A command of 64 bytes whose identifier and data pointer are set here."""
+    """A submission queue entry of 64 bytes, whose identifier and data pointer can be set."""
 
     def __init__(self, entry: bytes) -> None:
         self.entry = bytearray(entry)
@@ -29,7 +29,7 @@ class Command:
 
     @property
     def has_plain_form(self) -> bool:
-        """Whether it is not fused, and its data pointer is of PRP entries: FUSE and PSDT are 0."""
+        """Whether it is not fused and uses PRP entries: FUSE and PSDT are 0."""
         return self.entry[1] & 0xc3 == 0
 
     @property
@@ -38,7 +38,7 @@ class Command:
 
     @property
     def sends_data(self) -> bool:
-        """Bit 0 of an opcode says that data go to the controller."""
+        """Whether data go to the controller: bit 0 of the opcode."""
         return bool(self.entry[0] & 1)
 
     def double_word(self, number: int) -> int:
@@ -52,7 +52,7 @@ class Command:
 
 
 class Completion:
-    """A completion of 16 bytes."""
+    """A completion queue entry of 16 bytes."""
 
     def __init__(self, entry: bytes) -> None:
         self.entry = entry
@@ -62,7 +62,7 @@ class Completion:
 
     @classmethod
     def of(cls, status: int, dw0: int = 0) -> "Completion":
-        """One of which nothing but the status and double word 0 is known."""
+        """A completion with only a status and double word 0."""
         return cls(struct.pack("<IIHHHH", dw0, 0, 0, 0, 0, status << 1))
 
     @property
@@ -71,10 +71,9 @@ class Completion:
 
 
 def pointer(offset: int, length: int) -> Tuple[int, int, List[int]]:
-    """PRP1, PRP2 and the list for data that are at an offset of their first page.
+    """PRP1, PRP2 and the PRP list for data at an offset of their first page.
 
-    After the last page of the data nothing is mapped: a command that moves more than its data have is answered by Data
-    Transfer Error.
+    The page after the data is not mapped, so a command that moves more bytes gets Data Transfer Error.
     """
     place = DATA_PLACE + offset
     count = (offset + length + PAGE - 1) // PAGE

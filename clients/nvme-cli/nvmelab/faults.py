@@ -1,9 +1,9 @@
-"""What goes wrong in the lab itself, each as one sentence."""
+"""Errors of the lab itself."""
 
 
 class LabFault(Exception):
-    """The lab can't do what it should; the text says why, in one sentence without its full stop."""
+    """The lab failed. The text is the reason, one sentence without its full stop."""
 
 
 class Ended(LabFault):
-    """The program of the subsystem has ended, or does not answer as it should: the lab is over."""
+    """The program of the subsystem has ended, or answers wrongly: the lab ends."""

@@ -25,7 +25,7 @@ PACKAGE = Path(__file__).resolve().parent.parent
 # After this many seconds the output of a starting server is shown: the program is being built.
 QUIET_SECONDS = 2.0
 SHOW_SECONDS = 0.2
-# The name of a socket has 107 bytes at most, of which a lab's own part takes the rest.
+# The name of a socket has at most 107 bytes, of which a lab's own part takes the rest.
 MOST_BASE = 56
 
 
@@ -45,7 +45,7 @@ def base_folder() -> Path:
 
 
 def simulator_of(program: str) -> str:
-    """The nvmesim that judges CONFIG: the one that NVMESIM names, or else the one next to this nvmelive."""
+    """The nvmesim that checks CONFIG: the one that NVMESIM names, else the one next to this nvmelive."""
     found = os.environ.get("NVMESIM", "") or str(Path(program).with_name("nvmesim"))
     if not os.access(found, os.X_OK):
         raise LabFault(f"there is no program {found}, which judges CONFIG; the variable NVMESIM names one")
@@ -54,7 +54,7 @@ def simulator_of(program: str) -> str:
 
 @dataclass
 class Lab:
-    """The lab of one CONFIG: its text, its options, and where it is."""
+    """The lab of one CONFIG: its text, its options, and its folder."""
     name: str
     text: str
     program: List[str]
@@ -104,7 +104,7 @@ class Lab:
                 self.start()
                 view = self.ask_to_join(host)
             if view is None:
-                raise LabFault(f"the lab has ended at once; what it said is in {self.log}")
+                raise LabFault(f"the lab ended at once; its output is in {self.log}")
             return view
         finally:
             os.close(held)
@@ -154,7 +154,7 @@ class Lab:
             raise LabFault(f"the lab of {self.name} runs already, without --drivers")
 
     def start(self) -> None:
-        """Starts the server, in a session of its own, so that no key of a terminal reaches it."""
+        """Starts the server in its own session, so that no terminal signal reaches it."""
         if self.keeping is not None:
             self.keeping.check([self.name, *([self.image] if self.image else [])])
         shutil.rmtree(self.folder, ignore_errors=True)
@@ -187,12 +187,13 @@ class Lab:
         started.returncode = 0
 
     def reason(self, said: str) -> str:
-        """Why the server has not started: the last output of the program if it has ended, as over an image in use."""
+        """Why the server did not start: the program's last output if it ended, for instance because the image is in
+        use."""
         told = [it for it in self.log.read_text(errors="replace").splitlines() if it.startswith("nvmelive: ")]
         if told and said.startswith("the program has ended"):
             # The lab itself can't wait for an image.
             return told[-1].removesuffix("; --wait waits for it")
-        return said or f"the lab has not started; what it said is in {self.log}"
+        return said or f"the lab did not start; its output is in {self.log}"
 
     def read(self) -> Configuration:
         """Parses CONFIG by the programs, over as many zeros as the image has bytes."""
@@ -213,7 +214,7 @@ class Lab:
         return str(image)
 
     def wait_for(self, started: "subprocess.Popen[bytes]") -> str:
-        """The server's first line. If it takes long, its output is shown meanwhile."""
+        """The server's first line. Shows the server's output while that takes long."""
         limit = QUIET_SECONDS
         with started.stdout as answers, open(self.log, "rb") as log:
             while not select.select([answers], [], [], limit)[0]:
@@ -224,7 +225,7 @@ class Lab:
 
 
 def server_environment() -> Dict[str, str]:
-    """The server's environment: it may be started in another lab, and must not see its devices."""
+    """The server's environment, without the devices of a lab in which it may be started."""
     found = {name: value for name, value in os.environ.items() if name not in ("NVME_LAB", "LD_PRELOAD")}
     found["PYTHONPATH"] = str(PACKAGE)
     found["PYTHONDONTWRITEBYTECODE"] = "1"

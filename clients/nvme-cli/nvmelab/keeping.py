@@ -1,4 +1,4 @@
-"""The file of a kept script: never one that the lab reads, and none that is there unless --force replaces it."""
+"""The file of a kept script: never an input of the lab, and an existing one only with --force."""
 import fcntl
 import os
 import stat
@@ -10,12 +10,12 @@ from nvmelab.faults import LabFault
 
 @dataclass(frozen=True)
 class Keeping:
-    """The place of a kept script: its whole path."""
+    """The absolute path of a kept script."""
     path: str
     is_forced: bool
 
     def check(self, inputs: List[str]) -> None:
-        """Refuses a file that must not be replaced: an input of the lab, no regular file, or any without --force."""
+        """Refuses an input of the lab, a file that isn't regular, and without --force any existing file."""
         found = self.status()
         if found is None:
             return
@@ -29,7 +29,7 @@ class Keeping:
             raise LabFault(f"{self.path} exists; --force replaces it")
 
     def status(self) -> Optional[os.stat_result]:
-        """What is at the path, links followed; None if nothing is."""
+        """The status of the file, links followed; None if it does not exist."""
         try:
             return os.stat(self.path)
         except FileNotFoundError:
@@ -41,7 +41,7 @@ class Keeping:
         return LabFault(f"{self.path} can't be written: {fault.strerror}")
 
     def opened(self) -> BinaryIO:
-        """Opens the script, with no bytes in it. No other lab writes it meanwhile."""
+        """Opens and empties the script, and locks it against other labs."""
         found = self.status()
         is_new = not self.is_forced and (found is None or not is_stream(found))
         try:
@@ -58,5 +58,5 @@ class Keeping:
 
 
 def is_stream(found: os.stat_result) -> bool:
-    """Whether bytes sent there replace nothing: a pipe, a terminal, /dev/null."""
+    """Whether writing to it replaces nothing: a pipe, a terminal, /dev/null."""
     return stat.S_ISFIFO(found.st_mode) or stat.S_ISCHR(found.st_mode)

@@ -1,4 +1,4 @@
-"""The preloaded library: compiled on first use, and again where its sources have changed."""
+"""The preloaded library: compiled on first use, and again if its sources have changed."""
 import hashlib
 import os
 import shutil
@@ -17,7 +17,7 @@ def sources() -> "list[Path]":
 
 
 def name_of_library() -> str:
-    """The library's name has its sources' digest, so that an existing one is up to date."""
+    """The library's name, which has the digest of its sources, so that an existing library is up to date."""
     digest = hashlib.sha256("\0".join(FLAGS).encode())
     for source in sources():
         digest.update(source.name.encode() + b"\0" + source.read_bytes() + b"\0")
@@ -38,7 +38,7 @@ def library(folder: Path) -> Path:
     done = subprocess.run(words, stdout=subprocess.PIPE, stderr=subprocess.STDOUT, text=True)
     if done.returncode != 0:
         os.unlink(new)
-        said = done.stdout.splitlines() or ["it says nothing"]
+        said = done.stdout.splitlines() or ["no message"]
         raise LabFault(f"`{compiler}` does not compile the library: {said[0]}")
     os.chmod(new, 0o755)
     os.replace(new, place)

@@ -1,4 +1,4 @@
-"""The lines of nvmelive that look, and what their answers and the data of others say."""
+"""The queries of nvmelive, and how to parse their answers and other data."""
 from nvmelab.faults import Ended
 
 
@@ -11,7 +11,7 @@ def window_line(cntlid: int, address: int, length: int) -> str:
 
 
 def data_bytes(word: str, length: int) -> bytes:
-    """Bytes as answers spell them: in hexadecimal, without the zeros at their end, `-` for none."""
+    """Parses bytes of an answer: hexadecimal without trailing zeros, or `-` for none."""
     try:
         found = bytes.fromhex("" if word == "-" else word)
     except ValueError as fault:
@@ -22,7 +22,7 @@ def data_bytes(word: str, length: int) -> bytes:
 
 
 def window_bytes(answer: str, length: int) -> bytes:
-    """The bytes of a window, which the last word has."""
+    """The bytes of a window, the last word of the answer."""
     words = answer.split()
     if not words or answer.startswith("!"):
         raise refused(answer)
@@ -34,7 +34,7 @@ def register_line(cntlid: int, offset: int) -> str:
 
 
 def register_value(answer: str) -> int:
-    """What a read of a register gives: the last word."""
+    """The value of a register, the last word of the answer."""
     words = answer.split()
     if not words or answer.startswith("!"):
         raise refused(answer)

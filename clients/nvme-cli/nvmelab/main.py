@@ -44,7 +44,7 @@ The status is COMMAND's; 125 if the lab fails, 126 if COMMAND can't be run, 127 
 
 @dataclass
 class Words:
-    """The command line, taken apart."""
+    """The command line, parsed."""
     config: str = ""
     command: List[str] = field(default_factory=list)
     host: str = server.ALL_HOSTS
@@ -76,13 +76,13 @@ def take_apart(given: List[str]) -> Words:
         elif word == "--power-cycle":
             found.is_power_cycle = True
         elif word.startswith("-"):
-            raise LabFault(f"there is no option {word}; --help says which there are")
+            raise LabFault(f"there is no option {word}; --help lists them")
         elif found.config:
             raise LabFault(f"{word} comes after CONFIG without -- before it")
         else:
             found.config = word
     if not found.config:
-        raise LabFault("which CONFIG? --help says more")
+        raise LabFault("CONFIG is missing; see --help")
     if found.is_power_cycle and (found.command or len(given) > 2):
         raise LabFault("--power-cycle takes CONFIG and nothing else")
     if found.host != server.ALL_HOSTS:
@@ -119,7 +119,7 @@ def library_folder() -> Path:
 
 
 def run_command(command: List[str], view: Path, preloaded: Path) -> NoReturn:
-    """Becomes COMMAND: it has this process' number, and its status is its own."""
+    """Executes COMMAND in this process, whose status becomes COMMAND's."""
     others = [it for it in os.environ.get("LD_PRELOAD", "").replace(":", " ").split()
               if not Path(it).name.startswith("libnvmelab-")]
     os.environ["LD_PRELOAD"] = ":".join([str(preloaded), *others])
@@ -141,7 +141,7 @@ def fail(text: str, status: int = FAILED) -> NoReturn:
 
 
 def tell_shell(words: Words, view: Path) -> None:
-    """Says in whose shell one is, and which devices are there."""
+    """Prints whose shell this is, and its devices."""
     devices = " ".join(f"/dev/{it.name}" for it in sorted((view / "dev").glob("nvme*")))
     whose = "all hosts" if words.host == server.ALL_HOSTS else f"host {words.host}"
     print(f"lab: a shell of {whose}, with {devices}; exit leaves it", file=sys.stderr)

@@ -1,25 +1,25 @@
-"""What the preloaded library and the server say to each other: one request and its answer a connection.
+"""The protocol of the preloaded library and the server: one request and its answer for each connection.
 
-Numbers are little-endian, and every message begins with its length, 4 bytes, which it does not count.
+Numbers are little-endian. Every message begins with 4 bytes: the length of the rest.
 
 A request of 80 bytes and data:
 
-    0   1   what is asked: 1 a command, 2 a reset of the controller, 3 whether the device is there
+    0   1   the request: 1 a command, 2 a reset of the controller, 3 whether the device exists
     1   1   the queue: 0 the admin queue, 1 an I/O queue
     2   2   the controller, as the host's view numbers it: K of /dev/nvmeK
     4   4   the namespace of the device, 0 for the controller
-    8   4   where the data begin in their page, a multiple of 4; FFFFFFFFh where they have a length and no address
+    8   4   where the data begin in their page, a multiple of 4; FFFFFFFFh if they have a length and no address
     12  4   the length of the data in bytes, at most 131,072
     16  64  the entry of the command; its identifier and its data pointer are set by the server
     80      the data, as the host has them before the command; none without an address
 
 An answer of 20 bytes and data:
 
-    0   4   an error number of Linux, or 0; where it is not 0 the rest is 0
+    0   4   an error number of Linux, or 0; if it is not 0 the rest is 0
     4   16  the completion of a command
     20      the data that a command brought which succeeded and whose opcode has bit 0 clear; else none
 
-A request that does not come whole is dropped, and nothing of it happens.
+An incomplete request is dropped without an effect.
 """
 import struct
 from dataclasses import dataclass
@@ -38,7 +38,7 @@ NOT_MAPPED = 0xffffffff
 
 
 class Malformed(ValueError):
-    """A request that has not the form above."""
+    """A malformed request."""
 
 
 @dataclass

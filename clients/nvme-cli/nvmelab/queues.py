@@ -1,7 +1,7 @@
-"""The queues of a controller as its host keeps them, and where things are in the window that both share.
+"""The queues of a controller as its host keeps them, and the layout of the window that both share.
 
-The window has 4,194,304 bytes. Page 0 is left alone. Submission queue q is at page 2q + 1, completion queue q at page
-2q + 2, for q from 0 to 4; the list of PRP entries and the data of the one command under way are after them.
+The window has 4,194,304 bytes. Page 0 is unused. Submission queue q is at page 2q + 1, completion queue q at page
+2q + 2, for q from 0 to 4; the list of PRP entries and the data of the one command in progress are after them.
 """
 from dataclasses import dataclass
 from typing import Dict, Optional

@@ -1,4 +1,4 @@
-"""A raw host: the lab is its software, which stores entries in the window and writes registers."""
+"""A raw host, which the lab drives: it stores entries in the window and writes registers."""
 from typing import List, Tuple
 
 from nvmelab import entries, looks, queues
@@ -133,8 +133,8 @@ class RawHost(Host):
         return completion, answers
 
     def follow(self, command: Command, data: Data) -> None:
-        """Keeps the queues that an admin command has made or deleted. One whose place was given as data is not used:
-        the data of the next command will be there."""
+        """Keeps the queues that an admin command has made or deleted. A queue whose address was given as data is not
+        used, since the next command's data overwrite it."""
         qid = command.double_word(10) & 0xffff
         size = (command.double_word(10) >> 16) + 1
         if command.opcode == entries.DELETE_SUBMISSION:

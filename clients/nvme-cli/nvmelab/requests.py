@@ -1,7 +1,7 @@
-"""Commands as requests of a driver: the line of a script that says a command, or the status of one that none says.
+"""Commands as requests of a driver: the line of a script for a command, or the status of one that no line can express.
 
 A driver makes its commands itself, so that a request has the fields that the subsystem looks at, and no others: what
-else is in an entry says nothing to a raw host's controller either, and is left out. The data of a command reach to
+else is in an entry is ignored by a raw host's controller too, and is left out. The data of a command reach to
 the end of their last page, as those of a raw host do.
 """
 import struct
@@ -20,7 +20,7 @@ Maker = Callable[[Command, Data], List[object]]
 
 
 class Unsaid(Exception):
-    """No request says this command; it is answered with this status, and nothing is asked of the subsystem."""
+    """No request can express this command. It gets this status without reaching the subsystem."""
 
     def __init__(self, status: int) -> None:
         super().__init__(f"status {status:#x}")
@@ -28,7 +28,7 @@ class Unsaid(Exception):
 
 
 def request_line(cntlid: int, is_admin: bool, command: Command, data: Data) -> str:
-    """The line of the request that says a command with its data.
+    """The line of the request for a command with its data.
 
     Raises:
         Unsaid: no request has its opcode (Invalid Command Opcode); a field has a value that the request has no word for
@@ -57,7 +57,7 @@ def moved(data: Data, length: int) -> bytes:
 
 
 def spelled(content: bytes) -> str:
-    """Bytes as a line has them. The zeros at their end go without saying."""
+    """Bytes in the form of a line, without trailing zeros."""
     return f"hex:{content.rstrip(bytes(1)).hex() or '00'}"
 
 
@@ -102,7 +102,7 @@ def cns(command: Command) -> int:
 
 
 def sets_protection(command: Command) -> bool:
-    """FID is that of Namespace Write Protection Config, and SV, which saves a value, is 0."""
+    """Requires that FID is Namespace Write Protection Config and SV (Save) is 0."""
     return command.double_word(10) & 0xff == entries.WRITE_PROTECTION and command.double_word(10) >> 31 == 0
 
 
@@ -144,7 +144,7 @@ def release(command: Command, data: Data) -> List[object]:
 
 
 def report(command: Command, data: Data) -> List[object]:
-    """A driver asks for the extended data structure."""
+    """Requires EDS, since a driver asks for the extended data structure."""
     check(eds(command) == 1)
     dwords = command.double_word(10) + 1
     moved(data, 4 * dwords)
@@ -167,7 +167,7 @@ def protection(command: Command, data: Data) -> List[object]:
 
 
 def attachment(command: Command, data: Data) -> List[object]:
-    """SEL is in bits 3:0; the data are a Controller List, a page with a count and as many identifiers."""
+    """SEL is in bits 3:0; the data are a Controller List: a count, then that many identifiers."""
     sel = command.double_word(10) & 0xf
     check(sel in (ATTACH, DETACH))
     listed = moved(data, PAGE)

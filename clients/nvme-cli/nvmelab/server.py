@@ -1,7 +1,7 @@
 """The server of a lab: it runs the subsystem, and executes the commands that the preloaded libraries send.
 
-One command is under way at a time. Nothing that a client does or leaves undone stops the others: a message is read as
-it comes, and what is not whole when its connection ends is dropped.
+One command is in progress at a time. No client can block the others: messages are read as they arrive, and an
+incomplete one is dropped when its connection ends.
 """
 import errno
 import fcntl
@@ -50,7 +50,7 @@ def listen(place: Path) -> socket.socket:
 
 
 class Connection:
-    """One client: what came from it, and what is still to go to it."""
+    """One client: its received bytes, and the bytes that are still to be sent."""
 
     def __init__(self, stream: socket.socket, view: View) -> None:
         self.stream = stream
@@ -59,7 +59,7 @@ class Connection:
         self.to_go = b""
 
     def message(self) -> Optional[bytes]:
-        """The message, once it is whole."""
+        """The message, when it is complete."""
         if len(self.come) < protocol.LENGTH.size:
             return None
         length, = protocol.LENGTH.unpack_from(self.come)
@@ -71,8 +71,8 @@ class Connection:
 
 @dataclass
 class Place:
-    """The place of a lab: its folder, and the lock that all its processes hold. If its token differs, the folder is a
-    later lab's."""
+    """A lab's folder, and the lock that all its processes hold. A different token means that a later lab owns the
+    folder."""
     folder: Path
     lock: Path
     token: str
@@ -89,7 +89,7 @@ class Place:
 
 
 class Server:
-    """The lab of one CONFIG, in a folder of its own, which is gone when it ends."""
+    """The lab of one CONFIG, in its own folder, which is removed when it ends."""
 
     def __init__(self, place: Place, configuration: Configuration, subsystem: Subsystem) -> None:
         self.place = place
@@ -129,7 +129,7 @@ class Server:
                 return
 
     def may_end(self) -> bool:
-        """Whether nobody is just joining: who joins holds the lock meanwhile. It is held from here on to the end."""
+        """Whether no process is joining, which would hold the lock. Takes the lock until the end."""
         held = os.open(self.place.lock, os.O_RDWR | os.O_CREAT | os.O_CLOEXEC, 0o600)
         try:
             fcntl.flock(held, fcntl.LOCK_EX | fcntl.LOCK_NB)
@@ -139,14 +139,14 @@ class Server:
         return True
 
     def notice_end(self) -> None:
-        """The program says something unasked, or has ended."""
+        """Handles unexpected output, or the end, of the program."""
         raise Ended(self.subsystem.last_words())
 
     # Those who use the lab.
 
     def take_user(self, joining: socket.socket) -> None:
-        """Lets a process join: it sends its host, and receives the path of its devices. The lab lasts as long as
-        the last of these processes, whatever program each has become."""
+        """Lets a process join: it sends its host, and receives the path of its devices. The lab lasts as long as the
+        last of these processes, even if they execute other programs."""
         self.was_used = True
         try:
             stream, _ = joining.accept()
@@ -177,7 +177,7 @@ class Server:
         self.watch(user, lambda: self.drop_user(user))
 
     def power_cycle(self) -> str:
-        """A loss and return of power in the whole subsystem; then each host brings its controller up again."""
+        """Power-cycles the whole subsystem; then each host brings its controller up again."""
         answer, = self.subsystem.ask(["powercycle"])
         if answer != "powercycle":
             raise Ended(f"`powercycle` was answered `{answer[:60]}`")
@@ -187,7 +187,7 @@ class Server:
         return POWER_IS_BACK
 
     def view_of_word(self, wanted: str) -> Optional[View]:
-        """The view of a host as it was asked for; None where there is no such host."""
+        """The view of the named host; None if there is no such host."""
         try:
             return self.view_of(wanted)
         except ValueError:
@@ -199,7 +199,7 @@ class Server:
         os.close(user)
 
     def view_of(self, wanted: str) -> Optional[View]:
-        """The view of a host, which is made when it is first asked for."""
+        """The view of a host, created on first use."""
         if wanted in self.views:
             return self.views[wanted]
         if wanted == ALL_HOSTS:
@@ -233,7 +233,7 @@ class Server:
         client.stream.close()
 
     def hear(self, client: Connection) -> None:
-        """Reads what a client says; carries it out once it is whole, and begins to answer."""
+        """Reads from a client. Executes a complete request, and starts to answer."""
         try:
             piece = client.stream.recv(PIECE)
             client.come += piece
@@ -252,7 +252,7 @@ class Server:
             self.drop_client(client)
 
     def say(self, client: Connection) -> None:
-        """Sends what is still to go to a client."""
+        """Sends pending bytes to a client."""
         try:
             sent = client.stream.send(client.to_go)
         except BlockingIOError:
@@ -289,14 +289,14 @@ class Server:
 
 
 def changes_devices(command: entries.Command) -> bool:
-    """Whether an admin command may change what hosts find under /dev and /sys."""
+    """Whether an admin command may change files under /dev and /sys."""
     is_protection = command.double_word(10) & 0xff == entries.WRITE_PROTECTION
     return command.opcode == entries.ATTACHMENT or command.opcode == entries.SET_FEATURES and is_protection
 
 
 def serve(place: Place, configuration: Configuration, name: str, program: List[str], image: str,
           keeping: Optional[Keeping]) -> int:
-    """Runs a lab to its end. `ready`, or the fault, goes to standard output, which is closed then."""
+    """Runs a lab to its end. Prints `ready`, or the error, and then closes standard output."""
     def tell(text: str) -> None:
         os.write(1, text.encode() + b"\n")
         os.dup2(2, 1)

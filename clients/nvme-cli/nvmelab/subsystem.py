@@ -1,4 +1,4 @@
-"""The program nvmelive as a child: lines go in, and each is answered by one line."""
+"""The program nvmelive as a child process, which answers each line with one line."""
 import os
 import select
 import subprocess
@@ -8,17 +8,17 @@ from nvmelab.configuration import Configuration
 from nvmelab.faults import Ended, LabFault
 from nvmelab.keeping import Keeping
 
-# A program that says nothing for so long is taken as hanging. Before its first answer it may have to be built.
+# The time limit of an answer, after which the program counts as hanging. The first answer may include a build.
 ANSWER_SECONDS = 60.0
 PIECE = 1 << 20
 
 
 class Subsystem:
-    """One run of the program, and the script of what was asked of it."""
+    """One run of the program, and the script of its lines."""
 
     def __init__(self, program: List[str], image: str) -> None:
         self.script: Optional[BinaryIO] = None
-        # What has come of an answer that is not whole yet.
+        # The received part of an incomplete answer.
         self.come = b""
         try:
             self.process = subprocess.Popen([*program, image], stdin=subprocess.PIPE, stdout=subprocess.PIPE, bufsize=0)
@@ -28,7 +28,7 @@ class Subsystem:
         os.set_blocking(self.process.stdin.fileno(), False)
 
     def start(self, configuration: Configuration, name: str, keeping: Optional[Keeping] = None) -> None:
-        """Describes the subsystem and starts it. If that fails, no script is begun."""
+        """Describes the subsystem and starts it. If that fails, no script is written."""
         lines = [*configuration.handed, "start"]
         for line, answer in zip(lines, self.ask(lines, seconds=None)):
             if answer not in ("ok", "started"):
@@ -38,7 +38,7 @@ class Subsystem:
             self.keep(lines)
 
     def ask(self, lines: List[str], seconds: Optional[float] = ANSWER_SECONDS) -> List[str]:
-        """Hands lines in, all at once, and gives the answer of each."""
+        """Sends all lines at once, and returns their answers."""
         self.keep(lines)
         text = encoded(lines)
         answers: List[str] = []
@@ -49,13 +49,13 @@ class Subsystem:
         return answers
 
     def keep(self, lines: List[str]) -> None:
-        """Writes lines to the script, if there is one, without those that look."""
+        """Writes lines to the script, if any, without queries."""
         if self.script is not None:
             self.script.write(encoded([it for it in lines if not it.startswith("?")]))
             self.script.flush()
 
     def move(self, text: bytes, seconds: Optional[float]) -> bytes:
-        """Waits until the program takes bytes or has some, and moves them; gives what is still to go to it."""
+        """Waits until the program accepts or returns bytes, and transfers them. Returns the unsent bytes."""
         going = [self.process.stdin] if text else []
         readable, writable, _ = select.select([self.process.stdout], going, [], seconds)
         if not readable and not writable:
@@ -77,7 +77,7 @@ class Subsystem:
         return "the program has ended" if status is None else f"the program has ended with status {status}"
 
     def end(self) -> None:
-        """Ends the program: the end of its input is the end of the session."""
+        """Ends the program by closing its input."""
         for stream in (self.process.stdin, self.process.stdout):
             try:
                 stream.close()

@@ -1,7 +1,7 @@
-"""What a host finds under /dev and /sys: files in a folder of its own, as Linux has them.
+"""A host's files under /dev and /sys, in their own folder, as Linux has them.
 
-A device is an empty file: what it is, its name says. Attributes are files with a line each. Namespaces come and go as
-they are attached and detached.
+A device is an empty file, known by its name. Attributes are files with a line each. Namespaces appear and disappear
+when they are attached and detached.
 """
 import os
 import shutil
@@ -22,7 +22,7 @@ NAMESPACE, CONTROLLER, ATTACHED = 0, 1, 2
 
 
 def identify(host: Host, cns: int, nsid: int = 0) -> bytes:
-    """One of the data structures of Identify, asked for as any host does."""
+    """A data structure of Identify, from an ordinary Identify command."""
     command = Command.of(entries.IDENTIFY, nsid, cns)
     completion, found = host.admin(command, Data(content=bytes(IDENTIFY_BYTES)))
     if not completion.is_success:
@@ -36,7 +36,7 @@ def text_of(field: bytes) -> str:
 
 @dataclass
 class Identity:
-    """What Identify Controller says that Linux shows."""
+    """The fields of Identify Controller that Linux shows."""
     vendor: int
     subsystem_vendor: int
     serial: bytes
@@ -66,7 +66,7 @@ class Identity:
 
 @dataclass
 class Space:
-    """What Identify Namespace says that Linux shows: blocks, and whether they are write protected."""
+    """The fields of Identify Namespace that Linux shows: blocks, and whether they are write protected."""
     blocks: int
     used: int
     is_protected: bool
@@ -111,7 +111,7 @@ class View:
         return self.folder / "sys" / "class" / name
 
     def make(self) -> None:
-        """Makes everything but the namespaces."""
+        """Creates everything except the namespaces."""
         self.devices.mkdir(parents=True)
         subsystem = self.classes("nvme-subsystem") / "nvme-subsys0"
         for folder in (subsystem, self.classes("nvme"), self.classes("nvme-generic"), self.folder / "sys" / "block"):
@@ -134,8 +134,7 @@ class View:
             })
 
     def refresh(self) -> None:
-        """Shows the registers as they are now, and the namespaces that are attached now. A host that has lost its admin
-        queue learns of nothing."""
+        """Updates the registers and the attached namespaces. A host without an admin queue learns of no change."""
         for number, host in enumerate(self.hosts):
             self.show_registers(number, host)
             try:

@@ -13,7 +13,7 @@ set and cleared: registrations, reservations and what persists of the namespace
 set and ended: write protection of the namespace, but not the one until a power cycle
 tried: attachments that are refused; nothing is attached or detached
 """
-UNASKED = "nvmesim: nothing was written: --destroy-data is needed for that, --dry-run for the plan alone\n"
+UNASKED = "nvmesim: nothing was written: give --destroy-data to write, or --dry-run to print the plan\n"
 
 
 def conform(bench: Bench, words: List[str], options: List[str]) -> Ended:
@@ -26,13 +26,13 @@ def same(bench: Bench) -> None:
     for options in ([], ["--drivers"]):
         for words in (BOTH, BOTH[:2], ["--device", "/dev/nvme1n1", "--second", "/dev/nvme0n1", "--seed", "900"]):
             done = conform(bench, [*words, "--destroy-data", "--scenes", "6"], options)
-            check_is(f"{words} with {options}, which says {done.output!r} and {done.errors!r},", done.status, 0)
+            check_is(f"{words} with {options}, which prints {done.output!r} and {done.errors!r},", done.status, 0)
             if "no difference in 6 scenes of 40 commands" not in done.output:
                 raise Fault(f"{done.output!r} has no end")
 
 
 def careful(bench: Bench) -> None:
-    """Nothing is written that was not asked for, nor to a namespace that somebody uses."""
+    """Nothing is written without --destroy-data, nor to a namespace with registrants."""
     image = bench.place / "image"
     content = bytes(range(256)) * 2 * (2048 + 64)
     image.write_bytes(content)
@@ -47,7 +47,7 @@ def careful(bench: Bench) -> None:
     register = f"{HERE / 'standin' / 'nvme'} resv-register /dev/nvme0n1 --rrega=0 --nrkey=0xa"
     done = bench.run(["sh", "-c", f"{register} >&2; exec {sys.executable} -m nvmesim conform --device /dev/nvme0n1 "
                       "--destroy-data"], ["--image", str(image)])
-    if done.status != 2 or "has registrants: somebody uses it; nothing was written" not in done.errors:
+    if done.status != 2 or "has registrants, so it is in use; nothing was written" not in done.errors:
         raise Fault(f"a namespace that is used: {done.status}, {done.errors!r}")
     bench.wait_over()
     check_is("whether the image is as it was", image.read_bytes() == content, True)

@@ -1,4 +1,4 @@
-"""Trials of the devices: all commands by the client, several processes at once, and what is killed."""
+"""Trials of the devices: all commands by the client, several processes at once, and kills."""
 import os
 import random
 import signal
@@ -14,7 +14,7 @@ CLIENT_TRIALS = ("files", "admin", "queues", "unread", "attachment", "blocks", "
 DRIVER_TRIALS = ("files", "admin", "unsaid", "unread", "attachment", "blocks", "pointers", "reservations", "disk")
 DRIVERS = ["--drivers"]
 
-# Says what is wrong to the server in each way, in the lab: nothing, a part, too much, no sense, and no wish to hear.
+# Sends the server wrong messages, in the lab: none, a part of one, too much, nonsense; and reads no answer.
 ROUGH = r"""
 import os, socket, struct, sys
 def connect():
@@ -42,7 +42,7 @@ def answer(text):
     return struct.unpack_from("<I", head, 4)[0]
 assert answer(request(controller=9, entry=flush)) == 19
 assert answer(request(nsid=7, entry=flush)) == 19
-# One that stops in the middle, and one that never hears its answer, while another goes on.
+# One client stops in the middle and one never reads its answer, while a third continues.
 slow, deaf = connect(), connect()
 slow.sendall(whole[:300])
 deaf.sendall(big)
@@ -60,7 +60,7 @@ def commands(bench: Bench) -> None:
 
 
 def requests(bench: Bench) -> None:
-    """The same by requests of drivers: of both hosts, and of one next to a raw host. Those who join need not ask for
+    """Checks requests of drivers: of both hosts, and of one next to a raw host. Those who join need not ask for
     them."""
     mixed = bench.place / "mixed.nvme"
     mixed.write_text(CONFIG.read_text().replace("host 0xb2", "host 0xb2 raw"))
@@ -83,12 +83,12 @@ def hammered_at_once(bench: Bench, drivers: List[str]) -> None:
         ("/dev/nvme1n1", "600", []))]
     for process in running:
         _, errors = process.communicate(timeout=LONGEST_SECONDS)
-        check_is(f"the end of one of three at once, which says {errors!r},", process.returncode, 0)
+        check_is(f"the end of one of three at once, which prints {errors!r},", process.returncode, 0)
     bench.wait_over()
 
 
 def killed_clients(bench: Bench) -> None:
-    """Clients that are killed at any moment, and those that say half of what they should."""
+    """Clients that are killed at any moment, and clients that send half a message."""
     chosen = random.Random(41)
     with bench.held():
         for _ in range(15):
@@ -103,7 +103,7 @@ def killed_clients(bench: Bench) -> None:
 
 
 def pulled(bench: Bench, kill) -> None:
-    """Kills the server of an open device, and checks what then becomes of it."""
+    """Kills the server of an open device, and checks what the device then does."""
     process = bench.begin(["sh", "-c", f"{bench.client} gone /dev/nvme0n1; echo $?; {bench.client} gone /dev/nvme0n1"])
     check_is("the client's word", process.stdout.readline(), "open\n")
     server = server_of(view_of(process.pid))
@@ -114,7 +114,7 @@ def pulled(bench: Bench, kill) -> None:
     # The node of a device goes with the lab's folder, which a killed server leaves.
     is_refused = "No such device or address" in errors or "No such file or directory" in errors
     if "flush: No such device\n" not in errors or not is_refused:
-        raise Fault(f"a device whose server is gone says {errors!r}")
+        raise Fault(f"a device without its server reports {errors!r}")
     bench.try_client("files")
     bench.wait_over()
 

@@ -1,4 +1,4 @@
-"""Trials of the lab itself: what lasts and what does not, what it says when it can't, and that it disturbs nobody."""
+"""Trials of the lab itself: what lasts and what does not, its errors, and that it disturbs no other program."""
 import fcntl
 import json
 import os
@@ -24,18 +24,18 @@ REFUSED = (
     ("", "1:1: there is no controller; add a line 'controller 1 host 1'"),
     ("controller 1 host 1\nnamespace 1 blocks 0 shared\n", "2:1: namespace 1 has no blocks"),
     ("controller 1 host 1\nnamspace 1\n", "2:1: there is no line 'namspace'; did you mean 'namespace'?"),
-    ("controller 1 host a1\n", "1:19: word 4: H, a number below 2^128, and not 'a1'; did you mean '0xa1'?"),
-    ("controller 1 host 1\nup 1\n", "2:1: up needs a 'start' before it, and there is none"),
-    ("controller 1 host 1\nstart\n\n\tup 1\n", "4:2: this line is an event, and a configuration has none"),
-    ("controller 1 host 1\nstart\nattached 1 1\n", "3:1: attached stands before 'start', which was said already"),
-    ("controller 2 host 1\n", "1:1: controller 1 has to stand here, and not 2: they are counted from 1"),
+    ("controller 1 host a1\n", "1:19: word 4: H, a number below 2^128, not 'a1'; did you mean '0xa1'?"),
+    ("controller 1 host 1\nup 1\n", "2:1: up needs a 'start' before it"),
+    ("controller 1 host 1\nstart\n\n\tup 1\n", "4:2: this line is an event; a configuration has none"),
+    ("controller 1 host 1\nstart\nattached 1 1\n", "3:1: attached must come before 'start'"),
+    ("controller 2 host 1\n", "1:1: this must be controller 1, not 2: controllers are numbered from 1"),
     ("controller 1 host 1\nnamespace 1 blocks 18446744073709551615 shared\n",
-     "2:1: namespace 1 has 18446744073709551615 blocks, and 65536 is the most"),
+     "2:1: namespace 1 has 18446744073709551615 blocks; at most 65536 are allowed"),
     ("controller 1 host 1\x0b\n",
      "1:20: the byte \\x0b is neither a visible character nor a space, a tab or a carriage return"),
 )
 
-# What people do with a block device, and what comes of it; the last ones are tried where the program is installed.
+# Uses of a block device, and their results; the last ones are tried if the program is installed.
 DISKS = (
     ("yes | head -c 100000 >zero && dd if=zero of=/dev/nvme0n1 bs=4k status=none && "
      "head -c 100000 /dev/nvme0n1 | cmp - zero && echo same", "same\n"),
@@ -68,7 +68,7 @@ def disks(bench: Bench) -> None:
         with bench.held(drivers):
             for line, wanted in (*DISKS, *tools):
                 done = bench.run(["sh", "-c", line])
-                check_is(f"`{line}`, which says {done.errors!r},", done.output, wanted)
+                check_is(f"`{line}`, which prints {done.errors!r},", done.output, wanted)
     check_is("what the machine's own /dev has", sorted(Path("/dev").glob("nvme*")), own)
 
 
@@ -84,7 +84,7 @@ def lasting(bench: Bench) -> None:
 
 
 def shells(bench: Bench) -> None:
-    """Without COMMAND a shell is opened, which says whose it is."""
+    """Without COMMAND a shell is opened, which prints whose it is."""
     bench.others["SHELL"] = "/bin/sh"
     done = bench.run([], ["--host", "0xa1"], given="test -b /dev/nvme0n2 && echo there; exit 5\n")
     del bench.others["SHELL"]
@@ -105,8 +105,8 @@ def images(bench: Bench) -> None:
         expect_fault(bench, ["--image", str(held)], f"{said}holds its lock")
     small = bench.place / "small"
     small.write_bytes(bytes(512))
-    expect_fault(bench, ["--image", str(small)], f"{CONFIG}:4:1: namespace 1 ends behind the 1 blocks of the medium, "
-                 "where the namespaces lie one after the other")
+    expect_fault(bench, ["--image", str(small)], f"{CONFIG}:4:1: namespace 1 ends after the 1 blocks of the medium, "
+                 "on which namespaces follow one another")
 
 
 def outputs(bench: Bench) -> None:
@@ -149,7 +149,7 @@ def kept_and_run_again(bench: Bench, drivers: "list[str]") -> None:
     check_is(f"the end of a lab with an image, with {done.errors!r},", done.status, 0)
     bench.wait_over()
     if not any(image.read_bytes()):
-        raise Fault("nothing has come to the image")
+        raise Fault("the image is unchanged")
     is_driver = "\nup 1\n" in script.read_text()
     check_is("whether drivers have done it", is_driver, bool(drivers))
     done = bench.run_words([bench.program, str(again), str(script)])
@@ -188,7 +188,7 @@ def let_two_hosts_write(bench: Bench, options: "list[str]") -> None:
         echo from a1 | '{nvme}' write /dev/nvme0n1 --start-block=7 --data-size=512
         '{LAB}' --host 0xb2 '{CONFIG}' -- sh -c "{other}"
         """], options)
-    check_is("what the hosts are told", done.output.splitlines(),
+    check_is("the messages to the hosts", done.output.splitlines(),
              ["NVME Reservation  success", "NVME Reservation Acquire success", "write: Success"])
     check_is("whether the other host's write is refused", "Reservation Conflict" in done.errors, True)
     bench.wait_over()
@@ -205,7 +205,7 @@ def explore_scene(bench: Bench, kept: Path, scene: Path, fresh: Path) -> None:
     found = json.loads(done.output)
     check_is("whether all orders were judged", (found["judged"], found["is_whole"]), (found["orders"], True))
     outcomes = sorted((it["answers"]["hb2.write1"]["status"], it["blocks"]["1:7"]) for it in found["outcomes"])
-    check_is("what comes of the write", outcomes, [(it, b"from a1\n".hex()) for it in ("0:00", "0:83")])
+    check_is("the result of the write", outcomes, [(it, b"from a1\n".hex()) for it in ("0:00", "0:83")])
 
 
 def undisturbed(bench: Bench) -> None:
@@ -221,11 +221,11 @@ def undisturbed(bench: Bench) -> None:
 
 def expect_fault(bench: Bench, words: "list[str]", text: str, status: int = 125, whole: bool = True,
                  config: "Path | None" = None) -> None:
-    """The lab says one sentence, and runs nothing."""
+    """The lab prints one sentence, and runs nothing."""
     done = bench.run_words([str(bench.lab), *words, str(config or CONFIG), "--", "echo", "ran"])
     is_said = done.errors == f"lab: {text}\n" if whole else text in done.errors and done.errors.count("\n") == 1
     if done.status != status or done.output or not is_said or not done.errors.startswith("lab: "):
-        raise Fault(f"lab {' '.join(words)} ended with {done.status} and said {done.errors!r}{done.output!r}")
+        raise Fault(f"lab {' '.join(words)} ended with {done.status} and printed {done.errors!r}{done.output!r}")
 
 
 def power_cycles(bench: Bench) -> None:
@@ -263,7 +263,7 @@ def faults(bench: Bench) -> None:
     expect_fault(bench, ["--image", absent], "", whole=False)
     expect_fault(bench, ["--host", "0xc3"], "no controller belongs to host 0xc3", whole=False)
     expect_fault(bench, ["--host", "c3"], "--host c3 is no number")
-    expect_fault(bench, ["--hosts"], "there is no option --hosts; --help says which there are")
+    expect_fault(bench, ["--hosts"], "there is no option --hosts; --help lists them")
     expect_fault(bench, [], f"{absent} can't be read: No such file or directory", config=Path(absent))
     config = bench.place / "config.nvme"
     for text, said in REFUSED:
@@ -274,7 +274,7 @@ def faults(bench: Bench) -> None:
     done = bench.run(["cat", "/sys/block/nvme0n1/size"], ["--host", "10", "--drivers"], config=config)
     check_is("numbers of all forms, and a last start", (done.status, done.output, done.errors), (0, "16\n", ""))
     bench.wait_over()
-    for words in ([], ["--host"], [str(config), "behind"], [str(config), "--"]):
+    for words in ([], ["--host"], [str(config), "after"], [str(config), "--"]):
         done = bench.run_words([str(bench.lab), *words])
         check_is(f"lab {' '.join(words)}", (done.status, done.errors.count("\n"), done.output), (125, 1, ""))
     check_is("a command that is not found", bench.run(["absent"]).status, 127)
@@ -295,18 +295,18 @@ def changed(bench: Bench, config: Path) -> None:
              (125, f"lab: the lab of {config} runs already, without --image {config}\n"))
     inner = " ".join(bench.words(["--drivers"], ["true"], config))
     done = bench.run(["sh", "-c", inner], config=config)
-    check_is("drivers, where there are none", (done.status, done.errors),
+    check_is("drivers in a lab without any", (done.status, done.errors),
              (125, f"lab: the lab of {config} runs already, without --drivers\n"))
 
 
 def without_compiler(bench: Bench) -> None:
-    """A fresh copy compiles its library, or says that it can't; the next one finds it."""
+    """A fresh copy compiles its library, or reports that it can't; the next one finds it."""
     place = bench.place / "a copy"
     shutil.copytree(PACKAGE, place, ignore=shutil.ignore_patterns("out", "__pycache__"))
     fresh = Bench(bench.place, bench.program, place / "lab", {"CC": "no-compiler"})
     expect_fault(fresh, [], "there is no C compiler `no-compiler`", whole=False)
     fresh.others["CC"] = "/bin/false"
-    expect_fault(fresh, [], "`/bin/false` does not compile the library: it says nothing")
+    expect_fault(fresh, [], "`/bin/false` does not compile the library: no message")
     del fresh.others["CC"]
     fresh.try_client("files")
     fresh.others["CC"] = "no-compiler"

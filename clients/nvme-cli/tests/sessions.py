@@ -24,7 +24,7 @@ UNSAID = (
 
 
 def version_of_tool() -> Optional[Tuple[int, int]]:
-    """The version of nvme-cli, where it is installed."""
+    """The version of nvme-cli, if it is installed."""
     tool = shutil.which("nvme")
     if not tool:
         return None
@@ -84,7 +84,7 @@ def statuses(lines: List[str]) -> List[str]:
 
 
 def of_drivers(line: str, wanted: List[str]) -> List[str]:
-    """What comes back of a line where hosts have drivers."""
+    """What comes back of a line if hosts have drivers."""
     for form, said in UNSAID:
         if form.search(line):
             return [said]
@@ -114,7 +114,7 @@ def fencing(bench: Bench) -> None:
 
 
 def fencing_by_stand_in(bench: Bench) -> None:
-    """The same where nvme-cli is not installed, by a program that makes the same control calls, word for word."""
+    """Compares a stand-in for nvme-cli, which makes the same ioctls, word for word."""
     bench.others["PATH"] = f"{HERE / 'standin'}{os.pathsep}{os.environ['PATH']}"
     try:
         for name in ("fencing.session", "power-cycle.session"):

@@ -19,12 +19,12 @@ LONGEST_SECONDS = 300
 
 
 class Fault(Exception):
-    """Something is not as it must be."""
+    """A check failed."""
 
 
 def check_is(what: str, found: object, wanted: object) -> None:
     if found != wanted:
-        raise Fault(f"{what} is {found!r}, and not {wanted!r}")
+        raise Fault(f"{what} is {found!r}, not {wanted!r}")
 
 
 @dataclass
@@ -70,7 +70,7 @@ class Bench:
         return Ended(done.returncode, done.stdout, done.stderr)
 
     def try_client(self, *words: str, options: Optional[List[str]] = None, config: Path = CONFIG) -> None:
-        """Runs the client in a lab, where it has to find everything as it must be."""
+        """Runs the client in a lab, in which all its checks must pass."""
         done = self.run([self.client, *words], options, config)
         if done.status != 0:
             raise Fault(f"client {' '.join(words)} ended with {done.status}: {done.errors.strip()}")
@@ -99,7 +99,7 @@ class Bench:
                                (["-std=c11", "-fPIC", "-shared", "-o", str(self.place / "library")],
                                 PACKAGE / "library")):
             done = self.run_words([os.environ.get("CC", "cc"), *strict, *words, *map(str, sorted(sources.glob("*.c")))])
-            check_is(f"the compilation of {sources}, which says {done.errors!r},", done.status, 0)
+            check_is(f"the compilation of {sources}, which prints {done.errors!r},", done.status, 0)
 
     def is_over(self) -> bool:
         """Whether no lab is left: each folder is gone, and its lock is free."""

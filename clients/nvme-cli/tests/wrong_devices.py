@@ -1,7 +1,7 @@
 """Wrong devices: the lab's own, with one fault each put before them. Run in a lab, as `wrong_devices.py [NAME ..]`.
 
 Each is compared with the model until a difference is found, which must be soon; of some the difference is made as short
-as it can be, and printed as the script that it is. The status is 1 where a fault is not found.
+as it can be, and printed as the script that it is. The status is 1 if a fault is not found.
 """
 import struct
 import sys
@@ -199,7 +199,7 @@ FAULTS: Dict[str, Fault] = {
     "the generation does not change": of_report(still_generation),
     "a report does not tell what persists": of_report(not_persistent),
     "write protection is not set": dropped_protection,
-    "write protection is not told": protection_is_off,
+    "write protection is not reported": protection_is_off,
     "a protected namespace is written": status(WRITE, "0:20", "0:00"),
     "what is attached is attached again": status(ATTACHMENT, "1:18", "0:00", admin=True),
     "an empty list of controllers is taken": status(ATTACHMENT, "1:1c", "0:00", admin=True),

@@ -15,6 +15,9 @@ mod output;
 #[allow(dead_code)]
 #[path = "../src/pdu.rs"]
 mod pdu;
+#[allow(unsafe_code)]
+#[path = "../src/processor.rs"]
+mod processor;
 #[allow(dead_code, unsafe_code)]
 #[path = "../src/system.rs"]
 mod system;
@@ -34,7 +37,7 @@ use system::{Interest, Poll};
 const PLAIN: Agreed = Agreed { header_digests: false, data_digests: false, alignment: 0 };
 const BYTES: usize = 32768 * 512;
 
-/// The bytes of the blocks, or none, where nothing is kept.
+/// The bytes of the blocks, or none, if nothing is kept.
 struct Blocks(Vec<u8>);
 
 impl Blocks {

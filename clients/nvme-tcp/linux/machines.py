@@ -5,6 +5,7 @@ import select
 import subprocess
 import time
 from pathlib import Path
+from typing import Sequence
 
 # The address at which a guest reaches the machine that it runs on.
 ADDRESS = "10.0.2.2"
@@ -13,20 +14,25 @@ BOOT, LINE = 180, 120
 
 
 class Guest:
-    """One machine of one host, named by the first byte of its HOSTID. `run` types a line and waits for the prompt."""
+    """One machine of one host, named by the first byte of its HOSTID. `run` types a line and waits for the prompt.
 
-    def __init__(self, built: Path, folder: Path, host: str, cpus: int = 1, more: str = "",
-                 has_fio: bool = False) -> None:
+    `more` is for the kernel's command line, `archive` follows the initramfs, and `devices` are further words for QEMU.
+    """
+
+    def __init__(self, built: Path, folder: Path, host: str, cpus: int = 1, more: str = "", archive: str = "",
+                 devices: Sequence[str] = ()) -> None:
         self.host = host
-        self.console = open(folder / f"console-{host}.txt", "wb")
+        self.console = open(folder / f"console-{host}.txt", "ab")
         initramfs = built / "initramfs.gz"
-        if has_fio:
-            initramfs = folder / "initramfs.gz"
-            initramfs.write_bytes((built / "initramfs.gz").read_bytes() + (built / "fio.gz").read_bytes())
+        if archive:
+            initramfs = folder / f"initramfs-{host}.gz"
+            initramfs.write_bytes((built / "initramfs.gz").read_bytes() + (built / archive).read_bytes())
         words = ["qemu-system-x86_64", "-accel", "tcg", "-cpu", "max", "-smp", str(cpus), "-m", "768", "-nographic",
                  "-no-reboot", "-nodefaults", "-serial", "stdio", "-nic", "user,model=e1000", "-kernel",
-                 str(built / "vmlinuz"), "-initrd", str(initramfs), "-append",
-                 f"console=ttyS0 panic=-1 quiet loglevel=7 mitigations=off random.trust_cpu=on suvmileh={host} {more}"]
+                 str(built / "vmlinuz"), "-initrd", str(initramfs), *devices, "-append",
+                 # no_timer_check: on a loaded machine the timer fails that check, and the kernel panics.
+                 "console=ttyS0 panic=-1 quiet loglevel=7 mitigations=off random.trust_cpu=on no_timer_check "
+                 f"suvmileh={host} {more}"]
         begun = time.monotonic()
         self.process = subprocess.Popen(words, stdin=subprocess.PIPE, stdout=subprocess.PIPE, bufsize=0)
         self.come = b""
@@ -35,7 +41,7 @@ class Guest:
         say(f"guest {host} is up, {kernel.group(1) if kernel else '?'}, after {time.monotonic() - begun:.0f} s")
 
     def read(self, seconds: float) -> None:
-        """Takes what comes within this time."""
+        """Reads the output that arrives within this time."""
         readable, _, _ = select.select([self.process.stdout], [], [], seconds)
         if readable:
             piece = os.read(self.process.stdout.fileno(), 65536)
@@ -46,7 +52,7 @@ class Guest:
             self.come += piece
 
     def wait(self, seconds: float) -> str:
-        """All that comes up to the next prompt, that one left out."""
+        """The output up to the next prompt."""
         last = time.monotonic() + seconds
         prompt = re.compile(rb"(?:^|\n)" + self.host.encode() + rb"\$ ")
         while True:
@@ -62,18 +68,18 @@ class Guest:
         self.process.stdin.write(line.encode() + b"\n")
 
     def run(self, line: str, seconds: float = LINE) -> str:
-        """Executes a line; its output, which is shown after the prompt."""
+        """Executes a line. Returns its output, and prints it after the prompt."""
         self.type(line)
         return self.ended(seconds)
 
     def ended(self, seconds: float = LINE) -> str:
-        """What the line that was typed last has printed, its echo first."""
+        """The echo and the output of the last typed line."""
         text = self.wait(seconds)
         print(f"{self.host}$ {text}", flush=True)
         return text
 
     def rest(self, seconds: float) -> None:
-        """Waits, and shows what the console says meanwhile."""
+        """Waits, and shows the console's output meanwhile."""
         last = time.monotonic() + seconds
         while time.monotonic() < last:
             self.read(max(0.0, last - time.monotonic()))
@@ -88,5 +94,5 @@ class Guest:
 
 
 def say(text: str) -> None:
-    """A line that is no console's."""
+    """Prints a line of the scene itself."""
     print(f"# {text}", flush=True)

@@ -1,4 +1,4 @@
-"""Scenes of guests that prove who they are, for kernels that can, and targets that were built with libcrypto."""
+"""Scenes with authentication, for kernels that support it and targets that were built with libcrypto."""
 import signal
 import time
 from pathlib import Path
@@ -84,7 +84,7 @@ def prove_again(it: Stage, a: Guest) -> None:
 
 
 def proofs(built: Path, folder: Path) -> None:
-    """Hosts prove who they are: with the right secret, wrong ones and none, in both directions, and again."""
+    """Hosts authenticate: with the right secret, wrong ones and none, in both directions, and again."""
     keys = key_line("a1", SECRETS["a1"], SECRETS["controller"]) + key_line("b2", SECRETS["b2"])
     with stage(built, folder, 16384, "a1", "b2", keys=keys) as it:
         a = it.guest("a1", cpus=2)
@@ -94,7 +94,7 @@ def proofs(built: Path, folder: Path) -> None:
 
 
 def each_proof(built: Path, folder: Path) -> None:
-    """Linux proves who it is, and has the target prove it, with each hash and each group."""
+    """Linux and the target authenticate each other, with each hash and each group."""
     keys = key_line("a1", SECRETS["a1"], SECRETS["controller"])
     with stage(built, folder, 16384, "a1", keys=keys) as it:
         a = it.guest("a1", cpus=2)
@@ -112,7 +112,7 @@ def each_proof(built: Path, folder: Path) -> None:
 
 
 def recorded_proofs(built: Path, folder: Path, path: Path) -> None:
-    """A host proves itself in both directions, another in one, and one does not. What is said is written down."""
+    """Records one host with mutual authentication, one with one-way authentication, and one without."""
     keys = key_line("a1", SECRETS["a1"], SECRETS["controller"]) + key_line("b2", SECRETS["b2"])
     with stage(built, folder, BLOCKS, "a1", "b2", state=True, keys=keys) as it:
         (folder / "state/identity").write_text(IDENTITY)

@@ -1,8 +1,8 @@
-"""Bytes of Linux: what guests and a target say, as a text that is played again without guests.
+"""Recorded bytes of Linux guests and a target, as a text that tests replay without guests.
 
-A line says who speaks: `N > COUNT` that the host of connection N sends COUNT bytes, `N < COUNT` that the target does,
-`N .` that the host closes the connection. The bytes are in the lines after it, in hexadecimal, blanks between words;
-`0*COUNT` is COUNT zeros.
+`N > COUNT` means that the host of connection N sends COUNT bytes, `N < COUNT` that the target does, `N .` that the host
+closes the connection. The bytes are in the lines after it, in hexadecimal, blanks between words; `0*COUNT` is COUNT
+zeros.
 """
 import contextlib
 import re
@@ -20,7 +20,7 @@ ZEROS = re.compile(rb"\0{16,}")
 
 
 def words_of(data: bytes) -> Iterator[str]:
-    """The words of bytes: pieces of at most 32, and runs of zeros."""
+    """The words for bytes: groups of at most 32, and runs of zeros."""
     at = 0
     for run in [*ZEROS.finditer(data), None]:
         end = run.start() if run else len(data)
@@ -31,7 +31,7 @@ def words_of(data: bytes) -> Iterator[str]:
 
 
 def text_of(events: List[Event]) -> str:
-    """The text of events, those of a connection and direction that follow each other in one."""
+    """The text of events. Consecutive ones of a connection and direction are merged."""
     lines = []
     for number, direction, data in events:
         lines.append(f"{number} {direction} {len(data)}" if data else f"{number} {direction}")

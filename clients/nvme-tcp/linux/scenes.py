@@ -1,4 +1,4 @@
-"""The scenes. Each plays some guests over a target, and asks at its end what has to hold."""
+"""The scenes. Each runs some guests over a target, and checks the result at its end."""
 import contextlib
 import socket
 import subprocess
@@ -37,7 +37,7 @@ def free_port() -> int:
 
 
 class Stage:
-    """A target over an image, with what has to hold at the end."""
+    """A target over an image, with the checks at the end."""
 
     def __init__(self, built: Path, folder: Path, blocks: int, *hosts: str, state: bool = False,
                  keys: str = "") -> None:
@@ -85,8 +85,8 @@ class Stage:
         return answer
 
     def wants(self, what: str, holds: bool) -> None:
-        """Something that has to hold."""
-        say(f"{what}: {'as it must be' if holds else 'NOT SO'}")
+        """Checks a condition."""
+        say(f"{what}: {'passed' if holds else 'FAILED'}")
         if not holds:
             self.faults.append(what)
 
@@ -108,7 +108,7 @@ class Stage:
         self.target.start(self.port)
 
     def replay(self) -> None:
-        """Has nvmelive run the kept lines again, over an image as it was, and compares the images."""
+        """Runs the kept lines again by nvmelive, over a copy of the first image, and compares the images."""
         again = self.folder / "again.img"
         again.write_bytes(self.image_before.read_bytes())
         for kept in self.kept:
@@ -124,7 +124,7 @@ class Stage:
 
 @contextlib.contextmanager
 def stage(built: Path, folder: Path, blocks: int, *hosts: str, **how: bool) -> Iterator[Stage]:
-    """A stage, which is cleared at the end; the run is compared with its replay then."""
+    """Runs a scene's machines. At the end they are stopped, and the run is compared with its replay."""
     set_up = Stage(built, folder, blocks, *hosts, **how)
     try:
         yield set_up
@@ -250,20 +250,20 @@ def failover(built: Path, folder: Path) -> None:
 
 
 def in_flight(built: Path, folder: Path) -> None:
-    """A write that is under way, fetched and not executed, when its host is preempted; and one when power is lost."""
+    """A write in progress, fetched and not executed, when its host is preempted; and one when power is lost."""
     with stage(built, folder, 2048, "a1", "b2") as it:
         a, b = it.connected("a1"), it.connected("b2")
         a.run("pr register /dev/nvme0n1 0 0xa; pr reserve /dev/nvme0n1 0xa 3")
         b.run("pr register /dev/nvme0n1 0 0xb")
         b.run(write("written by b2, a registrant"))
-        say("a1 writes; its command is fetched, and not executed yet")
-        it.hold(a, write("written by a1, under way"))
+        say("a1 writes; its command is fetched but not executed yet")
+        it.hold(a, write("written by a1, in progress"))
         b.run("pr preempt-abort /dev/nvme0n1 0xb 0xa 3")
         say("now it is executed")
         it.ask("go 1")
         it.wants("it is answered 0:1b", "sc 0x1b" in a.ended())
         it.wants("it has not landed", "b2, a registrant" in b.run(READ))
-        say("a1 registers again and writes; power is lost while its command is under way")
+        say("a1 registers again and writes; power is lost while its command is in progress")
         a.run("pr register /dev/nvme0n1 0 0xa")
         it.hold(a, write("written by a1, when power was lost"))
         it.ask("powercycle")
@@ -273,7 +273,7 @@ def in_flight(built: Path, folder: Path) -> None:
 
 
 def retried(built: Path, folder: Path) -> None:
-    """A write that Preempt and Abort has aborted is not tried again: its status says Do Not Retry."""
+    """A write that Preempt and Abort has aborted is not tried again: its status has Do Not Retry."""
     with stage(built, folder, 2048, "a1", "b2") as it:
         a, b = it.connected("a1"), it.connected("b2")
         a.run("pr register /dev/nvme0n1 0 0xa; pr reserve /dev/nvme0n1 0xa 3")
@@ -305,7 +305,8 @@ def one_guest(built: Path, folder: Path) -> None:
 
 
 def quorum(built: Path, folder: Path) -> None:
-    """Three hosts, of which two are a quorum. Write Exclusive, Registrants Only: who loses contact is preempted."""
+    """Three hosts, of which two are a quorum. Write Exclusive, Registrants Only: a host that loses contact is
+    preempted."""
     with stage(built, folder, 2048, "a1", "b2", "c3") as it:
         a, b, c = it.connected("a1"), it.connected("b2"), it.connected("c3")
         for guest, key in ((a, "0xa"), (b, "0xb"), (c, "0xc")):
@@ -336,18 +337,18 @@ def restart(built: Path, folder: Path) -> None:
         it.wants("b2 is fenced", FENCED in b.run(write("written by b2")))
         say("the target is killed, and started again")
         it.restart()
-        a.run("cp /bin/busybox /disk/behind; sync; echo sync ended")
+        a.run("cp /bin/busybox /disk/after; sync; echo sync ended")
         text = a.run("umount /disk; e2fsck -f -n /dev/nvme0n1; mount -t ext4 /dev/nvme0n1 /disk && "
-                     "cmp /disk/before /init && cmp /disk/behind /bin/busybox && echo the same; umount /disk")
+                     "cmp /disk/before /init && cmp /disk/after /bin/busybox && echo the same; umount /disk")
         it.wants("all files are there", "the same" in text and "clean" not in text.lower().split("e2fsck")[0])
         b.run(LIVELY)
         it.wants("b2 is still fenced", FENCED in b.run(write("written by b2, after the restart")))
 
 
 def verify(built: Path, folder: Path) -> None:
-    """fio writes and verifies at one host, until another preempts it: no block is of neither."""
+    """fio writes and verifies on one host, until another preempts it: each block is from one of them."""
     with stage(built, folder, 16384, "a1", "b2") as it:
-        a, b = it.connected("a1", has_fio=True), it.connected("b2", has_fio=True)
+        a, b = it.connected("a1", archive="fio.gz"), it.connected("b2", archive="fio.gz")
         a.run("pr register /dev/nvme0n1 0 0xa; pr reserve /dev/nvme0n1 0xa 1")
         fio = "fio --name=v --filename=/dev/nvme0n1 --direct=1 --ioengine=psync --bs=4k --verify=crc32c " \
             "--output-format=terse --terse-version=3"
@@ -387,13 +388,15 @@ ASKED = ("smart-log /dev/nvme0", "error-log /dev/nvme0 -e 4", "fw-log /dev/nvme0
          "effects-log /dev/nvme0 -c 0", "ana-log /dev/nvme0", "supported-log-pages /dev/nvme0",
          "fid-support-effects-log /dev/nvme0", "id-ctrl /dev/nvme0", "nvm-id-ctrl /dev/nvme0", "list-ns /dev/nvme0",
          "list-ns /dev/nvme0 --all", "list-ctrl /dev/nvme0", "list-ctrl /dev/nvme0 -n 1",
-         "id-ns /dev/nvme0 -n 1 --force", "id-ns /dev/nvme0n1", "ns-descs /dev/nvme0n1", "cmdset-ind-id-ns /dev/nvme0n1 -n 1", "nvm-id-ns /dev/nvme0n1",
+         "id-ns /dev/nvme0 -n 1 --force", "id-ns /dev/nvme0n1", "ns-descs /dev/nvme0n1",
+         "cmdset-ind-id-ns /dev/nvme0n1 -n 1", "nvm-id-ns /dev/nvme0n1",
          "get-feature /dev/nvme0 -f 1", "get-feature /dev/nvme0 -f 2", "get-feature /dev/nvme0 -f 4",
          "get-feature /dev/nvme0n1 -f 5", "get-feature /dev/nvme0 -f 6", "get-feature /dev/nvme0 -f 7",
          "get-feature /dev/nvme0 -f 10", "get-feature /dev/nvme0 -f 11", "get-feature /dev/nvme0 -f 15",
          "get-feature /dev/nvme0 -f 15 -s 3 -H", "set-feature /dev/nvme0 -f 15 -v 7000",
          "set-feature /dev/nvme0 -f 6 -v 0", "dsm /dev/nvme0n1 -n 1 --ad -s 0 -b 8",
-         "write-zeroes /dev/nvme0n1 -s 0 -c 7", "admin-passthru /dev/nvme0 -o 8", "resv-report /dev/nvme0n1 --eds", "list-subsys")
+         "write-zeroes /dev/nvme0n1 -s 0 -c 7", "admin-passthru /dev/nvme0 -o 8", "resv-report /dev/nvme0n1 --eds",
+         "list-subsys")
 REFUSED = (("get-log /dev/nvme0 -i 0x0d -l 512", "INVALID_LOG_PAGE"),
            ("get-feature /dev/nvme0 -f 0xc", "INVALID_FIELD"))
 
@@ -428,7 +431,7 @@ def paths(built: Path, folder: Path) -> None:
 
 
 def recorded(built: Path, folder: Path, path: Path) -> None:
-    """Two hosts connect, read, write, are fenced and leave. What they and the target say is written down."""
+    """Two hosts connect, read, write, are fenced and leave. The bytes of both sides are recorded."""
     with stage(built, folder, BLOCKS, "a1", "b2", state=True) as it:
         (folder / "state/identity").write_text(IDENTITY)
         it.restart()

@@ -44,7 +44,7 @@ impl Target<'_> {
     pub fn plain(&mut self, index: usize, entry: &[u8; ENTRY], data: Data<'_>) -> Outcome<Answer> {
         let completed = self.controllers[index].run(&mut self.machine, 0, entry, data)?;
         if completed.status == SUCCESS {
-            self.follow(index, 0, entry, data, true)?;
+            self.follow(index, 0, entry, data, &completed)?;
             if let (NAMESPACE_ATTACHMENT, Data::ToController(list)) = (entry[0], data) {
                 self.tell_attachments(u32_at(entry, 4), list);
             }

@@ -1,4 +1,4 @@
-//! What a command is answered.
+//! The answer to a command.
 
 use crate::controller::Completed;
 use crate::status::{Status, SUCCESS};
@@ -17,7 +17,7 @@ pub enum Payload {
     },
 }
 
-/// The fields of a completion that a command decides, and the data that go before it.
+/// The fields of a completion that depend on the command, and the data to send before it.
 #[derive(Clone, Debug, PartialEq, Eq)]
 pub struct Answer {
     pub status: Status,
@@ -27,18 +27,18 @@ pub struct Answer {
 }
 
 impl Answer {
-    /// A status, and nothing else.
+    /// A status without data.
     pub fn of(status: Status) -> Answer {
         Answer { status, dw0: 0, dw1: 0, data: Payload::None }
     }
 
-    /// Data, as many of them as the host has asked for.
+    /// Data, cut or extended with zeros to the length that the host has asked for.
     pub fn with(mut bytes: Vec<u8>, length: usize) -> Answer {
         bytes.resize(length, 0);
         Answer { data: if length == 0 { Payload::None } else { Payload::Bytes(bytes) }, ..Answer::of(SUCCESS) }
     }
 
-    /// What the subsystem has answered: a command that failed has no data.
+    /// The answer of the subsystem. A failed command has no data.
     pub fn completed(completed: Completed, cntlid: u16, length: usize) -> Answer {
         let data = if completed.status == SUCCESS && length != 0 {
             Payload::Memory { cntlid, address: completed.data, length }

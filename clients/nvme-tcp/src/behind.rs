@@ -20,26 +20,24 @@ const PAUSE: Duration = Duration::from_millis(10);
 /// Replaces the number of written batches after a failed write.
 const FAILED: u64 = u64::MAX;
 
-/// A batch of bytes, and where they go.
-pub trait Piece: Default + Send + 'static {
-    /// The files. One thread writes at a time.
-    type Files: Send + 'static;
-    /// What is made of them before they are written. It is kept, and what was made before is written over.
+/// A batch in flight to files of this type. One thread writes at a time.
+pub trait Piece<Files>: Default + Send + 'static {
+    /// What is made of it before it is written. It is kept, and what was made before is written over.
     type Made: Default + Send;
 
     /// How many bytes there are.
     fn size(&self) -> usize;
 
-    /// Makes of them what is written, while others are written.
+    /// Makes of it what is written, while others are written.
     fn make(&self, made: &mut Self::Made);
 
     /// Writes the beginning of a batch, up to a place at which writes are fast.
-    fn write_first(&self, _made: &Self::Made, _files: &mut Self::Files) -> io::Result<()> {
+    fn write_first(&self, _made: &Self::Made, _files: &mut Files) -> io::Result<()> {
         Ok(())
     }
 
     /// Writes the rest of a batch. If the next batch is prepared by then, part of it may be written too.
-    fn write(&mut self, made: &Self::Made, next: Option<&Self::Made>, files: &mut Self::Files) -> io::Result<()>;
+    fn write(&mut self, made: &Self::Made, next: Option<&Self::Made>, files: &mut Files) -> io::Result<()>;
 }
 
 /// The batches that no thread has taken yet, by their numbers, and whether these are the last.
@@ -49,7 +47,7 @@ struct Given<P> {
 }
 
 /// The prepared batches, and whether one is being written.
-struct Turn<P: Piece> {
+struct Turn<P: Piece<F>, F> {
     /// By number.
     made: BTreeMap<u64, (P, P::Made)>,
     /// Number of batches that were taken to be written.
@@ -68,7 +66,7 @@ struct Turn<P: Piece> {
     spare_made: Vec<P::Made>,
 }
 
-impl<P: Piece> Turn<P> {
+impl<P: Piece<F>, F> Turn<P, F> {
     fn new() -> Self {
         Turn {
             made: BTreeMap::new(),
@@ -97,18 +95,18 @@ impl<P: Piece> Turn<P> {
 }
 
 /// The batches in progress, and the files.
-struct Way<P: Piece> {
+struct Way<P: Piece<F>, F> {
     given: Mutex<Given<P>>,
     has_more: Condvar,
-    turn: Mutex<Turn<P>>,
+    turn: Mutex<Turn<P, F>>,
     /// Signals that the batches for which the target's thread waits are written.
     has_awaited: Condvar,
     /// Number of batches written, or `FAILED`: read by the target's thread without a lock.
     written: AtomicU64,
-    files: Mutex<P::Files>,
+    files: Mutex<F>,
 }
 
-impl<P: Piece> Way<P> {
+impl<P: Piece<F>, F> Way<P, F> {
     fn given(&self) -> MutexGuard<'_, Given<P>> {
         self.given.lock().unwrap_or_else(PoisonError::into_inner)
     }
@@ -131,11 +129,11 @@ impl<P: Piece> Way<P> {
         waited.unwrap_or_else(PoisonError::into_inner).pieces.pop_front()
     }
 
-    fn turn(&self) -> MutexGuard<'_, Turn<P>> {
+    fn turn(&self) -> MutexGuard<'_, Turn<P, F>> {
         self.turn.lock().unwrap_or_else(PoisonError::into_inner)
     }
 
-    fn files(&self) -> MutexGuard<'_, P::Files> {
+    fn files(&self) -> MutexGuard<'_, F> {
         self.files.lock().unwrap_or_else(PoisonError::into_inner)
     }
 
@@ -154,7 +152,7 @@ impl<P: Piece> Way<P> {
 
     /// Writes the batches that are next in order, and those that are prepared meanwhile. So a thread that prepares
     /// batches never waits for one that writes, and the one that writes continues without being woken.
-    fn write<'w>(&'w self, mut turn: MutexGuard<'w, Turn<P>>) {
+    fn write<'w>(&'w self, mut turn: MutexGuard<'w, Turn<P, F>>) {
         turn.is_writing = true;
         let mut next = turn.next();
         while let Some((mut piece, made)) = next {
@@ -180,7 +178,7 @@ impl<P: Piece> Way<P> {
     }
 
     /// A batch was written, or could not be.
-    fn tell(&self, turn: &mut Turn<P>, result: io::Result<()>) {
+    fn tell(&self, turn: &mut Turn<P, F>, result: io::Result<()>) {
         match result {
             Ok(()) => {
                 turn.written += 1;
@@ -200,18 +198,18 @@ impl<P: Piece> Way<P> {
     }
 }
 
-/// Files and the batches on their way to them.
-pub struct Behind<P: Piece> {
-    way: Arc<Way<P>>,
+/// Files and the batches in flight to them.
+pub struct Behind<P: Piece<F>, F: Send + 'static> {
+    way: Arc<Way<P, F>>,
     threads: Vec<JoinHandle<()>>,
     made: P::Made,
     /// Number of batches begun.
     begun: u64,
 }
 
-impl<P: Piece> Behind<P> {
+impl<P: Piece<F>, F: Send + 'static> Behind<P, F> {
     /// Starts `threads` threads with this name that write the files.
-    pub fn new(name: &str, threads: usize, files: P::Files) -> io::Result<Self> {
+    pub fn new(name: &str, threads: usize, files: F) -> io::Result<Self> {
         let given = Mutex::new(Given { pieces: VecDeque::new(), is_over: false });
         let (turn, files, written) = (Mutex::new(Turn::new()), Mutex::new(files), AtomicU64::new(0));
         let (has_more, has_awaited) = (Condvar::new(), Condvar::new());
@@ -225,7 +223,7 @@ impl<P: Piece> Behind<P> {
     }
 
     /// Calls a function with the files, after the batch that is being written.
-    pub fn with_files<R>(&self, act: impl FnOnce(&mut P::Files) -> R) -> R {
+    pub fn with_files<R>(&self, act: impl FnOnce(&mut F) -> R) -> R {
         act(&mut self.way.files())
     }
 
@@ -239,7 +237,7 @@ impl<P: Piece> Behind<P> {
         self.send(piece)
     }
 
-    /// Gives a batch to a thread and empties it.
+    /// Passes a batch to a thread and empties it.
     pub fn send(&mut self, piece: &mut P) -> io::Result<()> {
         if self.under_way()? == MOST {
             self.wait_for(self.begun - MOST + 1)?;
@@ -279,7 +277,7 @@ impl<P: Piece> Behind<P> {
     }
 }
 
-impl<P: Piece> Drop for Behind<P> {
+impl<P: Piece<F>, F: Send + 'static> Drop for Behind<P, F> {
     /// Closes the files, unless batches in progress take longer than a second.
     fn drop(&mut self) {
         let mut looks = 0..LOOKS;
@@ -300,8 +298,7 @@ mod tests {
     use std::fs::{self, File};
     use std::io::Write;
 
-    impl Piece for Vec<u8> {
-        type Files = File;
+    impl Piece<File> for Vec<u8> {
         type Made = Vec<u8>;
 
         fn size(&self) -> usize {
@@ -324,7 +321,7 @@ mod tests {
     fn pieces_are_written_in_their_order() {
         let path = std::env::temp_dir().join(format!("nvmetcp-behind-{}", std::process::id()));
         for threads in 1..4 {
-            let mut behind = Behind::<Vec<u8>>::new("test", threads, File::create(&path).unwrap()).unwrap();
+            let mut behind = Behind::<Vec<u8>, File>::new("test", threads, File::create(&path).unwrap()).unwrap();
             let (mut wanted, mut piece) = (Vec::new(), Vec::new());
             for number in 0..200_u8 {
                 let size = if number % 3 == 0 { 10 } else { SMALL << (number % 4) };
@@ -344,8 +341,9 @@ mod tests {
     #[derive(Default)]
     struct Byte(u8);
 
-    impl Piece for Byte {
-        type Files = Arc<Mutex<Vec<u8>>>;
+    type Bytes = Arc<Mutex<Vec<u8>>>;
+
+    impl Piece<Bytes> for Byte {
         type Made = ();
 
         fn size(&self) -> usize {
@@ -356,7 +354,7 @@ mod tests {
             thread::sleep(PAUSE / 5);
         }
 
-        fn write(&mut self, (): &(), _: Option<&()>, files: &mut Arc<Mutex<Vec<u8>>>) -> io::Result<()> {
+        fn write(&mut self, (): &(), _: Option<&()>, files: &mut Bytes) -> io::Result<()> {
             if self.0 == 7 {
                 return Err(io::ErrorKind::Other.into());
             }
@@ -366,9 +364,9 @@ mod tests {
     }
 
     #[test]
-    fn nothing_is_written_behind_what_fails() {
-        let files = Arc::default();
-        let mut behind = Behind::<Byte>::new("test", 2, Arc::clone(&files)).unwrap();
+    fn nothing_is_written_after_a_failure() {
+        let files = Bytes::default();
+        let mut behind = Behind::<Byte, Bytes>::new("test", 2, Arc::clone(&files)).unwrap();
         (5..9).for_each(|it| behind.send(&mut Byte(it)).unwrap());
         assert!(behind.wait_for(4).is_err());
         drop(behind);
@@ -379,8 +377,9 @@ mod tests {
     #[derive(Default)]
     struct Number(u64);
 
-    impl Piece for Number {
-        type Files = Vec<(u64, Option<Option<u64>>)>;
+    type Calls = Vec<(u64, Option<Option<u64>>)>;
+
+    impl Piece<Calls> for Number {
         type Made = u64;
 
         fn size(&self) -> usize {
@@ -391,13 +390,13 @@ mod tests {
             *made = self.0;
         }
 
-        fn write_first(&self, made: &u64, files: &mut Self::Files) -> io::Result<()> {
+        fn write_first(&self, made: &u64, files: &mut Calls) -> io::Result<()> {
             files.push((*made, None));
             thread::sleep(PAUSE / 5);
             Ok(())
         }
 
-        fn write(&mut self, made: &u64, next: Option<&u64>, files: &mut Self::Files) -> io::Result<()> {
+        fn write(&mut self, made: &u64, next: Option<&u64>, files: &mut Calls) -> io::Result<()> {
             files.push((*made, Some(next.copied())));
             Ok(())
         }
@@ -405,7 +404,7 @@ mod tests {
 
     #[test]
     fn a_piece_is_written_before_the_next() {
-        let mut behind = Behind::<Number>::new("test", 2, Vec::new()).unwrap();
+        let mut behind = Behind::<Number, Calls>::new("test", 2, Vec::new()).unwrap();
         (0..30).for_each(|it| behind.begin(&mut Number(it), false).unwrap());
         for count in [7, 30, 3] {
             behind.wait_for(count).unwrap();
@@ -422,8 +421,8 @@ mod tests {
     #[test]
     fn files_are_closed_at_the_end() {
         for pieces in 0..10 {
-            let files = Arc::default();
-            let mut behind = Behind::<Byte>::new("test", 2, Arc::clone(&files)).unwrap();
+            let files = Bytes::default();
+            let mut behind = Behind::<Byte, Bytes>::new("test", 2, Arc::clone(&files)).unwrap();
             (0..pieces).for_each(|_| behind.send(&mut Byte(0)).unwrap());
             drop(behind);
             assert_eq!(Arc::strong_count(&files), 1);
@@ -431,8 +430,8 @@ mod tests {
     }
 
     #[test]
-    fn what_fails_is_told() {
-        let mut behind = Behind::<Vec<u8>>::new("test", 2, File::open("/dev/null").unwrap()).unwrap();
+    fn a_failure_is_reported() {
+        let mut behind = Behind::<Vec<u8>, File>::new("test", 2, File::open("/dev/null").unwrap()).unwrap();
         for size in [SMALL, 1] {
             assert!(behind.begin(&mut vec![1; size], false).is_err() || behind.wait_for(behind.begun()).is_err());
         }

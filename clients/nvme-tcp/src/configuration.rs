@@ -1,9 +1,9 @@
 //! CONFIG: the lines of a script before its `start`, which describe the subsystem. The library reads them, and judges
 //! them as it does for the programs that run scripts.
 
-use crate::nvme::{BLOCK, MOST_NAMESPACES};
+use crate::nvme::MOST_NAMESPACES;
 use crate::options::host_id;
-use nvmesim::{read_configuration, Config, ConfigError, Controller};
+use nvmesim::{read_configuration, Config, ConfigError, Controller, ANY_SIZE, SCRIPT_BLOCKS};
 use std::fmt::Write;
 use std::fs::File;
 use std::io::{self, Read};
@@ -30,7 +30,7 @@ pub fn text_of(path: &Path) -> io::Result<Vec<u8>> {
 impl Configuration {
     /// Reads a text, and checks it for an image of `blocks` blocks. The error begins with line and column.
     pub fn read(text: &[u8], blocks: u64) -> Result<Configuration, String> {
-        let mut config = read_configuration(text, blocks).map_err(|error| told(text, &error))?;
+        let mut config = read_configuration(text, ANY_SIZE, blocks).map_err(|error| told(text, &error))?;
         config.controllers.iter_mut().for_each(|it| it.raw = true);
         let lines = config.lines().map_err(|error| format!(" {error}"))?;
         Ok(Configuration { config, lines })
@@ -41,9 +41,14 @@ impl Configuration {
         self.config.controllers.iter().map(Controller::host).collect()
     }
 
-    /// How many bytes all namespaces have.
-    pub fn bytes(&self) -> u64 {
-        BLOCK * self.config.namespaces.iter().map(|it| it.blocks).sum::<u64>()
+    /// How many blocks all namespaces have. A configuration whose blocks exceed 64 bits is refused.
+    pub fn total_blocks(&self) -> u64 {
+        self.config.namespaces.iter().map(|it| it.blocks).sum()
+    }
+
+    /// Whether a namespace is too large for a script, unless the program that runs it gets `--any-size`.
+    pub fn has_large_namespace(&self) -> bool {
+        self.config.namespaces.iter().any(|it| it.blocks > SCRIPT_BLOCKS)
     }
 
     /// The place of a namespace in the list of all.
@@ -60,13 +65,6 @@ impl Configuration {
     /// Whether a namespace may have this identifier.
     pub fn may_be(&self, nsid: u32) -> bool {
         (1..=MOST_NAMESPACES).contains(&nsid)
-    }
-
-    /// First block of a namespace: they follow one another. `None` if there is none.
-    #[inline]
-    pub fn first_block(&self, nsid: u32) -> Option<u64> {
-        let at = self.place(nsid)?;
-        Some(self.config.namespaces[..at].iter().map(|it| it.blocks).sum())
     }
 }
 
@@ -93,7 +91,7 @@ mod tests {
         let read = Configuration::read(text, 72).unwrap();
         assert_eq!(Configuration::read(read.lines.as_bytes(), 72).as_ref(), Ok(&read));
         assert!(read.lines.starts_with("controller 1 host 0xa1 raw\ncontroller 2 host 0xb2 raw\n"), "{}", read.lines);
-        assert_eq!((read.bytes(), read.first_block(3), read.first_block(2)), (72 * 512, Some(64), None));
-        assert!(Configuration::read(text, 71).unwrap_err().starts_with("5:1: namespace 3 ends behind the 71 blocks"));
+        assert_eq!((read.total_blocks(), read.blocks(3), read.blocks(2)), (72, 8, 0));
+        assert!(Configuration::read(text, 71).unwrap_err().starts_with("5:1: namespace 3 ends after the 71 blocks"));
     }
 }

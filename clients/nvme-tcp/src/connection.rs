@@ -289,7 +289,7 @@ impl Connection {
         self.follow(target, before, answer.map(|answer| (*entry, answer)))
     }
 
-    /// Takes what came of work that the proof of its host needs.
+    /// Takes the result of work for its host's authentication.
     pub fn finish_work(&mut self, target: &mut Target<'_>, done: Done) -> Outcome<()> {
         if self.phase == Phase::Ending {
             return Ok(());
@@ -299,7 +299,7 @@ impl Connection {
         self.follow(target, before, answer)
     }
 
-    /// Answers a command, if it has an answer, and follows what has become of the queue, which was this before.
+    /// Answers a command, if it has an answer, and follows changes of the queue, which was this before.
     fn follow(
         &mut self,
         target: &mut Target<'_>,
@@ -364,7 +364,7 @@ impl Connection {
     }
 
     /// Sends what is queued, receives nothing more, and waits a moment for the host to close the connection: if the
-    /// target closed it while bytes of the host are on their way, its last answers would be lost.
+    /// target closed it while bytes of the host are in flight, its last answers would be lost.
     pub fn end(&mut self) {
         self.phase = Phase::Ending;
         self.deadline = Some(Instant::now() + BEFORE_CLOSE);

@@ -34,7 +34,7 @@ pub fn listen(socket: &Path) -> io::Result<UnixListener> {
     if fs::metadata(folder)?.mode() & 0o077 != 0 {
         // It may be a folder that all users share, whose permissions are to stay.
         let own = folder.join("nvmetcp.control").join(socket.file_name().unwrap_or_default());
-        let text = "its folder is open to others: choose one that is yours alone, and is made if it is not there";
+        let text = "its folder is open to others: choose one that only you can enter, which is created if needed";
         let text = format!("{text}, as --control {}", own.display());
         return Err(io::Error::new(io::ErrorKind::PermissionDenied, text));
     }
@@ -47,7 +47,7 @@ pub fn listen(socket: &Path) -> io::Result<UnixListener> {
 fn bind(socket: &Path) -> io::Result<UnixListener> {
     match fs::symlink_metadata(socket) {
         Ok(it) if it.file_type().is_socket() => remove_unanswered(socket)?,
-        Ok(_) => return Err(io::Error::new(io::ErrorKind::AlreadyExists, "it is there already, and no socket")),
+        Ok(_) => return Err(io::Error::new(io::ErrorKind::AlreadyExists, "it exists, and is not a socket")),
         Err(_) => (),
     }
     UnixListener::bind(socket)

@@ -5,11 +5,11 @@ use crate::fault::Outcome;
 use crate::machine::Machine;
 use crate::nvme::{
     BLOCK, CREATE_COMPLETION_QUEUE, CREATE_SUBMISSION_QUEUE, DELETE_COMPLETION_QUEUE, DELETE_SUBMISSION_QUEUE, ENTRY,
-    MOST_QUEUE, QUEUES, READ,
+    MOST_QUEUE, QUEUES, READ, WRITE,
 };
 use crate::status::{Status, COMMAND_SEQUENCE, SUCCESS};
 use crate::window::{self, Room};
-use nvmesim::{Executed, Fetched};
+use nvmesim::{Executed, Fetched, Need};
 
 /// Offsets of registers.
 pub const CAP: u64 = 0x00;
@@ -52,11 +52,13 @@ pub struct Completed {
     pub data: u64,
     /// Whether a rule denied it, so that it has changed nothing.
     pub is_denied: bool,
+    /// What it needed of the blocks.
+    pub need: Need,
 }
 
 impl Completed {
     fn without_queue() -> Completed {
-        Completed { status: COMMAND_SEQUENCE, dw0: 0, data: 0, is_denied: true }
+        Completed { status: COMMAND_SEQUENCE, dw0: 0, data: 0, is_denied: true, need: Need::Nothing }
     }
 }
 
@@ -175,8 +177,9 @@ impl Controller {
         if !self.submit(machine, qid, entry, data, Room::AT_ONCE)? {
             return Ok(Completed::without_queue());
         }
-        let at = self.held.len();
-        self.execute(machine, qid, at, Room::AT_ONCE.start(data.length()))
+        let i = self.held.len();
+        let need = if is_followed(qid, entry, machine) { machine.need(self.cntlid, i)? } else { Need::Nothing };
+        self.execute(machine, qid, (i, need), Room::AT_ONCE.start(data.length()))
     }
 
     /// Fetches a command without executing it; whether it was fetched.
@@ -198,7 +201,8 @@ impl Controller {
     /// Executes the first of the held commands, whose data are at this place.
     pub fn release(&mut self, machine: &mut Machine<'_>, data: u64) -> Outcome<Completed> {
         let qid = self.held.remove(0);
-        self.execute(machine, qid, 0, data)
+        let need = machine.need(self.cntlid, 0)?;
+        self.execute(machine, qid, (0, need), data)
     }
 
     /// Stores a command and its data, rings and fetches it; whether it was fetched.
@@ -232,8 +236,15 @@ impl Controller {
         Ok(is_fetched)
     }
 
-    /// Executes the i-th fetched command, and takes its completion.
-    fn execute(&mut self, machine: &mut Machine<'_>, qid: u16, i: usize, data: u64) -> Outcome<Completed> {
+    /// Executes the i-th fetched command, which needs this, and takes its completion.
+    fn execute(
+        &mut self,
+        machine: &mut Machine<'_>,
+        qid: u16,
+        (i, need): (usize, Need),
+        data: u64,
+    ) -> Outcome<Completed> {
+        machine.prefetch(need);
         self.commands += 1;
         let posted = match machine.execute(self.cntlid, i)? {
             Executed::Posted(completion) => completion,
@@ -244,7 +255,7 @@ impl Controller {
             machine.write32(self.cntlid, doorbell(qid) + 4, u32::from(pair.head))?;
         }
         let status = Status { sct: posted.sct, sc: posted.sc };
-        Ok(Completed { status, dw0: posted.dw0, data, is_denied: posted.denied_by.is_some() })
+        Ok(Completed { status, dw0: posted.dw0, data, is_denied: posted.denied_by.is_some(), need })
     }
 }
 
@@ -263,6 +274,17 @@ fn placed(entry: &[u8; ENTRY], data: Data<'_>, room: Room) -> [u8; ENTRY] {
         put(&mut placed, 32, &second.to_le_bytes());
     }
     placed
+}
+
+/// Whether the target has to know which blocks a command writes: for the image, or to count those that it zeroes. An
+/// admin command and a Read write none.
+fn is_followed(qid: u16, entry: &[u8; ENTRY], machine: &Machine<'_>) -> bool {
+    let is_asked = match entry[0] {
+        READ => false,
+        WRITE => machine.has_image,
+        _ => true,
+    };
+    qid != 0 && is_asked
 }
 
 /// Whether a successful command writes all of these bytes: a Read of exactly as many blocks. For others the buffer is

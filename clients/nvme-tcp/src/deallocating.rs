@@ -22,7 +22,7 @@ struct Range {
     count: u64,
 }
 
-/// What a Dataset Management comes to.
+/// The result of a Dataset Management.
 #[derive(Clone, Copy, Debug, PartialEq, Eq)]
 enum Plan<'d> {
     /// These ranges are zeroed.
@@ -37,7 +37,7 @@ fn ranges_of(bytes: &[u8]) -> impl Iterator<Item = Range> + '_ {
     all.filter(|it| it.count != 0)
 }
 
-/// What a command comes to on a namespace with this number of blocks.
+/// The result of a command on a namespace with this number of blocks.
 fn plan_of<'d>(entry: &[u8; ENTRY], data: Data<'d>, blocks: u64) -> Plan<'d> {
     let length = RANGE * (usize::from(entry[40]) + 1);
     let bytes = match data {
@@ -104,7 +104,7 @@ impl Target<'_> {
         let data = Data::FromController(0);
         let completed = self.controllers[index].run(&mut self.machine, qid, &entry, data)?;
         if !completed.is_denied {
-            self.follow(index, qid, &entry, data, completed.status == SUCCESS)?;
+            self.follow(index, qid, &entry, data, &completed)?;
         }
         Ok(completed)
     }

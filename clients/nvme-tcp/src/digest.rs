@@ -1,4 +1,6 @@
-//! CRC32C, the digest of NVMe/TCP, eight bytes at a time.
+//! CRC32C, the digest of NVMe/TCP and of recordings: by the processor's instruction, or else by tables.
+
+use crate::processor;
 
 /// What each byte adds, with 0 to 7 bytes after it.
 static TABLES: [[u32; 256]; 8] = tables();
@@ -31,7 +33,16 @@ const fn shifted(mut tables: [[u32; 256]; 8]) -> [[u32; 256]; 8] {
 
 /// The CRC32C of bytes.
 pub fn crc32c(bytes: &[u8]) -> u32 {
-    let mut value = !0;
+    crc32c_after(0, bytes)
+}
+
+/// The CRC32C of some bytes and then these, from the CRC32C of the first.
+pub fn crc32c_after(before: u32, bytes: &[u8]) -> u32 {
+    !processor::crc32c(!before, bytes).unwrap_or_else(|| by_tables(!before, bytes))
+}
+
+/// Continues a value with bytes, eight at a time.
+fn by_tables(mut value: u32, bytes: &[u8]) -> u32 {
     let mut parts = bytes.chunks_exact(8);
     for part in &mut parts {
         let low = value ^ u32::from_le_bytes([part[0], part[1], part[2], part[3]]);
@@ -47,12 +58,12 @@ pub fn crc32c(bytes: &[u8]) -> u32 {
     for byte in parts.remainder() {
         value = value >> 8 ^ TABLES[0][((value ^ u32::from(*byte)) & 255) as usize];
     }
-    !value
+    value
 }
 
 #[cfg(test)]
 mod tests {
-    use super::crc32c;
+    use super::{by_tables, crc32c, crc32c_after};
 
     #[test]
     fn values_of_rfc_3720() {
@@ -62,5 +73,15 @@ mod tests {
         assert_eq!(crc32c(&[0xff; 32]), 0x62a8_ab43);
         let rising: Vec<u8> = (0..32).collect();
         assert_eq!(crc32c(&rising), 0x46dd_794e);
+    }
+
+    #[test]
+    fn tables_and_parts_give_the_same() {
+        let bytes: Vec<u8> = (0..1000_usize).map(|at| (at * at / 7) as u8).collect();
+        for end in 0..100 {
+            let (first, then) = bytes[..10 * end].split_at(7 * end);
+            assert_eq!(crc32c_after(crc32c(first), then), crc32c(&bytes[..10 * end]));
+            assert_eq!(!by_tables(!0, &bytes[end..]), crc32c(&bytes[end..]));
+        }
     }
 }

@@ -1,8 +1,9 @@
-//! Asynchronous events: requests that are held, and the notices that a controller's namespaces, or how they are
-//! reached, have changed.
+//! Asynchronous events: requests that are held, and the notices that a controller's namespaces, how they are reached, or
+//! their reservations have changed.
 
 use crate::bytes::put;
-use crate::nvme::{CHANGED_NAMESPACES, NAMESPACE_ACCESS};
+use crate::nvme::{CHANGED_NAMESPACES, NAMESPACE_ACCESS, RESERVATION_NOTICES};
+use nvmesim::Notices;
 use std::collections::{BTreeSet, VecDeque};
 
 /// The most Asynchronous Event Requests of a controller that are held: Identify Controller's AERL plus one.
@@ -22,10 +23,18 @@ pub struct Notice {
 pub const NAMESPACE_NOTICE: Notice = Notice { mask: 1 << 8, dw0: (CHANGED_NAMESPACES as u32) << 16 | 2 };
 pub const ACCESS_NOTICE: Notice = Notice { mask: 1 << 11, dw0: (NAMESPACE_ACCESS as u32) << 16 | 3 << 8 | 2 };
 
+/// Double word 0 of Reservation Log Page Available: the log page, information 0h, and type 6h. No bit of Asynchronous
+/// Event Configuration turns it off, only the masks of the namespaces do.
+const RESERVATION_EVENT: u32 = (RESERVATION_NOTICES as u32) << 16 | 6;
+
 /// The events of an association.
 #[derive(Default)]
 pub struct Events {
     requests: VecDeque<u16>,
+    /// The reservation notifications that the host has not read.
+    pub notices: Notices,
+    /// Whether Reservation Log Page Available was sent since the host last read that page.
+    has_told_reservation: bool,
     /// Asynchronous Event Configuration, as its host has set it.
     pub configuration: u32,
     changed: BTreeSet<u32>,
@@ -61,6 +70,11 @@ impl Events {
 
     /// The request to answer now, and double word 0 of the answer.
     pub fn due(&mut self) -> Option<(u16, u32)> {
+        if !self.has_told_reservation && self.notices.available() != 0 {
+            let cid = self.requests.pop_front()?;
+            self.has_told_reservation = true;
+            return Some((cid, RESERVATION_EVENT));
+        }
         let pending = [(NAMESPACE_NOTICE, !self.changed.is_empty()), (ACCESS_NOTICE, self.has_new_access)];
         let is_due = |(notice, has_changed): &(Notice, bool)| {
             *has_changed && self.told & notice.mask == 0 && self.configuration & notice.mask != 0
@@ -80,7 +94,8 @@ impl Events {
         page
     }
 
-    /// The log page was read without Retain Asynchronous Event: the next change is reported again.
+    /// The log page was read without Retain Asynchronous Event: the next change is reported again. The page of
+    /// reservation notifications has one at a time, and the next one is reported at once.
     pub fn was_read(&mut self, page: u8) {
         match page {
             CHANGED_NAMESPACES => {
@@ -90,6 +105,10 @@ impl Events {
             NAMESPACE_ACCESS => {
                 self.has_new_access = false;
                 self.told &= !ACCESS_NOTICE.mask;
+            }
+            RESERVATION_NOTICES => {
+                self.notices.take();
+                self.has_told_reservation = false;
             }
             _ => (),
         }
@@ -101,7 +120,7 @@ mod tests {
     use super::*;
 
     #[test]
-    fn a_change_is_told_once_until_it_is_read() {
+    fn a_change_is_reported_once_until_it_is_read() {
         let mut events = Events { configuration: 0x900, ..Events::default() };
         (0..MOST_EVENTS as u16).for_each(|cid| assert!(events.hold(cid)));
         assert!(!events.hold(9));

@@ -148,7 +148,7 @@ impl Target<'_> {
         }
     }
 
-    /// Gives a queue what its Connect asks for, unless that is no longer possible.
+    /// Sets a queue up as its Connect requests, unless that is no longer possible.
     pub fn take_place(&mut self, queue: &HostQueue, data: &ConnectData, place: Session) -> Outcome<Result<(), Answer>> {
         match place {
             Session::Controller { index, qid: 0 } if self.associations[index].is_some() => {

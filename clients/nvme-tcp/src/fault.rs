@@ -14,6 +14,8 @@ pub enum Fault {
     Journal(io::Error),
     /// The kept script could not be written.
     Script(io::Error),
+    /// The recording could not be written.
+    Recording(io::Error),
     /// The system refused to poll, or to listen.
     System(io::Error),
 }
@@ -25,6 +27,7 @@ impl fmt::Display for Fault {
             Fault::Image(error) => write!(f, "the image: {error}"),
             Fault::Journal(error) => write!(f, "the journal: {error}"),
             Fault::Script(error) => write!(f, "the script: {error}"),
+            Fault::Recording(error) => write!(f, "the recording: {error}"),
             Fault::System(error) => write!(f, "the system: {error}"),
         }
     }

@@ -7,7 +7,8 @@ use crate::controller::Data;
 use crate::fault::Outcome;
 use crate::nvme::{
     ALL_NAMESPACES, ARBITRATION, ENTRY, ERROR_RECOVERY, EVENT_CONFIGURATION, HOST_IDENTIFIER, KEEP_ALIVE_TIMER,
-    NUMBER_OF_QUEUES, POWER_MANAGEMENT, TEMPERATURE_THRESHOLD, VOLATILE_WRITE_CACHE, WRITE_ATOMICITY, WRITE_PROTECTION,
+    NUMBER_OF_QUEUES, POWER_MANAGEMENT, RESERVATION_NOTIFICATION, TEMPERATURE_THRESHOLD, VOLATILE_WRITE_CACHE,
+    WRITE_ATOMICITY, WRITE_PROTECTION,
 };
 use crate::status::{
     Status, COMMAND_SEQUENCE, FEATURE_NOT_CHANGEABLE, FEATURE_NOT_SAVEABLE, FEATURE_OF_NO_NAMESPACE, INVALID_FIELD,
@@ -18,13 +19,13 @@ use crate::target::Target;
 /// Set Features: Save. Get Features: Select, by its place, and the values that are no current one.
 const SAVE: u32 = 1 << 31;
 const SELECT_AT: u32 = 8;
-const CURRENT: u32 = 0;
+pub const CURRENT: u32 = 0;
 const DEFAULT: u32 = 1;
 const SAVED: u32 = 2;
-const SUPPORTED: u32 = 3;
+pub const SUPPORTED: u32 = 3;
 /// What Select 3 answers: the feature is of a namespace, and it can be changed.
-const OF_A_NAMESPACE: u32 = 1 << 1;
-const CHANGEABLE: u32 = 1 << 2;
+pub const OF_A_NAMESPACE: u32 = 1 << 1;
+pub const CHANGEABLE: u32 = 1 << 2;
 /// Set Features of the write protection: the field of its state, and the state that lasts.
 const PROTECTION_STATE: u32 = 7;
 pub const PROTECTED: u32 = 1;
@@ -37,7 +38,7 @@ const KEEP_ALIVE: u32 = 120_000;
 /// subsystem.
 const OF_CONTROLLER: u32 = 1 << 21 | 1;
 const OF_NAMESPACE: u32 = 1 << 20 | 1;
-const FEATURES: [(u8, u32); 11] = [
+const FEATURES: [(u8, u32); 12] = [
     (ARBITRATION, OF_CONTROLLER),
     (POWER_MANAGEMENT, OF_CONTROLLER),
     (TEMPERATURE_THRESHOLD, OF_CONTROLLER),
@@ -48,6 +49,7 @@ const FEATURES: [(u8, u32); 11] = [
     (EVENT_CONFIGURATION, OF_CONTROLLER),
     (KEEP_ALIVE_TIMER, OF_CONTROLLER),
     (HOST_IDENTIFIER, OF_CONTROLLER),
+    (RESERVATION_NOTIFICATION, OF_NAMESPACE),
     (WRITE_PROTECTION, OF_NAMESPACE),
 ];
 
@@ -148,6 +150,9 @@ impl Target<'_> {
         if fid == ERROR_RECOVERY {
             return self.set_recovery(index, nsid, dw11);
         }
+        if fid == RESERVATION_NOTIFICATION {
+            return self.set_notice_mask(index, nsid, dw11);
+        }
         if !matches!(nsid, 0 | ALL_NAMESPACES) {
             return Err(FEATURE_OF_NO_NAMESPACE);
         }
@@ -162,7 +167,7 @@ impl Target<'_> {
         Ok(())
     }
 
-    /// Refuses a feature that is not there: all but a few, and the cache where nothing is cached.
+    /// Refuses a feature that does not exist: all but a few, and the write cache if nothing is cached.
     fn check_feature(&self, fid: u8) -> Result<(), Status> {
         let is_there = FEATURES.iter().any(|(known, _)| *known == fid);
         if is_there && (fid != VOLATILE_WRITE_CACHE || self.image.is_some()) {
@@ -199,9 +204,13 @@ impl Target<'_> {
 
     fn get_feature(&mut self, index: usize, fid: u8, select: u32, entry: &[u8; ENTRY]) -> Result<u32, Status> {
         let (dw11, nsid) = (u32_at(entry, 44), u32_at(entry, 4));
+        match fid {
+            ERROR_RECOVERY => return self.get_recovery(index, nsid, select),
+            RESERVATION_NOTIFICATION => return self.get_notice_mask(index, nsid, select),
+            _ => (),
+        }
         let association = self.associations[index].as_ref().ok_or(COMMAND_SEQUENCE)?;
         match (fid, select) {
-            (ERROR_RECOVERY, _) => self.get_recovery(index, nsid, select),
             (_, SUPPORTED) => Ok(CHANGEABLE),
             (EVENT_CONFIGURATION, CURRENT) => Ok(association.events.configuration),
             (KEEP_ALIVE_TIMER, CURRENT) => Ok(association.keep_alive()),
@@ -242,7 +251,7 @@ impl Target<'_> {
     }
 
     /// The place of a namespace in the configuration, which is attached to a controller.
-    fn attached_place(&mut self, index: usize, nsid: u32) -> Result<usize, Status> {
+    pub fn attached_place(&mut self, index: usize, nsid: u32) -> Result<usize, Status> {
         if !self.configuration.may_be(nsid) {
             return Err(INVALID_NAMESPACE);
         }

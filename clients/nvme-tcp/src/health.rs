@@ -81,8 +81,8 @@ impl Health {
     }
 
     /// Counts the blocks of a Write Zeroes that has succeeded.
-    pub fn zero(&mut self, entry: &[u8; ENTRY]) {
-        self.blocks_zeroed += blocks(entry);
+    pub fn zero(&mut self, blocks: u32) {
+        self.blocks_zeroed += u64::from(blocks);
     }
 
     /// Counts a command that has failed, and keeps what Error Information has of it.

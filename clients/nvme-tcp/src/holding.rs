@@ -69,10 +69,13 @@ impl Target<'_> {
     pub fn release(&mut self, index: usize) -> Outcome<()> {
         self.holds[index] = false;
         while let Some(held) = self.held[index].pop_front() {
+            let watch = self.watch(index, &held.entry);
             let completed = self.controllers[index].release(&mut self.machine, held.place)?;
             if !completed.is_denied {
-                let is_done = completed.status == SUCCESS;
-                self.follow(index, held.qid, &held.entry, Data::ToController(&held.data), is_done)?;
+                self.follow(index, held.qid, &held.entry, Data::ToController(&held.data), &completed)?;
+            }
+            if let (Some(watch), SUCCESS) = (&watch, completed.status) {
+                self.notify(watch)?;
             }
             let cntlid = self.controllers[index].cntlid;
             let answer = self.kept(Answer::completed(completed, cntlid, held.length))?;

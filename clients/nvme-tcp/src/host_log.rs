@@ -19,7 +19,7 @@ const SUBNQN: u32 = 1 << 16 | 256;
 const HOSTNQN: u32 = 1 << 16 | 512;
 
 impl Target<'_> {
-    /// Says that the target serves, and which start it is over its state folder.
+    /// Logs that the target serves, and the number of starts over its state folder.
     pub fn log_start(&mut self, addresses: &[SocketAddr]) {
         let addresses: Vec<String> = addresses.iter().map(SocketAddr::to_string).collect();
         let addresses = addresses.join(",");
@@ -34,7 +34,7 @@ impl Target<'_> {
         }
     }
 
-    /// Says that a host has connected, or why it is refused.
+    /// Logs that a host has connected, or why it is refused.
     pub fn log_connect(&mut self, queue: &HostQueue, data: Data<'_>, answer: &Answer) {
         let mut host = None;
         if let Data::ToController(bytes) = data {
@@ -54,7 +54,7 @@ impl Target<'_> {
         }
     }
 
-    /// Says that a host has a controller, if the queue is its admin queue.
+    /// Logs that a host has a controller, if the queue is its admin queue.
     pub fn log_connected(&mut self, queue: &HostQueue) {
         let index = match queue.session {
             Session::Controller { index, qid: 0 } => index,
@@ -68,7 +68,7 @@ impl Target<'_> {
         self.log.put(Topic::Host, "connected", &fields);
     }
 
-    /// Says that a host is refused.
+    /// Logs that a host is refused.
     pub fn log_refused(&mut self, queue: &HostQueue, host: &str, status: Status, reason: &str) {
         let fields: [(&'static str, &dyn Display); 4] =
             [("host", &host), ("address", &queue.peer), ("status", &status), ("reason", &reason)];
@@ -90,7 +90,7 @@ impl Target<'_> {
         }
     }
 
-    /// Says that an association has ended.
+    /// Logs that an association has ended.
     pub fn log_end(&mut self, index: usize, association: &Association, reason: &str) {
         let (host, controller) = (uuid(u128::from_le_bytes(association.host_id)), self.controllers[index].cntlid);
         let fields: [(&'static str, &dyn Display); 4] =
@@ -98,7 +98,7 @@ impl Target<'_> {
         self.log.put(Topic::Host, "disconnected", &fields);
     }
 
-    /// Says that a connection without an association is closed, unless its host has closed it.
+    /// Logs that a connection without an association is closed, unless its host has closed it.
     pub fn log_closed(&mut self, queue: &HostQueue, closing: Closing) {
         let is_said = matches!(closing, Closing::Protocol | Closing::Late | Closing::Crowded);
         if is_said && !matches!(queue.session, Session::Controller { qid: 0, .. }) {
@@ -106,7 +106,7 @@ impl Target<'_> {
         }
     }
 
-    /// Says that a reservation, or its preemption, has refused a command of a host.
+    /// Logs that a reservation, or its preemption, has refused a command of a host.
     pub fn log_fenced(&mut self, queue: &HostQueue, index: usize, entry: &[u8; ENTRY], status: Status) {
         let Target { controllers, log, .. } = self;
         let qid = if let Session::Controller { qid, .. } = queue.session { qid } else { 0 };

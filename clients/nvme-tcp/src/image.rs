@@ -1,28 +1,23 @@
 //! The image: the file that follows the blocks in memory.
 //!
-//! The library works on bytes of this process alone. A command's blocks are written to the file by one call before its
+//! The library works on bytes of this process alone. It says which blocks a command needs before it is executed, and it
+//! is proved that the execution writes no others. These blocks are written to the file by one call before the command's
 //! completion is sent, those of adjacent commands by one call together. With several hosts a thread of its own makes
 //! these calls, while the next commands are executed. A shared mapping of the file would need no such call, but a kill
 //! in the middle of a block would leave half of it. `pwrite` puts whole pages into the page cache, and no block crosses
 //! a page.
 
 use crate::behind::{Behind, Piece};
-use crate::bytes::{u16_at, u32_at, u64_at};
-use crate::configuration::Configuration;
-use crate::controller::Data;
 use crate::fault::{Fault, Outcome};
 use crate::locking::{open_regular, Lock};
 use crate::machine::Machine;
-use crate::nvme::{BLOCK, ENTRY, FLUSH, WRITE, WRITE_ZEROES};
+use crate::nvme::BLOCK;
 use crate::watched::{changed, Watched};
+use nvmesim::Need;
 use std::fs::{self, File, OpenOptions};
 use std::io::{self, Read};
-use std::mem;
 use std::os::unix::fs::FileExt;
 use std::path::Path;
-
-/// Force Unit Access, in double word 12.
-const FORCE_UNIT_ACCESS: u32 = 1 << 30;
 
 /// The most bytes that are written together, unless one command has more.
 const MOST_WAITING: usize = 128 << 10;
@@ -65,8 +60,7 @@ fn check_length(found: u64, length: u64) -> io::Result<()> {
     Ok(())
 }
 
-impl Piece for Blocks {
-    type Files = Whole;
+impl Piece<Whole> for Blocks {
     type Made = ();
 
     fn size(&self) -> usize {
@@ -89,22 +83,11 @@ impl Piece for Blocks {
 
 /// A file whose blocks are those of the namespaces.
 pub struct Image {
-    file: Behind<Blocks>,
+    file: Behind<Blocks, Whole>,
     watched: Watched,
     length: u64,
     /// Blocks that are not written yet.
     waiting: Blocks,
-    /// Room for blocks that are read from the medium.
-    room: Vec<u8>,
-}
-
-/// An executed command and its data, which are empty if it failed.
-#[derive(Clone, Copy)]
-pub struct Done<'d> {
-    pub entry: &'d [u8; ENTRY],
-    pub data: Data<'d>,
-    /// Whether its blocks are synced in any case: its host has no write cache.
-    pub is_synced: bool,
 }
 
 /// EROFS.
@@ -128,6 +111,11 @@ pub fn open(path: &Path, lock: Lock) -> io::Result<File> {
     lock.open(path, OpenOptions::new().read(true).write(!lock.is_shared))
 }
 
+/// The fault of a command on blocks that are not borrowed from this process.
+fn no_blocks() -> Fault {
+    Fault::Image(io::Error::new(io::ErrorKind::InvalidInput, "a command needs blocks that it does not have"))
+}
+
 impl Image {
     /// Reads the blocks of an image that is locked.
     pub fn read(path: &Path, mut file: File, blocks: &mut [u8]) -> io::Result<Image> {
@@ -137,46 +125,23 @@ impl Image {
             _ => error,
         })?;
         let file = Behind::new("image", 1, Whole { file, length })?;
-        Ok(Image { file, watched, length, waiting: Blocks::default(), room: Vec::new() })
+        Ok(Image { file, watched, length, waiting: Blocks::default() })
     }
 
-    /// Writes the blocks of an executed I/O command to the file, and syncs them if the command asks for that.
-    pub fn follow(&mut self, machine: &mut Machine<'_>, configuration: &Configuration, done: Done<'_>) -> Outcome<()> {
-        match done.entry[0] {
-            WRITE | WRITE_ZEROES => {
-                self.take(machine, configuration, done)?;
-                if done.is_synced || u32_at(done.entry, 48) & FORCE_UNIT_ACCESS != 0 {
+    /// Takes the blocks that an executed command has written, as the medium has them now, and syncs them with
+    /// `is_synced`. A Flush syncs all blocks.
+    pub fn follow(&mut self, machine: &mut Machine<'_>, need: Need, is_synced: bool) -> Outcome<()> {
+        match need {
+            Need::Write { first, blocks } | Need::Zero { first, blocks } => {
+                let bytes = machine.blocks(first, blocks).ok_or_else(no_blocks)?;
+                self.put(first * BLOCK, bytes)?;
+                if is_synced {
                     self.sync()?;
                 }
-            }
-            FLUSH => self.sync()?,
-            _ => (),
-        }
-        Ok(())
-    }
-
-    /// Takes the blocks of a command: none if they are not all in the namespace, since then the command has changed
-    /// none. A successful Write leaves its data in them; else they are the medium's.
-    fn take(&mut self, machine: &mut Machine<'_>, configuration: &Configuration, done: Done<'_>) -> Outcome<()> {
-        let (nsid, slba) = (u32_at(done.entry, 4), u64_at(done.entry, 40));
-        let length = BLOCK as usize * (usize::from(u16_at(done.entry, 48)) + 1);
-        let first = match configuration.first_block(nsid) {
-            Some(first) => first,
-            None => return Ok(()),
-        };
-        match done.data {
-            Data::ToController(bytes) if done.entry[0] == WRITE && bytes.len() >= length => {
-                self.put((first + slba) * BLOCK, &bytes[..length])
-            }
-            _ => {
-                let mut room = mem::take(&mut self.room);
-                room.resize(length, 0);
-                if machine.read_blocks(nsid, slba, &mut room) {
-                    self.put((first + slba) * BLOCK, &room)?;
-                }
-                self.room = room;
                 Ok(())
             }
+            Need::Flush => self.sync(),
+            Need::Read { .. } | Need::Nothing => Ok(()),
         }
     }
 

@@ -3,6 +3,7 @@
 //! with the beginning of the next lines, if these are there by then.
 
 use crate::appended::Appended;
+use crate::run::Synced;
 use std::fs::File;
 use std::io;
 
@@ -69,16 +70,17 @@ impl Kept {
         Ok(())
     }
 
-    /// Has the disk hold both files.
-    pub fn sync(&mut self) -> io::Result<()> {
-        self.script.sync()?;
-        self.transcript.sync()
-    }
-
     /// Releases the unused space.
     pub fn give_back(&mut self) {
         self.script.give_back();
         self.transcript.give_back();
+    }
+}
+
+impl Synced for Kept {
+    fn sync(&mut self) -> io::Result<()> {
+        self.script.sync()?;
+        self.transcript.sync()
     }
 }
 

@@ -151,7 +151,7 @@ pub enum Topic {
 const TOPICS: [(&str, u32); 4] = [("service", 10), ("host", 64), ("refused", 10), ("closed", 10)];
 /// How often another one is.
 const PERIOD: Duration = Duration::from_secs(5);
-/// The same of commands of a controller that a reservation refuses.
+/// Limits the lines about commands of a controller that a reservation refuses.
 const FENCED_BURST: u32 = 1;
 const FENCED_PERIOD: Duration = Duration::from_secs(10);
 

@@ -1,65 +1,85 @@
-//! The subsystem, event by event: each is a call of the library, and a line of the script if one is kept.
+//! The subsystem, event by event: each is a call of the library, and is noted if the run is kept.
 
 use crate::fault::Outcome;
-use crate::script::Script;
-use nvmesim::{Executed, Fetched, LineError, Reservation, Subsystem};
+use crate::nvme::BLOCK;
+use crate::run::Run;
+use crate::window::PAGE;
+use nvmesim::{Change, Executed, Fetched, HostView, LineError, Need, Notices, Reservation, Subsystem};
 
 /// The subsystem of this process.
 pub struct Machine<'a> {
     subsystem: Subsystem<'a>,
-    script: Option<Script>,
+    run: Option<Run>,
+    /// Whether a file follows the blocks.
+    pub has_image: bool,
 }
 
 impl<'a> Machine<'a> {
-    pub fn new(subsystem: Subsystem<'a>, script: Option<Script>) -> Self {
-        Machine { subsystem, script }
+    pub fn new(subsystem: Subsystem<'a>, run: Option<Run>, has_image: bool) -> Self {
+        Machine { subsystem, run, has_image }
     }
 
     pub fn store(&mut self, cntlid: u16, address: u64, bytes: &[u8]) -> Outcome<()> {
         self.subsystem.store(cntlid, address, bytes)?;
-        if let Some(script) = &mut self.script {
-            script.stored(cntlid, address, bytes)?;
+        if let Some(run) = &mut self.run {
+            run.stored(cntlid, address, bytes)?;
         }
         Ok(())
     }
 
     pub fn write32(&mut self, cntlid: u16, offset: u64, value: u32) -> Outcome<()> {
         self.subsystem.write32(cntlid, offset, value)?;
-        if let Some(script) = &mut self.script {
-            script.wrote32(cntlid, offset, value);
+        if let Some(run) = &mut self.run {
+            run.wrote32(cntlid, offset, value);
         }
         Ok(())
     }
 
     pub fn fetch(&mut self, cntlid: u16, qid: u16) -> Outcome<Fetched> {
         let fetched = self.subsystem.fetch(cntlid, qid)?;
-        if let Some(script) = &mut self.script {
-            script.fetched(cntlid, qid, fetched);
+        if let Some(run) = &mut self.run {
+            run.fetched(cntlid, qid, fetched);
         }
         Ok(fetched)
     }
 
     pub fn execute(&mut self, cntlid: u16, i: usize) -> Outcome<Executed> {
         let executed = self.subsystem.execute(cntlid, i)?;
-        if let Some(script) = &mut self.script {
-            script.executed(cntlid, i, executed);
+        if let Some(run) = &mut self.run {
+            run.executed(cntlid, i, executed);
         }
         Ok(executed)
     }
 
     pub fn power_cycle(&mut self) {
         self.subsystem.power_cycle();
-        if let Some(script) = &mut self.script {
-            script.cycled();
+        if let Some(run) = &mut self.run {
+            run.cycled();
         }
     }
 
-    /// Has the processor fetch bytes of the blocks, which a command writes soon.
-    pub fn prefetch(&self, place: usize, count: usize) {
-        self.subsystem.prefetch(place, count);
+    /// What the i-th fetched command of a controller needs of the blocks if it is executed now; nothing if there is no
+    /// such command. The execution reads, writes and flushes nothing else: that is proved.
+    pub fn need(&mut self, cntlid: u16, i: usize) -> Outcome<Need> {
+        Ok(self.subsystem.need(cntlid, i)?.unwrap_or(Need::Nothing))
     }
 
-    /// Reads a register. That changes nothing, so no script has it.
+    /// Blocks as the events so far have left them.
+    pub fn blocks(&mut self, first: u64, count: u32) -> Option<&[u8]> {
+        let place = usize::try_from(first.checked_mul(BLOCK)?).ok()?;
+        self.subsystem.bytes(place, usize::try_from(u64::from(count) * BLOCK).ok()?)
+    }
+
+    /// Has the processor fetch the first page of the blocks that a Write is about to write. The rest it fetches by
+    /// itself.
+    pub fn prefetch(&self, need: Need) {
+        if let Need::Write { first, blocks } = need {
+            let (place, length) = (first.saturating_mul(BLOCK), u64::from(blocks) * BLOCK);
+            self.subsystem.prefetch(place as usize, PAGE.min(length) as usize);
+        }
+    }
+
+    /// Reads a register. That changes nothing, so it is no event of a run.
     pub fn read32(&mut self, cntlid: u16, offset: u64) -> Outcome<u32> {
         Ok(self.subsystem.read32(cntlid, offset)?)
     }
@@ -69,17 +89,22 @@ impl<'a> Machine<'a> {
         Ok(self.subsystem.load(cntlid, address, bytes)?)
     }
 
-    /// Looks at blocks of a namespace; whether they are there.
-    pub fn read_blocks(&mut self, nsid: u32, slba: u64, bytes: &mut [u8]) -> bool {
-        self.subsystem.read_blocks(nsid, slba, bytes).is_ok()
-    }
-
     /// The reservation and the write protection of a namespace; nothing if there is no such namespace.
     pub fn reservation(&mut self, nsid: u32) -> Option<Reservation> {
         self.subsystem.reservation(nsid).ok()
     }
 
-    /// Answers the looking line with this number, by the text of a session.
+    /// How the reservation of a namespace concerns the host of a controller; nothing if one of them does not exist.
+    pub fn view(&mut self, nsid: u32, cntlid: u16) -> Option<HostView> {
+        self.subsystem.view(nsid, cntlid).ok()
+    }
+
+    /// Adds the notice that a controller gets of a reservation command, if it gets one.
+    pub fn notify(&mut self, notices: &mut Notices, cntlid: u16, change: Change, before: &HostView) -> Outcome<()> {
+        Ok(self.subsystem.notify(notices, cntlid, change, before)?)
+    }
+
+    /// Answers the query with this number, by the text of a session.
     pub fn look(&mut self, number: u64, line: &str) -> Result<String, LineError> {
         self.subsystem.look(number, line)
     }
@@ -88,36 +113,36 @@ impl<'a> Machine<'a> {
         self.subsystem.is_attached(cntlid, nsid)
     }
 
-    /// Says whether one connection alone is served.
+    /// Records whether only one connection is served.
     pub fn serve_alone(&mut self, is_alone: bool) {
-        if let Some(script) = &mut self.script {
-            script.is_alone = is_alone;
+        if let Some(run) = &mut self.run {
+            run.is_alone = is_alone;
         }
     }
 
-    /// Writes the kept lines, or begins to; the number of batches after which they are written. With `is_awaited` the
+    /// Writes the noted events, or begins to; the number of batches after which they are written. With `is_awaited` the
     /// caller waits for that next.
-    pub fn begin_script(&mut self, is_awaited: bool) -> Outcome<u64> {
-        self.script.as_mut().map_or(Ok(0), |it| it.begin(is_awaited))
+    pub fn begin_run(&mut self, is_awaited: bool) -> Outcome<u64> {
+        self.run.as_mut().map_or(Ok(0), |it| it.begin(is_awaited))
     }
 
-    /// Is called ten times a second: an idle script releases the disk space that it has reserved.
-    pub fn rest_script(&mut self) -> Outcome<()> {
-        self.script.as_mut().map_or(Ok(()), Script::rest)
+    /// Is called ten times a second: the files of an idle run release the disk space that they have reserved.
+    pub fn rest_run(&mut self) -> Outcome<()> {
+        self.run.as_mut().map_or(Ok(()), Run::rest)
     }
 
-    /// Syncs the script.
-    pub fn sync_script(&mut self) -> Outcome<()> {
-        self.script.as_mut().map_or(Ok(()), Script::sync)
+    /// Syncs the files of the run.
+    pub fn sync_run(&mut self) -> Outcome<()> {
+        self.run.as_mut().map_or(Ok(()), Run::sync)
     }
 
-    /// Number of batches of the script that are written.
-    pub fn script_done(&self) -> Outcome<u64> {
-        self.script.as_ref().map_or(Ok(0), Script::done)
+    /// Number of batches of the run that are written.
+    pub fn run_done(&self) -> Outcome<u64> {
+        self.run.as_ref().map_or(Ok(0), Run::done)
     }
 
-    /// Waits until `count` batches of the script are written.
-    pub fn wait_for_script(&self, count: u64) -> Outcome<()> {
-        self.script.as_ref().map_or(Ok(()), |it| it.wait_for(count))
+    /// Waits until `count` batches of the run are written.
+    pub fn wait_for_run(&self, count: u64) -> Outcome<()> {
+        self.run.as_ref().map_or(Ok(()), |it| it.wait_for(count))
     }
 }

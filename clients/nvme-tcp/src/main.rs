@@ -23,9 +23,11 @@ mod deallocating;
 mod digest;
 mod discovery;
 mod events;
+mod expand;
 mod fabrics;
 mod fault;
 mod features;
+mod frame;
 mod groups;
 mod health;
 mod holding;
@@ -41,6 +43,7 @@ mod keys;
 #[cfg_attr(feature = "authentication", allow(unsafe_code))]
 #[cfg_attr(not(feature = "authentication"), path = "no_libcrypto.rs")]
 mod libcrypto;
+mod lines;
 mod listening;
 mod locking;
 mod log;
@@ -48,6 +51,7 @@ mod machine;
 mod messages;
 mod metrics;
 mod names;
+mod notices;
 mod nvme;
 mod options;
 mod output;
@@ -55,9 +59,13 @@ mod outputs;
 mod pages;
 mod pdu;
 mod pointer;
+#[allow(unsafe_code)]
+mod processor;
 mod proving;
 mod record;
+mod recording;
 mod restoring;
+mod run;
 mod script;
 mod secret;
 mod server;
@@ -85,7 +93,7 @@ use nvmesim::Subsystem;
 use options::Options;
 use proving::Prover;
 use record::Event;
-use script::Script;
+use run::Run;
 use server::Server;
 use state::Folder;
 use std::env;
@@ -128,6 +136,7 @@ fn main() -> ExitCode {
         Some("--where") => print_where(),
         Some("--check") => check(&words[1..]),
         Some("ctl") => control_line(&words[1..]),
+        Some("expand") => expand::expand(&words[1..]),
         _ => serve(words),
     };
     match done {
@@ -156,14 +165,19 @@ fn print_where() -> Result<(), End> {
     print(&format!("{}\n", path.display()))
 }
 
-/// `--check CONFIG`: whether it would be refused.
+/// `--check [--image FILE] CONFIG`: whether it would be refused, over the image if there is one.
 fn check(words: &[OsString]) -> Result<(), End> {
-    let path = match words {
-        [path] => Path::new(path),
+    let (image, path) = match words {
+        [path] => (None, Path::new(path)),
+        [option, image, path] if option == "--image" => (Some(Path::new(image)), Path::new(path)),
         _ => return Err(End { status: BAD_COMMAND_LINE, text: "--check needs one CONFIG".to_owned() }),
     };
     let text = configuration::text_of(path).map_err(end(FAILED, path.display()))?;
-    judge(path, &text, ANY_BLOCKS)?;
+    let blocks = match image {
+        Some(image) => image.metadata().map_err(end(FAILED, image.display()))?.len() / BLOCK,
+        None => ANY_BLOCKS,
+    };
+    judge(path, &text, blocks)?;
     print(&format!("{}: not refused\n", path.display()))
 }
 
@@ -182,7 +196,8 @@ fn control_line(words: &[OsString]) -> Result<(), End> {
     let answer = control::ask(socket, &line.to_string_lossy()).map_err(end(FAILED, socket.display()))?;
     print(&answer)?;
     if answer.starts_with('!') {
-        return Err(End { status: REFUSED, text: "there is no such line, or nothing that it speaks of".to_owned() });
+        let text = "the control line is unknown, or its object does not exist".to_owned();
+        return Err(End { status: REFUSED, text });
     }
     Ok(())
 }
@@ -190,7 +205,7 @@ fn control_line(words: &[OsString]) -> Result<(), End> {
 /// Serves until something ends it.
 fn serve(words: Vec<OsString>) -> Result<(), End> {
     let mut options = Options::read(words.into_iter())
-        .map_err(|text| End { status: BAD_COMMAND_LINE, text: format!("{text}; --help says more") })?;
+        .map_err(|text| End { status: BAD_COMMAND_LINE, text: format!("{text}; see --help") })?;
     if options.settings.log == Form::Json {
         log::begin(Form::Json);
     }
@@ -227,7 +242,7 @@ fn serve_over(options: Options, configuration: Configuration, text: &[u8], keys:
     let listeners = listen(&options)?;
     let identity = image.as_ref().map_or_else(Identity::random, |file| file.metadata().map(Identity::of_file));
     let identity = identity.map_err(end(FAILED, "the identity"))?;
-    let mut bytes = vec![0; BLOCKS_AT + configuration.bytes() as usize];
+    let mut bytes = zeros(&configuration)?;
     let blocks = &mut bytes[BLOCKS_AT..];
     let image = match (&options.image, image) {
         (Some(path), Some(file)) => Some(Image::read(path, file, blocks).map_err(end(FAILED, path.display()))?),
@@ -239,10 +254,8 @@ fn serve_over(options: Options, configuration: Configuration, text: &[u8], keys:
         optional(&options.control, |path| locking::bind(path.display(), options.waits, || control::listen(path)))?;
     let journal = folder.map(|it| open_journal(it, &configuration)).transpose()?;
     // It comes last, so that a start that fails leaves none.
-    let script = optional(&options.script, |path| {
-        outputs::create_script(path, &options).and_then(|files| Script::new(files, &configuration))
-    })?;
-    let machine = Machine::new(subsystem, script);
+    let run = keep_run(&options, &configuration)?;
+    let machine = Machine::new(subsystem, run, image.is_some());
     let mut target = Target::new(machine, configuration, options.settings, identity, image);
     begin(&mut target, journal)?;
     target.begin_counting();
@@ -259,6 +272,30 @@ fn serve_over(options: Options, configuration: Configuration, text: &[u8], keys:
     server.run().map_err(|fault| End { status: FAILED, text: fault.to_string() })
 }
 
+/// Begins to keep the run as a script or as a recording, if an option asks for it.
+fn keep_run(options: &Options, configuration: &Configuration) -> Result<Option<Run>, End> {
+    let script = optional(&options.script, |path| {
+        outputs::create_script(path, options).and_then(|files| script::keep(files, configuration))
+    })?;
+    let recording = optional(&options.recording, |path| {
+        let file = outputs::create(path, options.replaces, options.waits)?;
+        recording::keep(file, configuration)
+    })?;
+    Ok(script.or(recording))
+}
+
+/// Memory for all blocks, filled with zeros.
+fn zeros(configuration: &Configuration) -> Result<Vec<u8>, End> {
+    let blocks = configuration.total_blocks();
+    let bytes = blocks.checked_mul(BLOCK).and_then(|it| usize::try_from(it).ok());
+    let size = bytes.and_then(|it| it.checked_add(BLOCKS_AT));
+    // `vec!` would end the process if there is no memory, so ask for it first.
+    match size.filter(|it| Vec::<u8>::new().try_reserve_exact(*it).is_ok()) {
+        Some(size) => Ok(vec![0; size]),
+        None => Err(End { status: FAILED, text: format!("there is no memory for {blocks} blocks") }),
+    }
+}
+
 /// Opens the image, which is locked then, and judges whether the configuration fits it.
 fn open_image(options: &Options, text: &[u8]) -> Result<Option<File>, End> {
     let lock = if options.settings.is_read_only { Lock::shared } else { Lock::exclusive };
@@ -270,7 +307,7 @@ fn open_image(options: &Options, text: &[u8]) -> Result<Option<File>, End> {
     Ok(image)
 }
 
-/// Whether the image can't be written; a warning says so unless `--read-only` was given.
+/// Whether the image can't be written; warns about that unless `--read-only` was given.
 fn tells_read_only(options: &Options) -> bool {
     match &options.image {
         Some(path) if !options.settings.is_read_only && image::is_read_only(path) => {
@@ -333,7 +370,7 @@ fn listen(options: &Options) -> Result<Vec<TcpListener>, End> {
     bound.collect()
 }
 
-/// Says that hosts may come, and who may.
+/// Prints that the target accepts hosts, and which ones.
 fn announce(target: &mut Target<'_>, listeners: &[TcpListener]) {
     let addresses: Vec<SocketAddr> = listeners.iter().filter_map(|it| it.local_addr().ok()).collect();
     target.log_start(&addresses);

@@ -56,7 +56,7 @@ impl Target<'_> {
         metrics.single("nvmetcp_start_time_seconds", gauge, "When the target started, in seconds since 1970.", started);
         let help = "Connections that were accepted.";
         metrics.single("nvmetcp_connections_accepted_total", counter, help, counters.accepted);
-        metrics.single("nvmetcp_connections", gauge, "Connections that are there.", counters.connections());
+        metrics.single("nvmetcp_connections", gauge, "Open connections.", counters.connections());
         let name = "nvmetcp_connections_closed_total";
         metrics.begin(name, counter, "Connections that have ended, by reason.");
         for (closing, reason) in CLOSINGS {

@@ -1,4 +1,4 @@
-//! Replaces `libcrypto.rs` in a build without OpenSSL, where `--keys` is refused: all calls fail.
+//! Replaces `libcrypto.rs` in a build without OpenSSL, in which `--keys` is refused: all calls fail.
 
 use crate::crypto::{Failed, Hash};
 

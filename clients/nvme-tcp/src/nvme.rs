@@ -1,18 +1,18 @@
-//! Numbers of the NVMe standard, and the limits of the subsystem: opcodes, features, sizes, and queues. They are in
-//! this file alone.
+//! Numbers of the NVMe standard and limits of the subsystem: opcodes, features, sizes, and queues. Only this file
+//! defines them.
 
 /// The size of a block, and of a submission queue entry.
 pub const BLOCK: u64 = 512;
 pub const ENTRY: usize = 64;
 
-/// The highest identifier of a namespace, and the most blocks that one has.
+/// The highest namespace identifier, and the most blocks of a namespace.
 pub const MOST_NAMESPACES: u32 = 8;
 pub const MOST_BLOCKS: u64 = 65_536;
 
-/// The highest identifier of a queue of a controller, and how many pairs of queues that makes.
+/// The highest queue identifier of a controller, and its number of queue pairs, including the admin queues.
 pub const MOST_QUEUE: u16 = 4;
 pub const QUEUES: usize = MOST_QUEUE as usize + 1;
-/// The most entries of a queue: a page of submission queue entries, and CAP.MQES.
+/// The most entries of a queue: a page of submission queue entries. CAP.MQES is one less.
 pub const MOST_ENTRIES: u16 = 64;
 
 /// Opcodes of admin commands.
@@ -52,8 +52,9 @@ pub const CHANGED_NAMESPACES: u8 = 0x04;
 pub const COMMAND_EFFECTS: u8 = 0x05;
 pub const NAMESPACE_ACCESS: u8 = 0x0c;
 pub const FEATURE_EFFECTS: u8 = 0x12;
+pub const RESERVATION_NOTICES: u8 = 0x80;
 
-/// The namespace identifier of all namespaces.
+/// The namespace identifier for all namespaces.
 pub const ALL_NAMESPACES: u32 = 0xffff_ffff;
 
 /// Opcodes of I/O commands.
@@ -68,7 +69,7 @@ pub const RESERVATION_REPORT: u8 = 0x0e;
 pub const RESERVATION_ACQUIRE: u8 = 0x11;
 pub const RESERVATION_RELEASE: u8 = 0x15;
 
-/// The opcode of all commands of Fabrics, and the types that the fifth byte of their entries has.
+/// The opcode of all Fabrics commands, and the values of the Fabrics Command Type, the fifth byte of their entries.
 pub const FABRICS: u8 = 0x7f;
 pub const PROPERTY_SET: u8 = 0x00;
 pub const CONNECT: u8 = 0x01;

@@ -14,6 +14,8 @@ use std::path::PathBuf;
 pub const HELP: &str = "\
 nvmetcp [OPTIONS] CONFIG       serve the subsystem that CONFIG describes as an NVMe/TCP target
 nvmetcp ctl SOCKET LINE        ask a running target a control line
+nvmetcp expand FILE [OUTPUT]   print the script of the recording FILE as --script would have kept it, or write it to
+                               OUTPUT; with --transcript its results, with --force also if OUTPUT exists
 
 CONFIG has the lines of a script before `start`: controllers with their hosts, namespaces, attachments.
 
@@ -37,12 +39,14 @@ CONFIG has the lines of a script before `start`: controllers with their hosts, n
   --state FOLDER               keep reservations, write protection and attachments there, over restarts
   --script FILE                keep the run there as a script, and its results in FILE.out; up to 64 MiB of the disk
                                are reserved ahead for each, and released after an idle second
-  --force                      replace FILE and FILE.out of a script if they exist
+  --record FILE                keep the run there as a recording, in half the space and with less work than a script,
+                               instead of --script
+  --force                      replace FILE and FILE.out of a script, or FILE of a recording, if they exist
   --control SOCKET             answer control lines at this socket, in a folder of its user alone
   --log FORM                   log hosts, refusals, fences and faults on standard error as text, json or none, by
                                default as text
   --trace                      log on standard error what hosts do
-  --check CONFIG               say whether CONFIG would be refused, and serve nothing
+  --check CONFIG               report whether CONFIG would be refused, and serve nothing
   --where                      print the path of the program
   --help, -h                   print this
   --version                    print the version, and whether the library below was built with its proofs
@@ -51,8 +55,9 @@ Control lines: powercycle, hold C, held C, go C, ana C STATE, hosts, counts, met
 ?reservation N, ?attached, ?namespaces, ?blocks N SLBA COUNT, ?fetched C, ?queues C, ?registers C, ?register C OFF,
 ?window C ADDR LEN, ?help [WORD], ?line TEXT.
 Runs until SIGTERM or SIGINT: it then sends the answers that are due, syncs its files and closes its connections; a
-second signal ends it at once. Exit status: 0 ended by a signal; 1 the configuration or the keys are refused, or there
-is no such line; 2 a file, a socket or the system failed; 3 bad command line.
+second signal ends it at once. Exit status: 0 ended by a signal; 1 the configuration, the keys or the recording are
+refused, the end of the recording is torn, or there is no such line; 2 a file, a socket or the system failed; 3 bad
+command line.
 ";
 
 /// The words of a command line.
@@ -61,13 +66,14 @@ pub struct Options {
     pub image: Option<PathBuf>,
     /// Whether locks that others hold are waited for.
     pub waits: bool,
-    /// Whether a script replaces files that are there.
+    /// Whether a script or a recording replaces files that are there.
     pub replaces: bool,
     /// The addresses to listen at.
     pub listen: Vec<SocketAddr>,
     pub settings: Settings,
     pub state: Option<PathBuf>,
     pub script: Option<PathBuf>,
+    pub recording: Option<PathBuf>,
     pub keys: Option<PathBuf>,
     /// The hash and the DH group of authentication, if they are given.
     pub choice: Option<Choice>,
@@ -86,10 +92,20 @@ impl Options {
             log: Form::Text,
         };
         let (config, listen) = (PathBuf::new(), Vec::new());
-        let (image, waits, replaces, state, script, control) = (None, false, false, None, None, None);
-        let (keys, choice) = (None, None);
-        let mut options =
-            Options { config, image, waits, replaces, listen, settings, state, script, keys, choice, control };
+        let mut options = Options {
+            config,
+            image: None,
+            waits: false,
+            replaces: false,
+            listen,
+            settings,
+            state: None,
+            script: None,
+            recording: None,
+            keys: None,
+            choice: None,
+            control: None,
+        };
         let (mut words, mut configs) = (words, Vec::new());
         while let Some(word) = words.next() {
             match word.to_str() {
@@ -111,6 +127,9 @@ impl Options {
         if options.choice.is_some() && options.keys.is_none() {
             return Err("--dhchap needs --keys".to_owned());
         }
+        if options.script.is_some() && options.recording.is_some() {
+            return Err("--script and --record exclude each other".to_owned());
+        }
         match configs.pop() {
             Some(config) if configs.is_empty() => Ok(Options { config, ..options }),
             _ => Err("one CONFIG is needed".to_owned()),
@@ -124,6 +143,7 @@ impl Options {
             "--image" => self.image = Some(value.into()),
             "--state" => self.state = Some(value.into()),
             "--script" => self.script = Some(value.into()),
+            "--record" => self.recording = Some(value.into()),
             "--control" => self.control = Some(value.into()),
             "--listen" => self.listen.push(text.parse().map_err(|_| wrong())?),
             "--advertise" => self.settings.advertised = Some(text.parse().map_err(|_| wrong())?),
@@ -205,6 +225,8 @@ mod tests {
             "c --keys k --dhchap sha1,null",
             "c --dhchap sha256,null",
             "c --keys",
+            "c --record",
+            "c --record r --script s",
         ] {
             assert!(read(wrong).is_err(), "{wrong}");
         }

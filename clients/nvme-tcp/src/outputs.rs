@@ -17,17 +17,17 @@ fn transcript_of(script: &Path) -> PathBuf {
     path.into()
 }
 
-/// Refuses a command line by which one file would be two of those that the target uses, or by which a script would
-/// replace a file. The error begins with the file.
+/// Refuses a command line by which one file would be two of those that the target uses, or by which a script or a
+/// recording would replace a file. The error begins with the file.
 pub fn check(options: &Options) -> Result<(), String> {
     let used = used_files(options);
     for (at, (what, path)) in used.iter().enumerate() {
-        let place = place(path);
-        if let Some((other, _)) = used[..at].iter().find(|(_, it)| place.is_some() && place == self::place(it)) {
+        if let Some((other, _)) = used[..at].iter().find(|(_, it)| is_same(path, it)) {
             return Err(format!("{}: it would be {other} and {what}", path.display()));
         }
     }
-    for path in options.script.iter().flat_map(|it| [it.clone(), transcript_of(it)]) {
+    let scripts = options.script.iter().flat_map(|it| [it.clone(), transcript_of(it)]);
+    for path in scripts.chain(options.recording.clone()) {
         opening(&path, options.replaces).map_err(|error| format!("{}: {error}", path.display()))?;
     }
     Ok(())
@@ -42,6 +42,7 @@ fn used_files(options: &Options) -> Vec<(&'static str, PathBuf)> {
     used.extend(folders.flat_map(|it| state::FILES.map(|name| ("a file of the state folder", it.join(name)))));
     let scripts = options.script.iter();
     used.extend(scripts.flat_map(|it| [("the script", it.clone()), ("its transcript", transcript_of(it))]));
+    used.extend(options.recording.iter().map(|it| ("the recording", it.clone())));
     used
 }
 
@@ -66,7 +67,7 @@ fn opening(path: &Path, replaces: bool) -> io::Result<OpenOptions> {
         Ok(kind) if !kind.is_file() => return Err(io::Error::new(ErrorKind::InvalidInput, "it is no file")),
         Ok(_) if replaces => &options,
         Ok(_) => {
-            let text = "it is there already; --force replaces it";
+            let text = "it exists; --force replaces it";
             return Err(io::Error::new(ErrorKind::AlreadyExists, text));
         }
     };
@@ -76,26 +77,43 @@ fn opening(path: &Path, replaces: bool) -> io::Result<OpenOptions> {
 /// Begins a script and its transcript. Neither is changed before both are locked.
 pub fn create_script(path: &Path, options: &Options) -> io::Result<[File; 2]> {
     let (transcript, is_new) = (transcript_of(path), !path.exists());
-    let script = lock(path, options)?;
-    let transcript = lock(&transcript, options).map_err(|error| {
+    let script = lock(path, options.replaces, options.waits)?;
+    let transcript = lock(&transcript, options.replaces, options.waits).map_err(|error| {
         if is_new {
             let _ = fs::remove_file(path);
         }
         io::Error::new(error.kind(), format!("its transcript: {error}"))
     })?;
-    for file in [&script, &transcript] {
-        if file.metadata()?.is_file() {
-            file.set_len(0)?;
-        }
-    }
+    [&script, &transcript].into_iter().try_for_each(empty)?;
     Ok([script, transcript])
 }
 
+/// Begins an output of one file, such as a recording. It is not changed before it is locked.
+pub fn create(path: &Path, replaces: bool, waits: bool) -> io::Result<File> {
+    let file = lock(path, replaces, waits)?;
+    empty(&file)?;
+    Ok(file)
+}
+
+/// Removes the content of a file. A stream keeps what it has.
+fn empty(file: &File) -> io::Result<()> {
+    if file.metadata()?.is_file() {
+        file.set_len(0)?;
+    }
+    Ok(())
+}
+
+/// Whether two paths are one file, or would be.
+pub fn is_same(one: &Path, other: &Path) -> bool {
+    let place_of_one = place(one);
+    place_of_one.is_some() && place_of_one == place(other)
+}
+
 /// Opens an output and locks it, unless it is a character device, such as /dev/null, which all may share.
-fn lock(path: &Path, options: &Options) -> io::Result<File> {
-    let file = opening(path, options.replaces)?.open(path)?;
+fn lock(path: &Path, replaces: bool, waits: bool) -> io::Result<File> {
+    let file = opening(path, replaces)?.open(path)?;
     if !file.metadata()?.file_type().is_char_device() {
-        Lock::exclusive(options.waits).take(path, &file)?;
+        Lock::exclusive(waits).take(path, &file)?;
     }
     Ok(file)
 }

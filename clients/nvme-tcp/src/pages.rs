@@ -8,14 +8,14 @@ use crate::nvme::{
     ABORT, ALL_NAMESPACES, ASYNCHRONOUS_EVENT_REQUEST, CHANGED_NAMESPACES, COMMAND_EFFECTS, COMPARE,
     DATASET_MANAGEMENT, ENTRY, ERROR_INFORMATION, FEATURE_EFFECTS, FIRMWARE_SLOTS, FLUSH, GET_FEATURES, GET_LOG_PAGE,
     HEALTH_INFORMATION, IDENTIFY, KEEP_ALIVE, NAMESPACE_ACCESS, NAMESPACE_ATTACHMENT, READ, RESERVATION_ACQUIRE,
-    RESERVATION_REGISTER, RESERVATION_RELEASE, RESERVATION_REPORT, SET_FEATURES, SUPPORTED_LOG_PAGES, WRITE,
-    WRITE_ZEROES,
+    RESERVATION_NOTICES, RESERVATION_REGISTER, RESERVATION_RELEASE, RESERVATION_REPORT, SET_FEATURES,
+    SUPPORTED_LOG_PAGES, WRITE, WRITE_ZEROES,
 };
 use crate::status::{Status, DATA_TRANSFER, INVALID_FIELD, INVALID_LOG_PAGE};
 use crate::target::Target;
 
 /// The pages that there are.
-const PAGES: [u8; 8] = [
+const PAGES: [u8; 9] = [
     SUPPORTED_LOG_PAGES,
     ERROR_INFORMATION,
     HEALTH_INFORMATION,
@@ -24,6 +24,7 @@ const PAGES: [u8; 8] = [
     COMMAND_EFFECTS,
     NAMESPACE_ACCESS,
     FEATURE_EFFECTS,
+    RESERVATION_NOTICES,
 ];
 /// Retain Asynchronous Event in double word 10, Offset Type in double word 14.
 const RETAIN: u32 = 1 << 15;
@@ -119,11 +120,13 @@ impl Target<'_> {
             }
             COMMAND_EFFECTS => effects_page(),
             NAMESPACE_ACCESS => self.access_page(index, entry[41] & 1 != 0),
+            RESERVATION_NOTICES => self.notice_page(index),
             _ => features::effects_page(self.image.is_some()),
         };
         let answer = part(&page, entry, length);
         if let (Ok(_), false, Some(association)) = (&answer, retains, &mut self.associations[index]) {
             association.events.was_read(entry[40]);
+            self.tell_events(index);
         }
         Ok(answer.unwrap_or_else(Answer::of))
     }

@@ -61,7 +61,7 @@ pub struct Server<'a> {
     connections: HashMap<u64, Served>,
     /// Receive buffers.
     rooms: Rooms,
-    /// The connections that wait for script or image, in the order in which they have begun to.
+    /// The connections that wait for kept run or image, in the order in which they have begun to.
     waiting: VecDeque<u64>,
     /// Whether only one connection can be served, the same as before, and none waits.
     is_alone: bool,
@@ -135,7 +135,7 @@ impl<'a> Server<'a> {
         Ok(())
     }
 
-    /// Serves every connection that is ready. If none is, and some wait for script or image, blocks on the oldest
+    /// Serves every connection that is ready. If none is, and some wait for kept run or image, blocks on the oldest
     /// write.
     fn turn(&mut self, ready: &mut Vec<Ready>, look: &mut Instant) -> Outcome<()> {
         let patience = if self.waiting.is_empty() { LOOK } else { Duration::ZERO };
@@ -169,7 +169,7 @@ impl<'a> Server<'a> {
             }
             self.close_late(now)?;
             self.resume_listeners(now)?;
-            self.target.machine.rest_script()?;
+            self.target.machine.rest_run()?;
             self.target.log.rest(now);
         }
         Ok(())
@@ -233,7 +233,7 @@ impl<'a> Server<'a> {
         most.and_then(oldest).map_or(Ok(()), |name| self.close(name, Closing::Crowded))
     }
 
-    /// Serves a connection, unless it waits for script or image; whether it did.
+    /// Serves a connection, unless it waits for kept run or image; whether it did.
     fn serve(&mut self, name: u64, ready: Ready) -> Outcome<bool> {
         let served = match self.connections.get_mut(&name) {
             Some(served) if served.waits_for.is_none() => served,

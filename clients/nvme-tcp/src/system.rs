@@ -1,6 +1,6 @@
 //! System calls that the standard library lacks: its poll, epoll(7), options of sockets, space and locks of files,
-//! signals, and what keeps memory secret. One of three files with unsafe code. The others are `libcrypto.rs` and
-//! clients/rust/src/raw.rs, which calls the library.
+//! signals, and what keeps memory secret. One of four files with unsafe code. The others are `libcrypto.rs`,
+//! `processor.rs` and clients/rust/src/raw.rs, which calls the library.
 //!
 //! Why it is safe: `Event` has the layout of the kernel's `struct epoll_event` on x86-64, which is packed; arrays and
 //! values have the lengths that the calls are given; and nobody else owns a descriptor that a call has returned. The

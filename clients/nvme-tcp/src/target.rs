@@ -4,31 +4,30 @@ use crate::access::Access;
 use crate::admission::Admission;
 use crate::answer::{Answer, Payload};
 use crate::association::{Association, ConnectionId, HostQueue, Session};
-use crate::bytes::{u16_at, u32_at, u64_at};
+use crate::bytes::u32_at;
 use crate::configuration::Configuration;
-use crate::controller::{Controller, Data, CSTS};
+use crate::controller::{Completed, Controller, Data, CSTS};
 use crate::counters::{Closing, Counters};
 use crate::fault::Outcome;
 use crate::health::Health;
 use crate::holding::Held;
 use crate::identity::Identity;
-use crate::image::{Done, Image};
+use crate::image::Image;
 use crate::journal::Journal;
 use crate::log::{Form, Log};
 use crate::machine::Machine;
-use crate::nvme::{
-    AUTHENTICATION_RECEIVE, BLOCK, DATASET_MANAGEMENT, ENTRY, FABRICS, NAMESPACE_ATTACHMENT, WRITE, WRITE_ZEROES,
-};
+use crate::nvme::{AUTHENTICATION_RECEIVE, DATASET_MANAGEMENT, ENTRY, FABRICS, NAMESPACE_ATTACHMENT};
 use crate::proving::Prover;
 use crate::status::{AUTHENTICATION_REQUIRED, COMMAND_SEQUENCE, INACCESSIBLE, SUCCESS};
-use crate::window::PAGE;
-use nvmesim::Attachment;
+use nvmesim::{Attachment, Need};
 use std::collections::VecDeque;
 use std::fmt;
 use std::io::{self, Write};
 use std::net::SocketAddr;
 use std::time::Instant;
 
+/// Force Unit Access, in double word 12 of a command on blocks.
+const FORCE_UNIT_ACCESS: u32 = 1 << 30;
 /// CSTS.RDY and CSTS.SHST.
 const READY: u32 = 1;
 const SHUTDOWN_STATUS: u32 = 3 << 2;
@@ -62,10 +61,10 @@ pub enum Effect {
     Answer(ConnectionId, [u8; ENTRY], Answer),
 }
 
-/// The numbers of batches begun so far, of the script and of the image.
+/// The numbers of batches begun so far, of the run and of the image.
 #[derive(Clone, Copy, Debug, Default, PartialEq, Eq)]
 pub struct Handed {
-    script: u64,
+    run: u64,
     image: u64,
 }
 
@@ -74,7 +73,7 @@ pub struct Target<'a> {
     pub machine: Machine<'a>,
     pub configuration: Configuration,
     pub controllers: Vec<Controller>,
-    /// The association of each controller, where a host has one.
+    /// The association of each controller, if a host has one.
     pub associations: Vec<Option<Association>>,
     /// What is attached, in the order in which it was.
     pub attachments: Vec<Attachment>,
@@ -179,23 +178,16 @@ impl<'a> Target<'a> {
         if entry[0] == DATASET_MANAGEMENT {
             return self.deallocate(index, qid, entry, data).map(Some);
         }
-        self.prefetch(entry);
+        let watch = self.watch(index, entry);
         let completed = self.controllers[index].run(&mut self.machine, qid, entry, data)?;
         if !completed.is_denied {
-            self.follow(index, qid, entry, data, completed.status == SUCCESS)?;
+            self.follow(index, qid, entry, data, &completed)?;
+        }
+        if let (Some(watch), SUCCESS) = (&watch, completed.status) {
+            self.notify(watch)?;
         }
         let length = if let Data::FromController(length) = data { length } else { 0 };
         Ok(Some(Answer::completed(completed, self.controllers[index].cntlid, length)))
-    }
-
-    /// Has the processor fetch the first page of the blocks that a Write writes, while the command is on its way to
-    /// them. Elsewhere it does so by itself.
-    fn prefetch(&self, entry: &[u8; ENTRY]) {
-        if let (WRITE, Some(first)) = (entry[0], self.configuration.first_block(u32_at(entry, 4))) {
-            let (slba, blocks) = (u64_at(entry, 40), u64::from(u16_at(entry, 48)) + 1);
-            let place = first.saturating_add(slba).saturating_mul(BLOCK);
-            self.machine.prefetch(place as usize, PAGE.min(blocks * BLOCK) as usize);
-        }
     }
 
     /// Makes image and journal follow a command that was allowed.
@@ -205,22 +197,19 @@ impl<'a> Target<'a> {
         qid: u16,
         entry: &[u8; ENTRY],
         data: Data<'_>,
-        has_succeeded: bool,
+        completed: &Completed,
     ) -> Outcome<()> {
+        let has_succeeded = completed.status == SUCCESS;
         if qid == 0 && entry[0] == NAMESPACE_ATTACHMENT {
             self.follow_attachments();
         }
-        if qid != 0 && entry[0] == WRITE_ZEROES && has_succeeded {
-            self.health[index].zero(entry);
+        if let (Need::Zero { blocks, .. }, true) = (completed.need, has_succeeded) {
+            self.health[index].zero(blocks);
         }
-        match &mut self.image {
-            Some(image) if qid != 0 => {
-                let has_write_cache = self.associations[index].as_ref().map_or(true, |it| it.features.has_write_cache);
-                let data = if has_succeeded { data } else { Data::None };
-                let done = Done { entry, data, is_synced: !has_write_cache };
-                image.follow(&mut self.machine, &self.configuration, done)?;
-            }
-            _ => (),
+        if let Some(image) = &mut self.image {
+            let has_write_cache = self.associations[index].as_ref().map_or(true, |it| it.features.has_write_cache);
+            let is_synced = !has_write_cache || u32_at(entry, 48) & FORCE_UNIT_ACCESS != 0;
+            image.follow(&mut self.machine, completed.need, is_synced)?;
         }
         match &mut self.journal {
             Some(journal) if has_succeeded => journal.follow(self.controllers[index].cntlid, qid, entry, data),
@@ -228,30 +217,30 @@ impl<'a> Target<'a> {
         }
     }
 
-    /// Writes what the system must have before a host hears of its commands, the blocks of the image and the lines of
-    /// the script, or begins to. With `is_awaited` the caller waits for that next.
+    /// Writes what the system must have before a host hears of its commands, the blocks of the image and the events of
+    /// the kept run, or begins to. With `is_awaited` the caller waits for that next.
     pub fn hand_over(&mut self, is_awaited: bool) -> Outcome<Handed> {
-        let script = self.machine.begin_script(is_awaited)?;
+        let run = self.machine.begin_run(is_awaited)?;
         let image = self.image.as_mut().map_or(Ok(0), |it| it.begin(is_awaited))?;
-        Ok(Handed { script, image })
+        Ok(Handed { run, image })
     }
 
     /// Whether the system has everything up to `handed`.
     pub fn has(&self, handed: Handed) -> Outcome<bool> {
         let image = self.image.as_ref().map_or(Ok(0), Image::done)?;
-        Ok(handed.image <= image && handed.script <= self.machine.script_done()?)
+        Ok(handed.image <= image && handed.run <= self.machine.run_done()?)
     }
 
     /// Waits until the system has it.
     pub fn wait_for(&self, handed: Handed) -> Outcome<()> {
         self.image.as_ref().map_or(Ok(()), |it| it.wait_for(handed.image))?;
-        self.machine.wait_for_script(handed.script)
+        self.machine.wait_for_run(handed.run)
     }
 
-    /// Has the disk hold all that happened: blocks and lines. Each record of the journal was synced when it was made.
+    /// Has the disk hold all that happened: blocks and events. Each record of the journal was synced when it was made.
     pub fn sync(&mut self) -> Outcome<()> {
         self.image.as_mut().map_or(Ok(()), Image::sync)?;
-        self.machine.sync_script()
+        self.machine.sync_run()
     }
 
     /// An error if another target has taken the journal over, and with `all` also if another program has changed the

@@ -9,7 +9,7 @@ use std::collections::VecDeque;
 /// later.
 const MOST_ACTIVE: usize = 8;
 
-/// A command whose data are on their way.
+/// A command whose data are in flight.
 pub struct Transfer {
     pub entry: [u8; ENTRY],
     data: Vec<u8>,

@@ -2,7 +2,7 @@
 //
 // CALLS_TOLD names a file that gets a line for each: `writes PLACE COUNT` before a pwrite and `wrote PLACE COUNT` after
 // it, `syncs` before an fdatasync and `synced` after it, `reserves MODE PLACE COUNT` before an fallocate. CALLS_GATE
-// may name a pipe. A pwrite, or a write of 16 KiB, waits there until it gets a byte. So does an fdatasync at
+// may name a pipe. A pwrite, or a write or writev of 16 KiB, waits there until it gets a byte. So does an fdatasync at
 // CALLS_SYNC_GATE. CALLS_REFUSAL may be an errno, by which each fallocate is refused. With CALLS_PART, a
 // writev takes a part of the bytes, or is interrupted; `puts COUNT FIRST SECOND` is how many of which. A long write
 // then takes a while, so that more bytes are queued after it.
@@ -87,6 +87,8 @@ ssize_t write(int file, const void *bytes, size_t count) {
 ssize_t writev(int file, const struct iovec *parts, int count) {
     ssize_t (*next)(int, const struct iovec *, int) = dlsym(RTLD_NEXT, "writev");
     static unsigned calls;
+    if (count == 2 && parts[0].iov_len + parts[1].iov_len >= 16384)
+        wait_at(gate);
     if (!getenv("CALLS_PART") || count != 2)
         return next(file, parts, count);
     size_t first = parts[0].iov_len, second = parts[1].iov_len;

@@ -1,4 +1,4 @@
-"""DH-HMAC-CHAP at the host's side, by hashlib, hmac and whole numbers alone: nothing of it is the target's."""
+"""The host's side of DH-HMAC-CHAP, by hashlib, hmac and whole numbers, independent of the target's code."""
 import base64
 import hashlib
 import hmac
@@ -20,7 +20,7 @@ FAILED, PROTOCOL_NOT_USABLE, CHANNEL, HASH, GROUP, PAYLOAD, MESSAGE = range(1, 8
 
 
 def digits_of_e(bits: int) -> int:
-    """The whole part of e times two to this power."""
+    """The integer part of e * 2^`power`."""
     term = total = 1 << (bits + 64)
     divisor = 1
     while term:
@@ -49,7 +49,7 @@ def secret_of(data: bytes, form: int = 1) -> str:
 
 
 def key_of(secret: str, name: str) -> bytes:
-    """The key of whoever proves by a secret that it has this name."""
+    """The key of a host that proves by a secret that it has this name."""
     _, form, text, _ = secret.split(":")
     data = base64.b64decode(text)[:-4]
     return data if form == "00" else hmac.digest(data, name.encode() + b"NVMe-over-Fabrics", HASHES[int(form)])
@@ -143,7 +143,7 @@ class ChapQueue(Queue):
         return self.call(0x7f, RECEIVE, words + struct.pack("<I", length), length=length)
 
     def message(self) -> bytes:
-        """The message that is due, which is no failure."""
+        """The next message, which must not be a failure."""
         completion = self.ask_for_message()
         assert completion.status == 0, completion
         if completion.data[:2] == b"\0\xf1":
@@ -152,7 +152,7 @@ class ChapQueue(Queue):
         return completion.data
 
     def begin(self, **how) -> Challenge:
-        """Negotiates; the challenge."""
+        """Negotiates, and returns the challenge."""
         self.transaction = self.transaction + 1 & 0xffff
         assert self.send_message(negotiate(self.transaction, **how)) == 0
         challenge = Challenge.read(self.message())

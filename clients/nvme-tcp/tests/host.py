@@ -17,7 +17,7 @@ MOST_IN_CAPSULE = 8192
 
 
 def table_of_crc() -> List[int]:
-    """What each byte adds to a CRC32C."""
+    """The table of CRC32C, for each byte."""
     table = []
     for value in range(256):
         for _ in range(8):
@@ -30,7 +30,7 @@ TABLE = table_of_crc()
 
 
 def digest_of(data: bytes) -> bytes:
-    """The CRC32C of bytes, as a PDU has it."""
+    """The CRC32C of bytes, in the form of a PDU."""
     value = 0xffffffff
     for byte in data:
         value = value >> 8 ^ TABLE[(value ^ byte) & 255]
@@ -38,7 +38,7 @@ def digest_of(data: bytes) -> bytes:
 
 
 class Ended(Exception):
-    """The target has ended the connection: the Fatal Error Status of its termination request, or None without one."""
+    """The target ended the connection, with the Fatal Error Status of its termination request, or None without one."""
 
     def __init__(self, status: Optional[int]) -> None:
         super().__init__(f"the target has ended the connection, status {status}")
@@ -75,7 +75,7 @@ Place = Union[int, Tuple[str, int]]
 
 
 class Connection:
-    """A connection whose PDUs are whole, in both directions. `digests` as ICReq has them."""
+    """A connection that sends and receives whole PDUs. `digests` as in ICReq."""
 
     def __init__(self, port: Place, digests: int = 0, alignment: int = 0, opens: bool = True) -> None:
         place = port if isinstance(port, tuple) else ("127.0.0.1", port)
@@ -123,7 +123,7 @@ class Connection:
         self.socket.sendall(self.pdu(kind, header, data, flags))
 
     def data_of(self, unit: bytes) -> bytes:
-        """The data of a C2HData PDU, whose digests and place are as agreed."""
+        """The data of a C2HData PDU. Checks its digests and offset."""
         place, count = unit[3], struct.unpack_from("<I", unit, 16)[0]
         assert place % (4 * (self.alignment + 1)) == 0, unit[:24]
         if self.digests & 1:
@@ -165,7 +165,7 @@ class Queue(Connection):
         return cid
 
     def completion(self) -> Completion:
-        """The next completion. Data that come before it are kept, and those that are asked for are sent."""
+        """The next completion. Keeps data that arrive before it, and sends data that are requested."""
         while True:
             kind, unit = self.unit()
             if kind == RESPONSE:
@@ -181,7 +181,7 @@ class Queue(Connection):
                 self.send_data(cid, tag, self.going.pop(cid)[start:start + count])
 
     def send_data(self, cid: int, tag: int, data: bytes) -> None:
-        """The data that were asked for, in pieces."""
+        """Sends the requested data in several PDUs."""
         for at in range(0, len(data), self.part):
             piece = data[at:at + self.part]
             last = 4 if at + len(piece) == len(data) else 0
@@ -225,7 +225,7 @@ class Host:
 
     def log_page(self, page: int, length: int, offset: int = 0, nsid: int = 0xffffffff, asked: Optional[int] = None,
                  dw10: int = 0, dw14: int = 0) -> Completion:
-        """`length` bytes of a log page; the host has room for these, or for as many as `asked` says."""
+        """`length` bytes of a log page; the host has a buffer for these, or for `asked` bytes."""
         words = length // 4 - 1
         dw10 |= page | (words & 0xffff) << 16
         return self.admin.call(0x02, nsid, struct.pack("<IIQI", dw10, words >> 16, offset, dw14),

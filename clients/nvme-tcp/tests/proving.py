@@ -1,4 +1,4 @@
-"""A target that has keys, and queues of hosts that prove who they are, for tests."""
+"""A target with keys, and queues of hosts that authenticate, for tests."""
 import struct
 import tempfile
 import unittest
@@ -50,7 +50,7 @@ class KeysTest(TargetTest):
         return (self.folder / "errors").read_text()
 
     def queue(self, host: int = 0xa1, qid: int = 0, cntlid: int = 0xffff, **how) -> ChapQueue:
-        """A queue whose Connect has succeeded, and which has proved nothing."""
+        """A queue whose Connect succeeded, but which has not authenticated."""
         queue = ChapQueue(self.target.port)
         self.addCleanup(queue.close)
         completion = queue.connect(qid, host, cntlid, **how)
@@ -76,9 +76,9 @@ class KeysTest(TargetTest):
     def assert_refused(self, queue: ChapQueue, message: bytes, explanation: int) -> None:
         """A message is answered by Failure1, and then the connection ends."""
         self.assertEqual(queue.send_message(message), 0)
-        self.assert_told(queue, explanation)
+        self.assert_failure(queue, explanation)
 
-    def assert_told(self, queue: ChapQueue, explanation: int) -> None:
+    def assert_failure(self, queue: ChapQueue, explanation: int) -> None:
         with self.assertRaises(Refused) as refused:
             queue.message()
         self.assertEqual(refused.exception.explanation, explanation)

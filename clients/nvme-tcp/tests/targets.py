@@ -29,10 +29,16 @@ def has_keys() -> bool:
 
 
 def fixed_random(folder: Path) -> Dict[str, str]:
-    """What a target needs in its environment to draw the same random numbers in each run."""
+    """The environment with which a target draws the same random numbers in each run."""
     source, library = Path(__file__).resolve().parent / "fixed_random.c", folder / "fixed_random.so"
     subprocess.run(["cc", "-O1", "-Wall", "-Wextra", "-shared", "-fPIC", "-o", str(library), str(source)], check=True)
     return {"LD_PRELOAD": str(library)}
+
+
+def expand(recording: Path, *options: str) -> "subprocess.CompletedProcess[bytes]":
+    """`nvmetcp expand` of a recording."""
+    words = [PROGRAM, "expand", *options, str(recording)]
+    return subprocess.run(words, stdout=subprocess.PIPE, stderr=subprocess.PIPE, timeout=60)
 
 
 class Target:
@@ -88,7 +94,8 @@ class Target:
 
 @unittest.skipUnless(PROGRAM, "NVMETCP names no program")
 class TargetTest(unittest.TestCase):
-    """A test with a folder, and targets that end with it. At its end each that is left has to be alive, and well."""
+    """A test with a folder, and targets that end with it. Targets that remain at its end must be running without
+    errors."""
 
     config, image, options = TWO_HOSTS, None, ()
 
@@ -104,13 +111,13 @@ class TargetTest(unittest.TestCase):
         self.target.close()
 
     def host(self, host: int = 0xa1, **how) -> Host:
-        """A host, which is gone at the end."""
+        """A host, which disconnects at the end."""
         made = Host(self.target.port, host, **how)
         self.addCleanup(made.close)
         return made
 
     def wait_for(self, holds, seconds: float = 5.0) -> None:
-        """Waits until something holds."""
+        """Waits until a condition holds."""
         last = time.monotonic() + seconds
         while not holds():
             self.assertLess(time.monotonic(), last, "it has not come about")

@@ -1,4 +1,4 @@
-"""Hosts that prove who they are: DH-HMAC-CHAP over the wire, in each way, and wrong in each way."""
+"""Hosts that authenticate by DH-HMAC-CHAP, with each option and with each error."""
 import base64
 import os
 import random
@@ -97,7 +97,7 @@ class Proofs(KeysTest):
         self.assert_ended(io)
 
     def test_discovery(self) -> None:
-        """It needs no proof: it says where the subsystem is, to hosts that are listed."""
+        """Discovery needs no authentication: it reports the subsystem's address to listed hosts."""
         queue = ChapQueue(self.target.port)
         self.addCleanup(queue.close)
         completion = queue.connect(0, 0xa1, name=DISCOVERY)
@@ -129,7 +129,7 @@ class Proofs(KeysTest):
             queue.finish(reply)
         self.assertEqual(queue.property(CSTS).status, 0)
 
-    def test_nothing_secret_is_told(self) -> None:
+    def test_no_secret_is_shown(self) -> None:
         self.target.close()
         self.target.options.append("--trace")
         self.target.start()
@@ -204,7 +204,7 @@ class Refusals(KeysTest):
                 self.assert_refused(self.queue(), negotiate(1, **how), explanation)
 
     def test_replay(self) -> None:
-        """A reply that was heard on one queue is worth nothing on another, nor there again."""
+        """A reply that was recorded on one queue is refused on another, and on the same one later."""
         first, second = self.queue(), self.queue()
         reply = reply_to(first.begin(), names_of(0xa1), SECRETS[0xa1])
         first.finish(reply)
@@ -340,7 +340,7 @@ class WithoutLibcrypto(unittest.TestCase):
 
 class Without(TargetTest):
     def test_commands_are_what_they_were(self) -> None:
-        """Without --keys hosts are believed, and the commands of authentication are not there."""
+        """Without --keys hosts are trusted, and the commands of authentication do not exist."""
         queue = ChapQueue(self.target.port)
         self.addCleanup(queue.close)
         self.assertEqual(queue.connect(0, 0xa1).value, 1)

@@ -1,5 +1,5 @@
 """The system calls of a target on its files: a Flush is answered when all blocks before it are synced, and a kept
-script has room ahead of it, which is given back."""
+script or recording has room ahead of it, which is given back."""
 import errno
 import os
 import select
@@ -14,7 +14,7 @@ from pathlib import Path
 from unittest import mock
 
 from tests.host import BLOCK, CAPSULE, IN_CAPSULE, Ended, Host, Queue, entry_of
-from tests.targets import BLOCKS, Target, TargetTest
+from tests.targets import BLOCKS, Target, TargetTest, expand
 
 FORCE_UNIT_ACCESS = 1 << 30
 MEBIBYTE = 1 << 20
@@ -73,10 +73,12 @@ class Gate(CallsTest):
 class Lines(Gate):
     """Lines that go to a script slowly."""
 
+    option = "--script"
+
     def setUp(self) -> None:
         room = tempfile.TemporaryDirectory()
         self.addCleanup(room.cleanup)
-        self.options = ["--script", str(Path(room.name, "kept.nvme"))]
+        self.options = [self.option, str(Path(room.name, "kept.nvme"))]
         super().setUp()
 
 
@@ -158,13 +160,20 @@ class Takeover(CallsTest):
 class Rooms(CallsTest):
     """A kept script, and the room on the disk that is reserved for it."""
 
+    option, ends = "--script", ("", ".out")
+    # The number of reservations of a long run, and of two runs with a rest between them.
+    long, rested = 4, 3
+
     def setUp(self) -> None:
         self.refusal = None
         room = tempfile.TemporaryDirectory()
         self.addCleanup(room.cleanup)
         self.script = Path(room.name, "kept.nvme")
-        self.options = ["--script", str(self.script), "--force"]
+        self.options = [self.option, str(self.script), "--force"]
         super().setUp()
+
+    def content(self) -> bytes:
+        return self.script.read_bytes()
 
     def write(self, host: Host, count: int) -> None:
         """Writes `count` times 128 KiB, of which the script has twice as many bytes."""
@@ -187,7 +196,7 @@ class Rooms(CallsTest):
         self.assertEqual(self.reserved(), [])
         self.write(host, 40)
         told = self.reserved()
-        self.assertEqual(len(told), 4)
+        self.assertEqual(len(told), self.long)
         for (place, count), (behind, _) in zip(told, told[1:]):
             self.assertTrue(MEBIBYTE <= count <= place and place + count == behind, told)
         self.assertGreater(sum(told[-1]), self.script.stat().st_size)
@@ -197,30 +206,30 @@ class Rooms(CallsTest):
         for _ in range(2):
             self.write(host, 10)
             self.wait_for(lambda: self.beyond() < SLACK)
-        self.assertEqual(len(self.reserved()), 3)
-        self.assertEqual(self.script.read_bytes().count(b"\nfetch 1 1\n"), 20)
+        self.assertEqual(len(self.reserved()), self.rested)
+        self.assertEqual(self.content().count(b"\nfetch 1 1\n"), 20)
 
     def test_a_target_that_is_killed(self) -> None:
         host = self.host()
         self.write(host, 10)
         self.target.kill()
-        content = self.script.read_bytes()
+        content = self.content()
         self.assertEqual(content.count(b"\nfetch 1 1\n"), 10)
         self.assertNotIn(0, content)
         self.target.start()
 
     def other(self, **environment: str) -> list:
-        """Writes the same to a target over whose calls these words say more: the files are the same. What it writes
-        them."""
+        """Writes the same data to a target whose calls fail as these words describe: the files are the same. What it
+        writes them."""
         self.write(self.host(), 10)
         with tempfile.TemporaryDirectory() as room:
             kept, told = Path(room, "kept.nvme"), Path(room, "told")
             words = {"LD_PRELOAD": str(self.library), "CALLS_TOLD": str(told), **environment}
             with mock.patch.dict(os.environ, words):
-                other = Target(Path(room), self.config, options=["--script", str(kept)])
+                other = Target(Path(room), self.config, options=[self.option, str(kept)])
             with closing(other), closing(Host(other.port, 0xa1)) as host:
                 self.write(host, 10)
-                for end in ("", ".out"):
+                for end in self.ends:
                     self.assertEqual(Path(f"{self.script}{end}").read_bytes(), Path(f"{kept}{end}").read_bytes())
                 return [line.split() for line in told.read_text().splitlines()]
 
@@ -229,10 +238,28 @@ class Rooms(CallsTest):
         self.assertEqual(len(self.other(CALLS_REFUSAL=str(errno.EOPNOTSUPP))), 1)
 
     def test_calls_that_take_a_part(self) -> None:
-        """The script is the same where calls take a part of the bytes, or are interrupted."""
+        """The script is the same if calls take a part of the bytes, or are interrupted."""
         told = [[int(it) for it in words[1:]] for words in self.other(CALLS_PART="1") if words[0] == "puts"]
         self.assertTrue(any(count < first for count, first, _ in told), told)
         self.assertTrue(any(first <= count < first + second for count, first, second in told), told)
+
+
+class RecordingRooms(Rooms):
+    """Disk space that a recording reserves: half as many bytes as a script does."""
+
+    option, ends = "--record", ("",)
+    long, rested = 3, 2
+
+    def content(self) -> bytes:
+        ran = expand(self.script)
+        self.assertEqual((ran.returncode, ran.stderr), (0, b""))
+        return ran.stdout
+
+
+class RecordingBatches(Lines):
+    """Batches that go to a recording slowly."""
+
+    option = "--record"
 
 
 del CallsTest, Gate

@@ -1,4 +1,4 @@
-"""Files that another program changes while the target serves them: it ends, and says of what."""
+"""Files that another program changes while the target serves them: it ends, and reports the reason."""
 import os
 import shutil
 import signal
@@ -13,7 +13,7 @@ from tests.targets import BLOCKS, Target, TargetTest
 
 class ChangedTest(TargetTest):
     def ends(self, text: str, seconds: float = 3) -> None:
-        """The target ends by itself within that time, and says this."""
+        """The target ends by itself within that time, with this message."""
         self.target.process.wait(seconds)
         self.assertEqual(self.target.process.returncode, 2)
         errors = (self.folder / "errors").read_text()
@@ -52,7 +52,7 @@ class Image(ChangedTest):
         self.target.close()
 
     def test_a_flush(self) -> None:
-        """It is not answered where the image is not the same file, however short that is."""
+        """It is not answered if the image is not the same file, however short that is."""
         for what in ("cut", "replaced", "renamed", "removed"):
             with self.subTest(what):
                 host = self.host()
@@ -65,7 +65,7 @@ class Image(ChangedTest):
                 self.target.start()
         self.target.close()
 
-    def test_a_write_behind_a_cut(self) -> None:
+    def test_a_write_after_a_cut(self) -> None:
         """The write would make the image as long as it was, with zeros in it."""
         host = self.host()
         self.assertEqual(host.write(0, b"\1" * BLOCK), 0)
@@ -75,7 +75,7 @@ class Image(ChangedTest):
         self.ends("the image: it was cut to 0 bytes")
 
     def test_a_longer_image(self) -> None:
-        """More bytes harm nobody."""
+        """A longer file is harmless."""
         os.truncate(self.target.image, 2 * BLOCK * BLOCKS)
         time.sleep(0.3)
         self.assertEqual(self.host().write(0, b"\1" * BLOCK), 0)

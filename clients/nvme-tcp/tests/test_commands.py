@@ -1,4 +1,4 @@
-"""Commands: each answer is the subsystem's, with Do Not Retry where a repeat can't help."""
+"""Commands: each answer is the subsystem's, with Do Not Retry if a repeat can't help."""
 import random
 import struct
 
@@ -44,8 +44,8 @@ class Blocks(TargetTest):
         self.assertEqual((longer.status, longer.data), (0, b"\5" * 512 + bytes(1536)), "zeros, and no data from before")
         self.assertEqual(host.identify(2, length=4096).data[:8], struct.pack("<II", 1, 0))
 
-    def test_nothing_of_another_host_is_told(self) -> None:
-        """What a command that fails leaves in the memory of its controller's host goes nowhere."""
+    def test_no_data_of_another_host_are_returned(self) -> None:
+        """The data of a failed command are not sent."""
         a, b = self.host(), self.host(0xb2)
         a.write(0, b"\x99" * 4096)
         self.assertEqual(b.read(5000, 8).data, b"")
@@ -132,7 +132,7 @@ class Reservations(TargetTest):
         self.assertEqual(b.read(7, 1).data, b"\1" * 512)
 
     def test_rooms_of_held_commands(self) -> None:
-        """One that is held when others are gone has room of its own."""
+        """A held command keeps its own buffer while others complete."""
         a = self.host(queues=2)
         a.write(0, b"\1" * 512), a.write(1, b"\2" * 512)
         self.target.ask("hold 1")

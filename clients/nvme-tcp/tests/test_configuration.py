@@ -1,4 +1,4 @@
-"""CONFIG: each refusal has its line and its reason, and nothing else happens."""
+"""CONFIG: each refusal has its line and its reason, and has no other effect."""
 import os
 import subprocess
 import tempfile
@@ -27,17 +27,21 @@ class Configurations(unittest.TestCase):
                               text=True, timeout=10)
 
     def test_sizes_have_limits(self) -> None:
-        for blocks in (65537, 10_000_000_000, 18446744073709551615):
+        for blocks in (1 << 50, 18446744073709551615):
             lines = f"controller 1 host 0xa1\nnamespace 1 blocks {blocks} shared\n"
             ran = self.run_over(lines.encode(), "--listen", "127.0.0.1:0")
-            self.assertEqual((ran.returncode, ran.stdout), (1, ""), blocks)
-            self.assertIn(f"namespace 1 has {blocks} blocks, and 65536 is the most", ran.stderr)
+            self.assertEqual((ran.returncode, ran.stdout), (2, ""), blocks)
+            self.assertEqual(ran.stderr, f"nvmetcp: there is no memory for {blocks} blocks\n")
+        lines = TWO_HOSTS + f"namespace 7 blocks {(1 << 64) - 64} shared\n"
+        ran = self.run_over(lines.encode(), "--listen", "127.0.0.1:0")
+        self.assertEqual((ran.returncode, ran.stdout), (1, ""))
+        self.assertIn("namespace 7 ends after the 18446744073709551615 blocks of the medium", ran.stderr)
 
     def test_where_and_why(self) -> None:
         for lines, told in (
                 (b"", "1:1: there is no controller; add a line 'controller 1 host 1'"),
-                (TWO_HOSTS.encode() + b"start\n\n# behind\nup 1\n",
-                 "9:1: this line is an event, and a configuration has none"),
+                (TWO_HOSTS.encode() + b"start\n\n# after\nup 1\n",
+                 "9:1: this line is an event; a configuration has none"),
                 (TWO_HOSTS.encode() + b"start\nnothing\n", "7:1: there is no line 'nothing'"),
                 (b"controler 1 host 1\n", "1:1: there is no line 'controler'; did you mean 'controller'?")):
             ran = self.run_over(lines, "--listen", "127.0.0.1:0")
@@ -49,7 +53,7 @@ class Configurations(unittest.TestCase):
         first = b"controller 1 host 0xa1\n"
         for lines in (b"controller\v2 host 1\n", b"controller\f2 host 1\n", b"controller\xc2\xa02 host 1\n",
                       "controller\u20032 host 1\n".encode(), b"controller 2 host 1\v\n", b"\xff\n", b"# \xff\n", b" \t\r\n",
-                      b"namespace 1 blocks 65537 shared\n", b"namespace 1 blocks 18446744073709551616 shared\n",
+                      b"namespace 1 blocks 18446744073709551616 shared\n",
                       b"namespace 1 blocks 0 shared\n", b"namespace 9 blocks 4 shared\n", b"attached 1 1\n",
                       b"controller 3 host 1\n", b"controller 2 host 0\n", b"controller 2 host 0x\n", b"start\nstop\n",
                       b"up 1\n", b"namespace 1 blocks 8 shared\n" * 2, b"controller 2 host +1\n", b"start\n# \xff\n",
@@ -78,19 +82,26 @@ class Configurations(unittest.TestCase):
             target.close()
 
     def test_a_check(self) -> None:
-        """It says what serving would say, and opens nothing else."""
+        """It prints the message that serving would print, and opens nothing else."""
         ran = self.run_over(TWO_HOSTS.encode(), "--check")
         self.assertEqual((ran.returncode, ran.stdout, ran.stderr), (0, f"{self.config}: not refused\n", ""))
         for lines in ("controller\n", "controller 2 host 0xa1\n", "controller 1 host 0\n", "", "start\n",
                       "controller 1 host 1\nnamespace 9 blocks 4 shared\n",
                       "controller 1 host 1\nnamespace 1 blocks 0 shared\n",
-                      "controller 1 host 1\nnamespace 1 blocks 65537 shared\n", "controller 1 host 1\nattached 1 1\n"):
+                      "controller 1 host 1\nattached 1 1\n"):
             checked = self.run_over(lines.encode(), "--check")
             served = self.run_over(lines.encode(), "--listen", "127.0.0.1:0")
             told = (checked.returncode, checked.stdout, checked.stderr)
             self.assertEqual(told, (1, "", served.stderr), lines)
             self.assertEqual(served.returncode, 1)
         self.assertEqual([it.name for it in self.config.parent.iterdir()], [self.config.name])
+        image = self.config.with_name("disk.img")
+        with open(image, "wb") as file:
+            file.truncate(512 * 70_000)
+        for blocks, status in ((70_000, 0), (70_001, 1)):
+            lines = f"controller 1 host 1\nnamespace 1 blocks {blocks} shared\n"
+            self.assertEqual(self.run_over(lines.encode(), "--check", "--image", str(image)).returncode, status)
+        image.unlink()
         self.config.unlink()
         for words, status in (([str(self.config)], 2), ([], 3), ([str(self.config), "--trace"], 3)):
             ran = subprocess.run([PROGRAM, "--check", *words], stdout=subprocess.PIPE, stderr=subprocess.PIPE)

@@ -67,7 +67,7 @@ class Ends(TargetTest):
             self.assertGreater(len(answered), 20)
             for place, data in answered.items():
                 found = image[BLOCK * place:BLOCK * (place + 8)]
-                self.assertIn(found, (data, asked.get(place, data)), "what was answered is not there")
+                self.assertIn(found, (data, asked.get(place, data)), "what was answered is missing")
         self.replay(image)
 
     def writes(self, first: int, host: Host, told: dict, going: dict) -> None:

@@ -178,8 +178,8 @@ class Advertises(TargetTest):
 
 class Lives(TargetTest):
     def test_a_host_that_vanishes(self) -> None:
-        """The system asks whether a host is there of which nothing is heard, so that one without a Keep Alive Timeout
-        does not keep its controller: each connection has a timer for that, of at most 30 seconds."""
+        """TCP keepalive: the kernel probes a silent host, so that a dead one without a Keep Alive Timeout does not keep
+        its controller. Each connection has such a timer, of at most 30 seconds."""
         host = self.host(keep_alive=0)
         for queue in (host.admin, *host.queues):
             ends = [f"0100007F:{port:04X}" for port in (self.target.port, queue.socket.getsockname()[1])]
@@ -237,7 +237,7 @@ class Allowed(TargetTest):
         self.host(0xb2)
 
     def test_a_host_that_no_controller_is_of(self) -> None:
-        """A slip would leave the host free that was meant."""
+        """A typo would leave the intended host unrestricted."""
         slip = "1a000000-0000-0000-0000-000000000000"
         words = [PROGRAM, "--listen", "127.0.0.1:0", *self.options, "--allow", f"{slip}=127.0.0.2",
                  str(self.folder / "config.nvme")]

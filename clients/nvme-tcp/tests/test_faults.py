@@ -1,4 +1,4 @@
-"""Files that the system refuses to write: the target ends, and answers nobody whose command they lack."""
+"""Files that can't be written: the target ends, and answers no command that they lack."""
 import resource
 import signal
 import subprocess
@@ -7,7 +7,7 @@ import unittest
 from pathlib import Path
 
 from tests.host import BLOCK, Ended, Host
-from tests.targets import BLOCKS, PROGRAM, TWO_HOSTS
+from tests.targets import BLOCKS, PROGRAM, TWO_HOSTS, expand
 
 # No file may become longer than this, or be written after it.
 LIMIT = 100 * BLOCK
@@ -39,7 +39,7 @@ class Faults(unittest.TestCase):
         return host
 
     def ends(self, what: str) -> None:
-        """The target has ended, and says of what."""
+        """The target ended, with this message."""
         _, errors = self.process.communicate(timeout=10)
         self.assertEqual(self.process.returncode, 2)
         self.assertIn(f'nvmetcp: fault reason="{what}: ', errors)
@@ -63,18 +63,52 @@ class Faults(unittest.TestCase):
 
     def test_a_script(self) -> None:
         host = self.host("--script", str(self.folder / "kept.nvme"))
-        with self.assertRaises(Ended):
-            for _ in range(20):
-                host.write(0, bytes(4096))
+        self.writes(host, 8)
         self.ends("the script")
 
     def test_a_script_that_has_room_ahead(self) -> None:
         """The target has given it back when it has ended."""
         script = self.folder / "kept.nvme"
         host = self.host("--script", str(script), limit=3 << 20)
-        with self.assertRaises(Ended):
-            for _ in range(20):
-                host.write(0, bytes(256 * BLOCK))
+        self.writes(host, 256)
         self.ends("the script")
         self.assertEqual(script.stat().st_size, 3 << 20)
         self.assertLess(512 * script.stat().st_blocks, (3 << 20) + (128 << 10))
+
+    def writes(self, host: Host, blocks: int) -> int:
+        """Writes until the target has ended. How many writes were answered."""
+        answered = 0
+        with self.assertRaises(Ended):
+            for it in range(40):
+                self.assertEqual(host.write(0, bytes([it + 1]) * blocks * BLOCK), 0)
+                answered += 1
+        return answered
+
+    def test_a_recording(self) -> None:
+        """What was answered is in it, and its end is torn."""
+        for limit, blocks in ((LIMIT, 8), (3 << 20, 256)):
+            recording = self.folder / f"kept-{blocks}"
+            host = self.host("--record", str(recording), limit=limit)
+            answered = self.writes(host, blocks)
+            self.ends("the recording")
+            self.assertEqual(recording.stat().st_size, limit)
+            self.assertLess(512 * recording.stat().st_blocks, limit + (128 << 10))
+            ran = expand(recording)
+            self.assertEqual(ran.returncode, 1)
+            self.assertIn(b": torn end: left out the last ", ran.stderr)
+            self.assertEqual(ran.stdout.count(b"\nfetch 1 1\n"), answered)
+            for it in range(1, answered + 1):
+                self.assertIn(b"hex:" + b"%02x" % it * BLOCK, ran.stdout)
+
+    def test_an_expansion(self) -> None:
+        """An output that can't be written."""
+        recording = self.folder / "kept"
+        host = self.host("--record", str(recording))
+        self.assertEqual(host.write(0, bytes(4096)), 0)
+        self.process.terminate()
+        self.process.communicate()
+        for options in ((), ("/dev/full",)):
+            with open("/dev/full", "wb") as full:
+                ran = subprocess.run([PROGRAM, "expand", str(recording), *options], stdout=full, stderr=subprocess.PIPE)
+            self.assertEqual(ran.returncode, 2)
+            self.assertIn(b"No space left on device", ran.stderr)

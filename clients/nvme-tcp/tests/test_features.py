@@ -40,7 +40,7 @@ class Features(TargetTest):
 
     def test_what_is_refused(self) -> None:
         host = self.host()
-        for fid in (0x00, 0x03, 0x06, 0x08, 0x09, 0x0c, 0x0d, 0x0e, 0x10, 0x11, 0x16, 0x17, 0x80, 0x82, 0x83, 0xc0, 0xff):
+        for fid in (0x00, 0x03, 0x06, 0x08, 0x09, 0x0c, 0x0d, 0x0e, 0x10, 0x11, 0x16, 0x17, 0x80, 0x83, 0xc0, 0xff):
             for select in range(4):
                 self.assertEqual(host.get_feature(fid, select).status, INVALID_FIELD, fid)
             self.assertEqual(host.set_feature(fid, 0), INVALID_FIELD, fid)
@@ -104,8 +104,8 @@ class Features(TargetTest):
         host = self.host()
         told = struct.unpack("<256I", host.log_page(0x12, 1024).data)
         known = [fid for fid in range(256) if told[fid]]
-        self.assertEqual(known, [0x01, 0x02, 0x04, 0x05, 0x07, 0x0a, 0x0b, 0x0f, 0x81, 0x84])
-        self.assertEqual([fid for fid in known if told[fid] == 0x100001], [0x05, 0x84], "those of namespaces")
+        self.assertEqual(known, [0x01, 0x02, 0x04, 0x05, 0x07, 0x0a, 0x0b, 0x0f, 0x81, 0x82, 0x84])
+        self.assertEqual([fid for fid in known if told[fid] == 0x100001], [0x05, 0x82, 0x84], "those of namespaces")
         answered = [fid for fid in range(256) if host.get_feature(fid, nsid=1, dw11=fid == 0x81, length=16).status == 0]
         self.assertEqual(answered, known)
 

@@ -1,4 +1,4 @@
-"""PDUs at random: whatever comes, the target lives, takes no more memory, and serves another host."""
+"""Random PDUs: the target survives them, takes no more memory, and serves another host."""
 import json
 import os
 import random
@@ -99,7 +99,7 @@ class Hostile(TargetTest):
         print(f"{sent} mutated PDUs in {time.monotonic() - begun:.0f} s, {carried_out} commands", flush=True)
 
     def one(self, rng: random.Random, units: Seeds, digests: int) -> int:
-        """A connection that sends PDUs at random; how many."""
+        """A connection that sends random PDUs. Returns their number."""
         connection, kind = Connection(self.target.port, opens=False), rng.random()
         sent = [units.opens] if kind < 0.98 else []
         if kind < 0.5:

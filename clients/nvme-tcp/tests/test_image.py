@@ -212,7 +212,7 @@ class Scripts(TargetTest):
 
 
 class Lasts(TargetTest):
-    """`--state`: what persists is there in the next target."""
+    """`--state`: the next target has what persists."""
 
     image = 64
 
@@ -288,7 +288,7 @@ class Lasts(TargetTest):
         self.target.start()
 
     def refused(self, text: str) -> None:
-        """The target does not start, and says why."""
+        """The target does not start, with this message."""
         ran = subprocess.run(self.target.process.args, stdout=subprocess.PIPE, stderr=subprocess.PIPE, text=True,
                              timeout=10)
         self.assertEqual((ran.returncode, ran.stdout), (2, ""))
@@ -310,7 +310,7 @@ class Lasts(TargetTest):
         self.target.start()
 
     def test_a_target_that_was_killed_at_its_first_start(self) -> None:
-        """No host was answered, and the folder does not say that it was used."""
+        """No host was answered, and the folder is not marked as used."""
         self.target.kill()
         head = self.journal.read_bytes()[:-1]
         (self.journal.parent / "identity").unlink()

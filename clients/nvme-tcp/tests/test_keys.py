@@ -1,4 +1,4 @@
-"""The file of keys, and whoever knows all names and no secret."""
+"""The file of keys, and a client that knows all names but no secret."""
 import os
 import signal
 import socket

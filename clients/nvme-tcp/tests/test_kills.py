@@ -1,4 +1,4 @@
-"""Many commands are under way when the target is killed: what was answered is in the image, and in the kept script."""
+"""Many commands are in progress when the target is killed: the image and the kept run have all answered ones."""
 import os
 import random
 import select
@@ -11,7 +11,7 @@ import unittest
 from pathlib import Path
 
 from tests.host import BLOCK, Ended, Host
-from tests.targets import BLOCKS, LIVE, TargetTest
+from tests.targets import BLOCKS, LIVE, TargetTest, expand
 
 # Number of regions that each host writes at a time, and their blocks. They are neighbours, which an image gets
 # together; and their lines are several pieces of a script.
@@ -21,12 +21,14 @@ REGIONS, REGION = 6, 100
 class Kills(TargetTest):
     """What `content` gives is judged after each kill."""
 
+    turns = 8
+
     def content(self) -> bytes:
         raise unittest.SkipTest("the classes below have it")
 
     def test_kills(self) -> None:
         rng = random.Random(8)
-        for turn in range(8):
+        for turn in range(self.turns):
             before = self.content()
             hosts = [Host(self.target.port, 0xa1), Host(self.target.port, 0xb2)]
             # The possible bytes of each position.
@@ -51,6 +53,9 @@ class Kills(TargetTest):
     def judge(self, before: bytes, may: dict) -> None:
         content = self.content()
         self.assertNotEqual(content, before)
+        self.judge_blocks(content, may)
+
+    def judge_blocks(self, content: bytes, may: dict) -> None:
         for place, pieces in may.items():
             for at in range(REGION):
                 found = content[BLOCK * (place + at):BLOCK * (place + at + 1)]
@@ -85,25 +90,68 @@ class Images(Kills):
 
 @unittest.skipUnless(LIVE, "NVMELIVE names no program")
 class Scripts(Kills):
+    option = "--script"
+
     def setUp(self) -> None:
         super().setUp()
-        self.script = self.folder / "kept.nvme"
+        self.kept = self.folder / "kept.run"
         self.target.close()
-        self.target.options = ["--script", str(self.script), "--force"]
+        self.target.options = [self.option, str(self.kept), "--force"]
         self.target.start()
 
     def content(self) -> bytes:
-        """What the script leaves, whose transcript it has to give. A target that was started has blocks of zeros."""
+        """The image after the run, whose transcript must be the kept one. A new target has blocks of zeros."""
         if self.target.process.returncode is None:
             return bytes(BLOCK * BLOCKS)
+        return self.replayed()
+
+    def replayed(self) -> bytes:
         image = self.folder / "again.img"
         image.write_bytes(bytes(BLOCK * BLOCKS))
-        lines = self.script.read_bytes()
-        lines = lines[:lines.rfind(b"\n") + 1]
-        ran = subprocess.run([LIVE, str(image)], input=lines, stdout=subprocess.PIPE, check=True)
+        script, transcript = self.texts()
+        ran = subprocess.run([LIVE, str(image)], input=script, stdout=subprocess.PIPE, check=True)
         _, _, told = ran.stdout.partition(b"started\n")
-        self.assertTrue(told.startswith(Path(f"{self.script}.out").read_bytes()), "it has another transcript")
+        self.assertTrue(told.startswith(transcript), "it has another transcript")
         return image.read_bytes()
+
+    def texts(self) -> tuple:
+        """The whole lines of the script, and the transcript."""
+        lines = self.kept.read_bytes()
+        return lines[:lines.rfind(b"\n") + 1], Path(f"{self.kept}.out").read_bytes()
+
+
+class Recordings(Scripts):
+    option = "--record"
+
+    def texts(self) -> tuple:
+        """Both are expanded, without an end that may be torn."""
+        both = [expand(self.kept), expand(self.kept, "--transcript")]
+        for ran in both:
+            self.assertEqual(ran.returncode, 1 if ran.stderr else 0)
+            if ran.stderr:
+                self.assertRegex(ran.stderr.decode(), "torn end: left out the last [0-9]+ bytes, from byte [0-9]+ on")
+        return tuple(ran.stdout for ran in both)
+
+
+class RecordingsOverImages(Recordings):
+    """What was answered is in the recording and in the image alike."""
+
+    turns = 3
+
+    def setUp(self) -> None:
+        super().setUp()
+        self.target.close()
+        self.target.options += ["--image", str(self.target.image)]
+        self.begin()
+        self.target.start()
+
+    def begin(self) -> None:
+        self.target.image.write_bytes(bytes(BLOCK * BLOCKS))
+
+    def judge(self, before: bytes, may: dict) -> None:
+        super().judge(before, may)
+        self.judge_blocks(self.target.image.read_bytes(), may)
+        self.begin()
 
 
 class Waits(TargetTest):

@@ -1,6 +1,10 @@
-"""Recorded bytes of Linux are replayed: the target answers the same bytes."""
+"""Recorded bytes of Linux are replayed: the target answers the same bytes.
+
+The recorded target did not report reservation notifications. So their events are skipped, and counted.
+"""
 import contextlib
 import socket
+import struct
 import tempfile
 import time
 import unittest
@@ -12,6 +16,9 @@ from linux.record import IDENTITY, events_of, text_of
 from tests.targets import BLOCKS, PROGRAM, TWO_HOSTS, Target, fixed_random, has_keys
 
 DATA = Path(__file__).resolve().parent / "data"
+# A response capsule: its type, and double word 0 for Reservation Log Page Available.
+RESPONSE = 5
+NOTICE = struct.pack("<I", 0x80 << 16 | 6)
 
 
 @unittest.skipUnless(PROGRAM, "NVMETCP names no program")
@@ -25,7 +32,8 @@ class Recorded(unittest.TestCase):
                 target.kill()
                 Path(room, "state/identity").write_text(IDENTITY)
                 target.start()
-                self.play(target.port, path.read_text(encoding="ascii"), stack)
+                notices = self.play(target.port, path.read_text(encoding="ascii"), stack)
+                self.assertEqual(notices, 1, "events of reservation notifications")
 
     @unittest.skipUnless(has_keys(), "the program was built without libcrypto")
     def test_linux_proves_who_it_is(self) -> None:
@@ -44,7 +52,9 @@ class Recorded(unittest.TestCase):
                 target.start()
                 self.play(target.port, path.read_text(encoding="ascii"), stack)
 
-    def play(self, port: int, text: str, stack: contextlib.ExitStack) -> None:
+    def play(self, port: int, text: str, stack: contextlib.ExitStack) -> int:
+        """Plays a recording, and returns the number of events of reservation notifications."""
+        notices = 0
         events = events_of(text)
         self.assertEqual(text_of(events), text)
         connections: Dict[int, socket.socket] = {}
@@ -54,12 +64,20 @@ class Recorded(unittest.TestCase):
             if direction == ">":
                 connections[number].sendall(data)
             elif direction == "<":
-                came = b""
-                while len(came) < len(data):
-                    piece = connections[number].recv(len(data) - len(came))
-                    self.assertTrue(piece, f"event {at}: the target has closed connection {number}")
-                    came += piece
+                came = self.receive(connections[number], len(data))
+                while came[0] == RESPONSE and came[8:12] == NOTICE:
+                    notices += 1
+                    came = self.receive(connections[number], len(data))
                 self.assertEqual(came, data, f"event {at}, connection {number}")
             else:
                 connections[number].close()
                 time.sleep(0.05)
+        return notices
+
+    def receive(self, connection: socket.socket, length: int) -> bytes:
+        came = b""
+        while len(came) < length:
+            piece = connection.recv(length - len(came))
+            self.assertTrue(piece, "the target has closed the connection")
+            came += piece
+        return came

@@ -26,7 +26,7 @@ def seconds_of(process: int) -> float:
 @unittest.skipUnless(PROGRAM, "NVMETCP names no program")
 class Addresses(unittest.TestCase):
     def start(self, *options: str, lines: int = 1, **how) -> list:
-        """Starts a target with these options; the addresses and ports that it says."""
+        """Starts a target with these options. Returns the addresses and ports that it prints."""
         room = tempfile.TemporaryDirectory()
         self.addCleanup(room.cleanup)
         config, self.errors = Path(room.name, "config.nvme"), Path(room.name, "errors")
@@ -74,7 +74,7 @@ class Addresses(unittest.TestCase):
         self.assertEqual(self.discovered(("127.0.0.1", port)), (1, "127.0.0.1", port))
 
     def test_a_network_that_is_not_trusted(self) -> None:
-        """Beyond loopback it does not listen, unless something says which of those that reach it is which host."""
+        """It listens beyond loopback only with an option that binds addresses or keys to hosts."""
         allow = "a1000000-0000-0000-0000-000000000000=127.0.0.1"
         with socket.create_server(("127.0.0.1", 0)) as taken, tempfile.TemporaryDirectory() as room:
             config, port = Path(room, "config.nvme"), taken.getsockname()[1]
@@ -105,7 +105,7 @@ class Addresses(unittest.TestCase):
                 self.assertIn(f"nvmetcp: 127.0.0.1:{place[1]}: ", ran.stderr)
 
     def test_no_descriptors(self) -> None:
-        """It says so once, waits without work, and continues when there are some."""
+        """It logs that once, waits idle, and continues when there are some."""
         place = self.start("--listen", "127.0.0.1:0", preexec_fn=lambda: resource.setrlimit(
             resource.RLIMIT_NOFILE, (DESCRIPTORS, DESCRIPTORS)))[0]
         host = self.host(place)
@@ -182,7 +182,7 @@ class Consoles(TargetTest):
                 pass
 
     def test_all_lines_are_answered(self) -> None:
-        """Someone who asks much at once, and takes his time, gets every answer."""
+        """A client that sends many lines at once, and reads slowly, gets every answer."""
         asking, wanted = self.asking("?blocks 1 0 256", 300), b"blocks 1 0 256 -\n"
         asking.shutdown(socket.SHUT_WR)
         told = b""

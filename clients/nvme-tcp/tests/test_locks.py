@@ -21,7 +21,7 @@ def started(folder: Path, *options: str, port: int = 0) -> subprocess.Popen:
 
 class LocksTest(TargetTest):
     def refused(self, options: Sequence[str], text: str) -> str:
-        """A target with these options does not start, and says why."""
+        """A target with these options does not start, with this message."""
         process = started(self.folder, *options)
         output, errors = process.communicate(timeout=10)
         self.assertEqual((process.returncode, output), (2, ""), errors)
@@ -29,7 +29,7 @@ class LocksTest(TargetTest):
         return errors
 
     def waits(self, options: Sequence[str]) -> subprocess.Popen:
-        """A target with these options and `--wait`, once it has said that it waits."""
+        """A target with these options and `--wait`, after its message that it waits."""
         process = started(self.folder, *options, "--wait")
         self.addCleanup(process.communicate)
         self.addCleanup(process.kill)
@@ -79,7 +79,7 @@ class Image(LocksTest):
 
 
 class Takeover(LocksTest):
-    """What the first target has answered is there in the second, which was started while the first served."""
+    """The second target, which was started while the first served, has all that the first answered."""
 
     # The image takes a while to be read.
     config = "controller 1 host 0xa1\n" + "".join(

@@ -1,4 +1,4 @@
-"""Looking lines: `./nvmetcp ctl` answers them by the text by which `nvmelive` answers them after the kept script."""
+"""Queries: `./nvmetcp ctl` answers them by the text by which `nvmelive` answers them after the kept script."""
 import re
 import struct
 import subprocess

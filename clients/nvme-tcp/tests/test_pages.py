@@ -7,7 +7,7 @@ from tests.targets import BLOCKS, TargetTest
 DNR = 0x4000
 INVALID_FIELD, DATA_TRANSFER, INVALID_PAGE = 0x002 | DNR, 0x004 | DNR, 0x109 | DNR
 # The pages that there are, with their sizes.
-PAGES = {0x00: 1024, 0x01: 4096, 0x02: 512, 0x03: 512, 0x04: 4096, 0x05: 4096, 0x0c: 52, 0x12: 1024}
+PAGES = {0x00: 1024, 0x01: 4096, 0x02: 512, 0x03: 512, 0x04: 4096, 0x05: 4096, 0x0c: 52, 0x12: 1024, 0x80: 64}
 
 
 class Pages(TargetTest):
@@ -104,7 +104,7 @@ class Pages(TargetTest):
         self.assertEqual(told[260], 3, "one slot, which is read-only")
 
     def test_effects(self) -> None:
-        """A command is supported where it is not answered Invalid Command Opcode."""
+        """A command is supported if it is not answered Invalid Command Opcode."""
         host = self.host()
         effects = struct.unpack("<1024I", host.log_page(0x05, 4096).data)
         for opcode in range(256):

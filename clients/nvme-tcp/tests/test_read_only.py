@@ -35,7 +35,7 @@ class ReadOnly(TargetTest):
         super().setUp()
 
     def is_protected(self, host: Host, nsid: int = 1) -> None:
-        """What says that a namespace is write protected does, and its blocks are as they were."""
+        """Identify and Get Features report the write protection, and the blocks are unchanged."""
         slba = 3
         data = CONTENT[BLOCK * slba:BLOCK * (slba + 2)] if nsid == 1 else bytes(2 * BLOCK)
         self.assertEqual(host.read(slba, 2, nsid).data, data)
@@ -100,7 +100,7 @@ class WithoutPermission(ReadOnly):
     words = []
     mode = 0o444
 
-    def test_it_is_told(self) -> None:
+    def test_it_is_reported(self) -> None:
         self.assertIn("can't be written: it is served read-only", (self.folder / "errors").read_text())
 
 

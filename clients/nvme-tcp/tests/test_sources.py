@@ -1,4 +1,4 @@
-"""The sources: what is unsafe is in three short files, numbers of the standard in one, and the crate's tests pass."""
+"""The sources: what is unsafe is in four short files, numbers of the standard in one, and the crate's tests pass."""
 import os
 import re
 import shutil
@@ -9,8 +9,8 @@ from pathlib import Path
 from tests.targets import has_keys
 
 HERE = Path(__file__).resolve().parent.parent
-# The calls of libcrypto, of the system, and the library's.
-UNSAFE = [HERE / "src/libcrypto.rs", HERE / "src/system.rs", HERE.parent / "rust/src/raw.rs"]
+# The calls of libcrypto, the instruction of the processor, the system calls, and the calls of the library.
+UNSAFE = [HERE / "src/libcrypto.rs", HERE / "src/processor.rs", HERE / "src/system.rs", HERE.parent / "rust/src/raw.rs"]
 MOST_LINES = 219
 
 

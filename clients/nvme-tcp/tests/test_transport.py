@@ -37,7 +37,7 @@ class Opening(TargetTest):
             unit[at] = value
             self.assertEqual(self.ends(bytes(unit)), status, (at, value))
 
-    def test_nothing_before_it_and_none_behind_it(self) -> None:
+    def test_nothing_before_it_and_none_after_it(self) -> None:
         self.assertEqual(self.ends(struct.pack("<BBBBI", CAPSULE, 0, 72, 0, 72) + bytes(64)), SEQUENCE)
         connection = Connection(self.target.port)
         connection.socket.sendall(ic_request())

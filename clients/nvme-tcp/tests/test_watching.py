@@ -49,7 +49,7 @@ class Metrics(TargetTest):
         return samples_of(self.target.ask("metrics"))
 
     def test_prometheus_reads_them(self) -> None:
-        """By the parser of Debian's python3-prometheus-client, where that is installed."""
+        """By the parser of Debian's python3-prometheus-client, if that is installed."""
         try:
             from prometheus_client.parser import text_string_to_metric_families
         except ImportError:
@@ -195,7 +195,7 @@ class Logs(LogTest):
         queue.close()
 
     def test_a_name_that_a_host_makes_up(self) -> None:
-        """What a host says can't break a line."""
+        """Names from hosts can't break a log line."""
         queue = Queue(self.target.port)
         self.addCleanup(queue.close)
         name = 'nqn" \\\n\x1b[31m reason=none \u20ac'

@@ -12,7 +12,7 @@ TOP = Path(__file__).resolve().parent.parent.parent.parent
 
 class Wrapper(unittest.TestCase):
     def run_with(self, *tools: str) -> tuple:
-        """The status and the message of ./nvmetcp where there are these tools alone, and how long it has taken."""
+        """The status and the message of ./nvmetcp if there are these tools alone, and how long it has taken."""
         with tempfile.TemporaryDirectory() as room:
             for tool in ("bash", "dirname", "realpath", *tools):
                 os.symlink(shutil.which(tool), Path(room, tool))

@@ -5,7 +5,7 @@ Run it where the package is installed, or with `clients/python` on PYTHONPATH:
     python3 -m unittest failover_test          in this folder
     pytest failover_test.py                    the same
 
-The cluster below is small, and what it does on the disk is what real ones do: each node registers a key of its own, the
+The cluster below is small, but uses the disk as real ones do: each node registers its own key, the
 active one holds the namespace as Write Exclusive, Registrants Only, and a takeover preempts the other's key.
 """
 from __future__ import annotations
@@ -26,7 +26,7 @@ class Node:
         self.key = host.host
 
     def join(self) -> None:
-        """Registers its key, which outlasts a loss of power."""
+        """Registers its key, which persists through a loss of power."""
         self.host.up()
         self.host.register(self.disk, new_key=self.key, persist=Persistence.SET)
 
@@ -35,7 +35,8 @@ class Node:
         self.host.acquire(self.disk, RTYPE, self.key)
 
     def take_over(self, other: Node) -> None:
-        """Fences another node off, aborts what its controller has not executed, and becomes the active node."""
+        """Fences another node, aborts the commands that its controller has not executed, and becomes the active
+        node."""
         self.host.acquire(self.disk, RTYPE, self.key, other.key, AcquireAction.PREEMPT_AND_ABORT)
 
     def log(self, entry: bytes) -> None:
@@ -63,7 +64,7 @@ class FailoverTest(unittest.TestCase):
         self.one.log(b"one: 1")
 
     def test_a_write_under_way_does_not_reach_the_disk(self) -> None:
-        """The first node stops after its controller has fetched a write, before that is executed."""
+        """The first node stops after its controller fetches a write and before it executes it."""
         late = self.one.host.place_write(self.disk, JOURNAL, b"one: 2, too late")
         self.one.host.ring()
         self.one.host.controller.fetch()

@@ -1,13 +1,13 @@
 #!/usr/bin/env python3
-"""A cluster whose agents fence with reservations: what it does, and the lines that it sent.
+"""A cluster whose agents fence with reservations.
 
     python3 fencing.py [--nodes 2|3] [--careful] [--kept FILE [--force]]
 
 All nodes are registered on the disk, which is reserved as Write Exclusive - Registrants Only. Node 1 hangs, with a
-Write under way. The agents that are left have a quorum: one of them fences node 1 by a Preempt and Abort, and writes
-the block itself. Then node 1 comes back, and rejoins.
+Write in progress. The agents that are left have a quorum: one of them fences node 1 by a Preempt and Abort, and writes
+the block itself. Then node 1 rejoins.
 
-`--kept FILE` gets the session's lines, for `python3 -m nvmesim scene`. All looks right here, whether agents are careful
+`--kept FILE` writes the session's lines for `python3 -m nvmesim scene`. This run looks right whether agents are careful
 or not. `python3 -m nvmesim explore` finds the order in which a careless node's old Write lands after the fence.
 """
 from __future__ import annotations
@@ -52,7 +52,7 @@ class Agent:
 
     @property
     def has_quorum(self) -> bool:
-        """Whether it sees more than half of the nodes. Of two, whoever preempts first continues."""
+        """Whether it sees more than half of the nodes. Of two nodes, the one that preempts first continues."""
         return 2 * len(self.sees) > self.nodes or self.nodes == 2
 
     @property
@@ -61,13 +61,13 @@ class Agent:
         return self.host.number == min(self.sees)
 
     def fence(self, other: Agent) -> None:
-        """Takes another node's registration, and has what its controller fetched aborted."""
+        """Removes another node's registration, and aborts the commands that its controller fetched."""
         if not self.has_quorum:
             raise NoQuorum(f"node {self.host.number} sees {len(self.sees)} of {self.nodes}")
         self.host.acquire(self.disk, TYPE, self.key, other.key, AcquireAction.PREEMPT_AND_ABORT)
 
     def rejoin(self) -> None:
-        """Registers again. A careful agent first resets its controller: then no old command is left there."""
+        """Registers again. A careful agent first resets its controller, which discards its old commands."""
         if self.is_careful:
             self.host.reset()
             self.host.up()
@@ -81,7 +81,7 @@ class Agent:
 
 
 def story(subsystem: Subsystem, nodes: int, is_careful: bool) -> List[str]:
-    """What the cluster does; what came of it, in a line each."""
+    """Runs the cluster, and returns one line for each result."""
     hosts = [subsystem.controller(host=0xa1 + 0x11 * n) for n in range(nodes)]
     disk = subsystem.namespace(blocks=64)
     for host in hosts:

@@ -3,8 +3,8 @@
 
     NVMESIM_LIBRARY=~/nvmesim/lib/libnvmesim.so python3 two_hosts.py
 
-It has the library in its own process (`scripts/library FOLDER` builds it), so its hosts have no drivers: it makes the
-submission queue entries itself. Each `submit` is a command from its entry to its completion.
+It loads the library (`scripts/library FOLDER` builds it), whose hosts have no drivers, so it makes submission queue
+entries itself. Each `submit` runs a command from its entry to its completion.
 """
 from __future__ import annotations
 

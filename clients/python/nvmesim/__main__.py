@@ -1,4 +1,4 @@
-"""The command line: `python3 -m nvmesim` with a command such as `explain`; `--help` of each says the rest."""
+"""The command line: `python3 -m nvmesim` with a command such as `explain`; each has `--help`."""
 from __future__ import annotations
 
 import argparse
@@ -19,7 +19,7 @@ from .files import Output, add_force
 from .process import VARIABLE
 from .reading import read_with
 from .scene import MOST, scene
-from .script import configuration_of, read_lines
+from .script import configuration_of, is_any_size, read_lines
 from .session import SECONDS, Session
 from .shell import command as terminal
 from .texts import text_of
@@ -31,8 +31,8 @@ _OF_WRITES = (errno.ENOSPC, errno.EDQUOT, errno.EFBIG, errno.EIO, errno.EBADF)
 
 
 def main(given: Optional[Sequence[str]] = None) -> int:
-    """Executes a command; its exit status: 0, or 1 if a check fails, 2 if it can't be executed, 130 if Ctrl-C
-    ended it."""
+    """Executes a command. Returns its exit status: 0, 1 if a check fails, 2 if it can't be executed, 130 after
+    Ctrl-C."""
     words = _parser().parse_args(given)
     read_with(words.program)
     carry_out: Callable[[argparse.Namespace], int] = words.command
@@ -57,7 +57,7 @@ def main(given: Optional[Sequence[str]] = None) -> int:
 
 
 def _leave_output() -> None:
-    """Nothing more is written to standard output: the end of Python would try again."""
+    """Stops writing to standard output, which Python would otherwise flush again when it ends."""
     with suppress(OSError, ValueError):
         os.dup2(os.open(os.devnull, os.O_WRONLY), sys.stdout.fileno())
 
@@ -71,14 +71,14 @@ def _sentence(fault: OSError) -> str:
 
 
 class _Parser(argparse.ArgumentParser):
-    """A parser that says in one line what is wrong."""
+    """A parser that reports an error in one line."""
 
     def error(self, message: str) -> NoReturn:
-        self.exit(_FAULT, f"nvmesim: {message}; --help says what there is\n")
+        self.exit(_FAULT, f"nvmesim: {message}; see --help\n")
 
 
 def _parser() -> argparse.ArgumentParser:
-    """What the command line may have."""
+    """The parser of the command line."""
     parser = _Parser(prog="python3 -m nvmesim", description="Scripts of the proved NVMe subsystem: "
                                      "what their lines mean, pictures of them, every order of their events, and "
                                      "scripts as tests.")
@@ -156,7 +156,7 @@ def _explain(words: argparse.Namespace) -> int:
 
 
 def _columns() -> int:
-    """The columns of the terminal, or 120."""
+    """The number of columns of the terminal, or 120."""
     try:
         return os.get_terminal_size(sys.stdout.fileno()).columns
     except (OSError, ValueError):
@@ -176,7 +176,7 @@ def _timeline(words: argparse.Namespace) -> int:
     else:
         blocks = configuration_of(read_lines(script)).blocks
         with Medium(words.image, blocks) as medium, medium.of_a_run() as image:
-            with Session(image, words.program, words.seconds) as session:
+            with Session(image, words.program, words.seconds, is_any_size(script)) as session:
                 transcript, told = watched(session, script)
     if form == "png":
         _write(output, png(script, transcript, title, told))
@@ -192,7 +192,7 @@ def _scene(words: argparse.Namespace) -> int:
 
 
 def _output(words: argparse.Namespace, *inputs: Optional[str]) -> Optional[Output]:
-    """The file of `-o`; None for standard output."""
+    """The output file that `-o` names; None for standard output."""
     return None if words.output is None else Output(words.output, inputs, words.force)
 
 

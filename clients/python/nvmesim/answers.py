@@ -1,4 +1,4 @@
-"""The answers of events, taken apart: each line of a transcript is one dataclass, and no other line is an answer."""
+"""Parsed answers of events: a dataclass for each line that a transcript can have."""
 from __future__ import annotations
 
 import re
@@ -69,8 +69,8 @@ class Executed:
 class Polled:
     """`poll C ..`: what the driver delivered.
 
-    `value` is double word 0 of the answer; `data` are the bytes that came with a Read, a report or an Identify, whole,
-    with the zeros that the transcript leaves out.
+    `value` is double word 0 of the answer; `data` are all bytes that a Read, a report or an Identify returned,
+    including the zeros that the transcript leaves out.
     """
 
     controller: int
@@ -131,7 +131,7 @@ def number_in(word: str) -> int:
 
 
 def data_in(length: str, digits: str) -> bytes:
-    """Bytes as answers spell them: their number, and hexadecimal digits without the zero bytes at the end, or `-`."""
+    """Bytes in the form of answers: their number, then hexadecimal digits without trailing zero bytes, or `-`."""
     size = number_in(length)
     if digits != "-" and not _HEX.match(digits):
         raise ProtocolError(f"hexadecimal digits were expected, not {digits!r}")
@@ -254,10 +254,10 @@ _FORMS: Dict[str, Callable[[List[str]], Answer]] = {
 
 
 def parse_answer(text: str) -> Answer:
-    """The answer that a line of a transcript is, without its line feed.
+    """Parses a line of a transcript, without its line feed.
 
     Raises:
-        ProtocolError: no event is answered so.
+        ProtocolError: no event has this answer.
     """
     words = text.split(" ")
     form = _FORMS.get(words[0])

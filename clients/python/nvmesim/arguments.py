@@ -1,4 +1,4 @@
-"""Checks of arguments: one that no line can express is refused by name, with what is expected."""
+"""Checks of arguments: one that no line can express is refused by its name, with the expected range."""
 from __future__ import annotations
 
 import operator
@@ -14,7 +14,7 @@ def whole(name: str, value: Any, bits: int, least: int = 0) -> int:
     """A whole number of at most `bits` bits.
 
     Raises:
-        ArgumentError: it is none, or out of this range.
+        ArgumentError: it isn't a whole number, or is out of range.
     """
     try:
         number = operator.index(value)
@@ -22,32 +22,32 @@ def whole(name: str, value: Any, bits: int, least: int = 0) -> int:
         number = -1
     if isinstance(value, bool) or not least <= number < 2**bits:
         most = str(2**bits - 1) if bits <= 32 else f"2^{bits} - 1"
-        raise ArgumentError(f"{name} is a whole number from {least} to {most}, and not {shown(value)}")
+        raise ArgumentError(f"{name} is a whole number from {least} to {most}, not {shown(value)}")
     return number
 
 
 def flag(name: str, value: Any) -> bool:
     """True or false, also by 1 or 0. Raises `ArgumentError` for anything else."""
     if value not in (True, False) or not isinstance(value, int):
-        raise ArgumentError(f"{name} is True or False, and not {shown(value)}")
+        raise ArgumentError(f"{name} is True or False, not {shown(value)}")
     return bool(value)
 
 
 def some_bytes(name: str, value: Any) -> bytes:
-    """Bytes, one at least. Raises `ArgumentError` for anything else."""
+    """At least one byte. Raises `ArgumentError` for anything else."""
     try:
         data = bytes(memoryview(value))
     except TypeError:
-        raise ArgumentError(f"{name} is bytes, and not {shown(value)}") from None
+        raise ArgumentError(f"{name} is bytes, not {shown(value)}") from None
     if not data:
-        raise ArgumentError(f"{name} has one byte at least, and these are none")
+        raise ArgumentError(f"{name} must have at least one byte")
     return data
 
 
 def a_text(name: str, value: Any) -> str:
     """A text of one line or several. Raises `ArgumentError` for anything else."""
     if not isinstance(value, str):
-        raise ArgumentError(f"{name} is a text, and not {shown(value)}")
+        raise ArgumentError(f"{name} is a text, not {shown(value)}")
     return value
 
 
@@ -68,20 +68,20 @@ def a_path(name: str, value: Any) -> str:
     try:
         path: str = os.fsdecode(value)
     except TypeError:
-        raise ArgumentError(f"{name} is the name of a file, and not {shown(value)}") from None
+        raise ArgumentError(f"{name} is the name of a file, not {shown(value)}") from None
     if not path or "\0" in path:
-        raise ArgumentError(f"{name} is the name of a file, and not {shown(value)}")
+        raise ArgumentError(f"{name} is the name of a file, not {shown(value)}")
     return path
 
 
 def seconds_of(value: Any) -> float:
-    """A time limit in seconds. Raises `ArgumentError` unless it is greater than 0 and a year at most."""
+    """A time limit in seconds. Raises `ArgumentError` unless it is greater than 0 and at most a year."""
     if isinstance(value, bool) or not isinstance(value, (int, float)) or not 0 < value < 366 * 86400:
-        raise ArgumentError(f"seconds is a number greater than 0, and not {shown(value)}")
+        raise ArgumentError(f"seconds is a number greater than 0, not {shown(value)}")
     return value
 
 
 def shown(value: Any) -> str:
-    """A value as a message has it: not more than a few dozen characters of it."""
+    """A value for a message, cut to a few dozen characters."""
     text = repr(value)
     return text if len(text) <= _MOST_SHOWN else f"{text[:_MOST_SHOWN - 2]}.."

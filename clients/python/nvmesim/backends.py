@@ -1,4 +1,4 @@
-"""A subsystem over the library instead of the program, with the same names."""
+"""A subsystem over the library instead of the program, with the same interface."""
 from __future__ import annotations
 
 from typing import Callable, List, Tuple
@@ -19,7 +19,7 @@ _Opened = Callable[[], library.Open]
 
 
 class LibraryController:
-    """The subsystem's side of a controller. Nothing is fetched or executed by itself."""
+    """The subsystem's side of a controller. It fetches and executes only when called."""
 
     def __init__(self, opened: _Opened, number: int) -> None:
         self._opened = opened
@@ -51,7 +51,7 @@ class LibraryController:
 
 
 class LibraryHost:
-    """A host without a driver, as `RawHost` is over the program.
+    """A host without a driver, like `RawHost` over the program.
 
     Attributes:
         host: its identifier.
@@ -77,8 +77,8 @@ class LibraryHost:
         return self._opened().write32(self.number, offset, value)
 
     def submit(self, queue: int, entry: Bytes) -> library.Submitted:
-        """One command from its submission queue entry to its completion, with no other event between: store at the
-        tail of the queue, doorbell, fetch, execute, completion, doorbell. Raises `NotDone`, with no effect, if
+        """Runs one command from its submission queue entry to its completion, with no other event in between: store at
+        the tail of the queue, doorbell, fetch, execute, completion, doorbell. Raises `NotDone`, with no effect, if
         something waits there."""
         return self._opened().submit(self.number, queue, some_bytes("entry", entry))
 
@@ -94,8 +94,8 @@ class LibraryHost:
 class LibrarySubsystem:
     """A subsystem of the library: raw hosts, over 1,024 blocks of zeros. Use it in a `with`, or close it.
 
-    First describe it: `raw_controller`, `namespace`, `attach`. After `start` its hosts can act. It has no script and no
-    transcript, and its hosts have no drivers: only the program has these.
+    First describe it: `raw_controller`, `namespace`, `attach`. After `start` its hosts can act. Unlike the program it
+    has no script, no transcript and no drivers.
 
     Attributes:
         hosts: its hosts, in the order of their controllers.
@@ -149,11 +149,11 @@ class LibrarySubsystem:
         self._open.append(library.Open(hosts, namespaces, self._attached, bytes(BLOCKS * BLOCK_BYTES)))
 
     def power_cycle(self) -> PowerCycled:
-        """Takes power from the whole subsystem, and returns it."""
+        """Power-cycles the whole subsystem."""
         return self._opened().power_cycle()
 
     def blocks(self, namespace: NamespaceLike, slba: int, count: int = 1) -> bytes:
-        """Blocks as the medium has them, 512 bytes each. Changes nothing."""
+        """Reads blocks of the medium, 512 bytes each. Changes nothing."""
         return self._opened().blocks(nsid_of(namespace), slba, count)
 
     def reservation(self, namespace: NamespaceLike) -> ReservationState:

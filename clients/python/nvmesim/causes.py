@@ -1,7 +1,7 @@
-"""Why a command was denied by rule 6 or 11: which field has which value, and what it met.
+"""Why a command was denied by rule 6 or 11: the field, its value, and the state that it conflicts with.
 
-The program says that a command is denied, by which rule and with which status. These rows say what for: the first that
-holds, and has that status. A denied command changes nothing, so that what it met can be looked at after it.
+The program reports the rule and the status of a denied command. The rows below find the cause: the first row that holds
+and has that status. A denied command changes nothing, so the state can be queried after it.
 """
 from __future__ import annotations
 
@@ -18,7 +18,7 @@ from .raw import Entry
 from .script import Configuration
 
 Look = Callable[[str], str]
-"""Gives the answer of a looking line; raises `NvmesimError` where there is none."""
+"""Returns the answer of a query; raises `NvmesimError` if there is none."""
 Row = Tuple[Status, str]
 
 _FIELD, _SEQUENCE = Status.INVALID_FIELD_IN_COMMAND, Status.COMMAND_SEQUENCE_ERROR
@@ -31,7 +31,7 @@ _FEATURES = {"set": "neither 07h nor 84h", "get": "none of 07h, 81h and 84h"}
 
 @dataclass
 class _Asked:
-    """A denied command: what it asks, by the words of lines, and its fields by the standard's names."""
+    """A denied command: its request in the words of a script, and its fields by the standard's names."""
 
     verb: str
     host: int
@@ -46,12 +46,12 @@ class _Asked:
 
 
 def cause_of(command: Command, configuration: Configuration, look: Look) -> str:
-    """Why a command was denied by rule 6 or 11; an empty text where that can't be said.
+    """Why a command was denied by rule 6 or 11; an empty string if the cause is unknown.
 
     Args:
-        command: a command that was executed last.
-        configuration: what the script says before `start`.
-        look: how to look at the subsystem as the command left it.
+        command: the command that was executed last.
+        configuration: the script's lines before `start`.
+        look: queries the subsystem after the command.
     """
     if command.rule not in (Rule.FIELD, Rule.ACTION) or command.status is None:
         return ""
@@ -66,7 +66,7 @@ def cause_of(command: Command, configuration: Configuration, look: Look) -> str:
 
 
 def event_cause(event: Event, configuration: Configuration, look: Look) -> str:
-    """The same of an event that happened last; an empty text where it denied no command by these rules."""
+    """Why the last event denied a command; an empty string if it denied none by these rules."""
     if isinstance(event.answer, Executed) and event.command is not None:
         return cause_of(event.command, configuration, look)
     return ""
@@ -119,7 +119,7 @@ def _asked_raw(command: Command, entry: Entry, host: int, look: Look) -> Optiona
 
 
 def _read_data(asked: _Asked) -> None:
-    """The keys, or the list of controllers, that are in the window of a raw host."""
+    """The keys, or the list of controllers, in the window of a raw host."""
     place = asked["PRP1"]
     if asked.verb == "attachment":
         asked.verb = "detach" if asked["SEL"] else "attach"
@@ -152,12 +152,12 @@ def _field_rows(asked: _Asked) -> Iterator[Row]:
 
 def _range_rows(asked: _Asked) -> Iterator[Row]:
     if asked["NLB"] > 255:
-        yield _FIELD, f"NLB is {asked['NLB']}, {asked['NLB'] + 1} blocks, and 256 are the most"
+        yield _FIELD, f"NLB is {asked['NLB']}, {asked['NLB'] + 1} blocks; at most 256 are allowed"
 
 
 def _above(asked: _Asked, name: str, called: str, most: int) -> Iterator[Row]:
     if asked[name] > most:
-        yield _FIELD, f"{called} is {asked[name]}, and {most} is the most"
+        yield _FIELD, f"{called} is {asked[name]}; at most {most} is allowed"
 
 
 def _register_fields(asked: _Asked) -> Iterator[Row]:
@@ -188,7 +188,7 @@ def _report_fields(asked: _Asked) -> Iterator[Row]:
         yield Status.HOST_IDENTIFIER_INCONSISTENT_FORMAT, "EDS is 0, and hosts have identifiers of 128 bits"
     size = 4 * (asked["NUMD"] + 1)
     if size > _MOST_BYTES:
-        yield _FIELD, f"NUMD is {_h(asked['NUMD'])}, {size:,} bytes, and {_MOST_BYTES:,} are the most"
+        yield _FIELD, f"NUMD is {_h(asked['NUMD'])}, {size:,} bytes; at most {_MOST_BYTES:,} are allowed"
 
 
 def _identify_fields(asked: _Asked) -> Iterator[Row]:
@@ -227,7 +227,7 @@ def _get_fields(asked: _Asked) -> Iterator[Row]:
 def _attachment_fields(asked: _Asked) -> Iterator[Row]:
     if "SEL" in asked.fields:
         yield from _above(asked, "SEL", "SEL", 1)
-    yield _FIELD, f"NSID is {asked.nsid}, and no such namespace is configured"
+    yield _FIELD, f"NSID is {asked.nsid}, and that namespace is not configured"
 
 
 def _queues(asked: _Asked) -> List[looks.Queue]:
@@ -360,7 +360,7 @@ def _list_rows(asked: _Asked) -> Iterator[Row]:
             words = f"controller {number} is attached to namespace {asked.nsid} already"
             yield Status.NAMESPACE_ALREADY_ATTACHED, words
         elif not shared.get(asked.nsid, True) and holders:
-            yield Status.NAMESPACE_IS_PRIVATE, f"namespace {asked.nsid} is private, and controller {holders[0]} has it"
+            yield Status.NAMESPACE_IS_PRIVATE, f"namespace {asked.nsid} is private, but controller {holders[0]} has it"
         holders = [*holders, number]
 
 

@@ -1,7 +1,7 @@
 """The commands that an installation puts on the path: `nvmesim-explain`, `-explore`, `-scene`, `-test` and
 `-timeline`.
 
-There is no command `nvmesim`: that is the program, and one that pip installs over it would hide it.
+There is no command `nvmesim`, since it would hide the program of that name.
 """
 from __future__ import annotations
 

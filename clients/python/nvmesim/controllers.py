@@ -15,14 +15,14 @@ _A = TypeVar("_A")
 
 
 def answer_of(event: Event, kind: Type[_A]) -> _A:
-    """The answer of an event, where it is of this kind. Raises `NotDone` otherwise."""
+    """The answer of an event, if it has this type. Raises `NotDone` otherwise."""
     if not isinstance(event.answer, kind):
         raise NotDone(f"{event.line.text!r} was answered {event.text!r}")
     return event.answer
 
 
 class Numbered(Protocol):
-    """What has the number of a controller: a controller, a host with a driver, or a raw host."""
+    """An object with a controller's number: a controller, a host with a driver, or a raw host."""
 
     @property
     def number(self) -> int:
@@ -50,7 +50,7 @@ def numbers_of(controllers: ControllersLike) -> List[int]:
 
 
 class Controller:
-    """The subsystem's side of a controller. Nothing is fetched or executed by itself."""
+    """The subsystem's side of a controller. It fetches and executes only when called."""
 
     def __init__(self, session: Session, number: int) -> None:
         self._session = session
@@ -82,7 +82,7 @@ class Controller:
         return looks.registers(self._session.look(f"?registers {self.number}"), self.number)
 
     def window(self, address: int, length: int) -> bytes:
-        """Bytes of the host memory that it shares with its host, at most 131,072. Changes nothing."""
+        """At most 131,072 bytes of the host memory that it shares with its host. Changes nothing."""
         begin, size = whole("address", address, 64), whole("length", length, 32)
         return looks.window(self._session.look(f"?window {self.number} {begin} {size}"), self.number, begin, size)
 
@@ -114,7 +114,7 @@ class RawHost:
         return answer_of(self._session.event(lines.write32(self.number, offset, value)), Wrote32)
 
     def window(self, address: int, length: int) -> bytes:
-        """Bytes of its window, at most 131,072. Changes nothing."""
+        """At most 131,072 bytes of its window. Changes nothing."""
         return self.controller.window(address, length)
 
     def register(self, offset: int) -> int:

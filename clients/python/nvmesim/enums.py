@@ -141,7 +141,8 @@ class ReleaseAction(enum.IntEnum):
 
 
 class Persistence(enum.IntEnum):
-    """CPTPL of a Reservation Register: what becomes of whether registrants and reservation outlast a loss of power."""
+    """CPTPL of a Reservation Register: whether registrants and reservation persist through a loss of power from now
+    on."""
 
     KEEP = 0
     CLEAR = 2
@@ -214,15 +215,15 @@ class Refusal(enum.Enum):
 
 _REFUSAL_WORDS = {
     Refusal.NOT_READY: "the driver is not up",
-    Refusal.BAD_REQUEST: "no command can say this",
+    Refusal.BAD_REQUEST: "no command can express this",
     Refusal.NO_SLOT: "24 requests wait for their answers",
-    Refusal.RING_FULL: "seven commands of the lane are not known to be fetched",
+    Refusal.RING_FULL: "the queue holds seven commands that may not be fetched yet",
     Refusal.TICKETS_EXHAUSTED: "all tickets were given",
 }
 
 
 class UpOutcome(enum.Enum):
-    """What came of bringing a driver up."""
+    """The result of bringing a driver up."""
 
     OK = "ok"
     ALREADY_UP = "AlreadyUp"
@@ -232,7 +233,7 @@ class UpOutcome(enum.Enum):
 
 
 class ExecuteOutcome(enum.Enum):
-    """What came of an execution: a completion, nothing at that place, or no room for a completion."""
+    """The result of an execution: a completion, no command at that place, or no free slot for a completion."""
 
     POSTED = "posted"
     NONE = "none"

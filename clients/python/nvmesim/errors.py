@@ -1,4 +1,4 @@
-"""What goes wrong between a client and the subsystem, one class a cause."""
+"""Errors between a client and the subsystem, a class for each cause."""
 from __future__ import annotations
 
 from typing import Any, Dict, Optional, Tuple, Type
@@ -11,33 +11,33 @@ _IN_USE = "' is in use: "
 
 
 class NvmesimError(Exception):
-    """The base of every exception of this package. It can be pickled, so that it comes from a worker of a cluster."""
+    """The base of every exception of this package. It can be pickled, so a worker of a cluster can raise it."""
 
     def __reduce__(self) -> Tuple[Any, ...]:
         return _as_it_was, (type(self), self.args, self.__dict__)
 
 
 def _as_it_was(kind: Type[NvmesimError], words: Tuple[Any, ...], attributes: Dict[str, Any]) -> NvmesimError:
-    """An exception without a call of its class, which takes other arguments than the words that it has."""
+    """Makes an exception without its constructor, whose arguments differ from those that pickle stores."""
     made = kind.__new__(kind, *words)
     made.__dict__.update(attributes)
     return made
 
 
 class ArgumentError(NvmesimError, ValueError):
-    """A call was given what it can't take: a number that is too large, data of no bytes, a text for a number."""
+    """A call has a bad argument: a number that is too large, empty data, a text for a number."""
 
 
 class ProtocolError(NvmesimError):
-    """An answer that isn't understood, or that answers another line than the one that was sent."""
+    """An answer that can't be parsed, or that answers another line."""
 
 
 class LineError(NvmesimError):
-    """The program did not take a line: it is outside the grammar, or names something that isn't there.
+    """The program refused a line: it is outside the grammar, or names something that does not exist.
 
     Attributes:
         line: the line as it was sent.
-        why: the program's own words.
+        why: the program's message.
     """
 
     def __init__(self, line: str, why: str) -> None:
@@ -47,11 +47,11 @@ class LineError(NvmesimError):
 
 
 class SessionError(NvmesimError):
-    """The program can't be talked to any more.
+    """The session with the program is broken.
 
     Attributes:
-        line: the last line that was sent, or an empty text.
-        told: what was on the program's standard error.
+        line: the last line that was sent, or an empty string.
+        told: the program's standard error.
     """
 
     def __init__(self, what: str, line: str = "", told: str = "") -> None:
@@ -65,27 +65,27 @@ class SessionError(NvmesimError):
 
 
 class ProgramNotFound(NvmesimError):
-    """There is no program to talk to."""
+    """The program was not found."""
 
 
 class ProgramDied(SessionError):
-    """The program ended before it had answered.
+    """The program ended before it answered.
 
     Attributes:
-        status: its exit status, negative for a signal; None where it closed its output and still runs.
+        status: its exit status, negative for a signal; None if it closed its output and still runs.
     """
 
     def __init__(self, status: Optional[int], line: str, told: str) -> None:
         how = "closed its output" if status is None else f"ended with status {status}"
-        super().__init__(f"the program {how} before it had answered", line, told)
+        super().__init__(f"the program {how} before it answered", line, told)
         self.status = status
 
 
 class ImageInUse(ProgramDied):
-    """The program did not start, since another one has its image: two that write one image lose blocks.
+    """The program did not start, since another one uses its image. Two programs that write one image lose blocks.
 
     Attributes:
-        why: the program's own words, with who has the image.
+        why: the program's message, which names the process with the image.
     """
 
     def __init__(self, status: Optional[int], line: str, told: str) -> None:
@@ -95,7 +95,7 @@ class ImageInUse(ProgramDied):
 
 
 def death_of(status: Optional[int], line: str, told: str) -> ProgramDied:
-    """Why a program ended before it had answered, by its exit status and what it said on standard error."""
+    """The error for a program that ended before it answered, by its exit status and its standard error."""
     is_in_use = status == _REFUSED and told.strip() and _IN_USE in told.strip().splitlines()[-1]
     return (ImageInUse if is_in_use else ProgramDied)(status, line, told)
 
@@ -113,14 +113,14 @@ class ProgramHangs(SessionError):
 
 
 class SessionClosed(NvmesimError):
-    """A line for a session that was closed."""
+    """The session was closed."""
 
 
 class ConfigurationRefused(NvmesimError):
-    """`start` found a fault in what was described before it.
+    """`start` found a fault in the configuration.
 
     Attributes:
-        why: the program's own words.
+        why: the program's message.
     """
 
     def __init__(self, why: str) -> None:
@@ -148,9 +148,9 @@ class NvmeError(NvmesimError):
     Attributes:
         line: the request's line.
         status: the status, with its code and its standard name.
-        rule: the rule that denied the command; `Rule.NONE` where it was allowed and then failed.
-        cause: which field has which value, and what it met, where rule 6 or 11 denied the command and the call of this
-            request executed it; else an empty text.
+        rule: the rule that denied the command; `Rule.NONE` if it was allowed and then failed.
+        cause: the field, its value and the state that it conflicts with, if rule 6 or 11 denied the command and the
+        call of this request executed it; else an empty string.
     """
 
     def __init__(self, line: str, status: Status, rule: Rule, cause: str = "") -> None:
@@ -167,19 +167,19 @@ class NvmeError(NvmesimError):
 
 
 class RequestAborted(NvmesimError):
-    """A reset or a power cycle met a request before its answer was delivered. It may have been executed or not.
+    """A reset or a power cycle aborted a request before its answer was delivered. It may have been executed or not.
 
     Attributes:
         line: the request's line.
     """
 
     def __init__(self, line: str) -> None:
-        super().__init__(f"{line!r} was aborted by a reset or a power cycle, which doesn't tell if it was executed")
+        super().__init__(f"{line!r} was aborted by a reset or a power cycle; it may have been executed")
         self.line = line
 
 
 class NotDone(NvmesimError):
-    """An event did not happen, and something had to come of it: a driver that isn't up, a queue that is full."""
+    """An event that was required had no effect: a driver that isn't up, a full queue."""
 
 
 class ScriptError(NvmesimError):
@@ -197,18 +197,18 @@ class ScriptError(NvmesimError):
 
 
 class ExpressionError(NvmesimError):
-    """An expression of `--always` or `--never` that says nothing, or names an answer that isn't there."""
+    """An expression of `--always` or `--never` that is always true or false, or names an answer that does not exist."""
 
 
 class OutputRefused(NvmesimError):
-    """A file that a command must not write: it is read too, or it exists and nobody asked to replace it."""
+    """A file that a command must not write: it is an input, or it exists and --force is missing."""
 
 
 class FileFault(NvmesimError):
-    """The system did not do something with a file.
+    """A system call on a file failed.
 
     Attributes:
-        action: what was to be done, such as `read`.
+        action: what failed, such as `read`.
         name: the file.
         why: the system's reason.
     """

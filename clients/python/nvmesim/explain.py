@@ -9,7 +9,7 @@ from .errors import NvmesimError
 from .explore.medium import Medium
 from .history import Event, follow
 from .process import PathLike
-from .script import LineKind, ScriptLine, configuration_of, read_lines
+from .script import LineKind, ScriptLine, configuration_of, is_any_size, read_lines
 from .session import SECONDS, Session
 from .words import configuration_words, meaning, shortened
 
@@ -18,13 +18,13 @@ _LEAST_WORDS = 30
 
 def run_script(script: str, program: Optional[PathLike] = None, seconds: float = SECONDS,
                image: Optional[PathLike] = None) -> Tuple[str, Dict[int, str]]:
-    """Runs a script over a copy of an image, or over zeros: its transcript, and by their numbers why events denied a
-    command."""
+    """Runs a script over a copy of an image, or over zeros. Returns its transcript, and by event number why a command
+    was denied."""
     lines = list(read_lines(script))
     configuration = configuration_of(lines)
     causes: Dict[int, str] = {}
     with Medium(image, configuration.blocks) as medium, medium.of_a_run() as copied:
-        with Session(copied, program, seconds) as session:
+        with Session(copied, program, seconds, is_any_size(script)) as session:
             for line in lines:
                 if line.kind is LineKind.CONFIGURATION:
                     session.configure(line.text)
@@ -38,8 +38,8 @@ def run_script(script: str, program: Optional[PathLike] = None, seconds: float =
 
 def causes_of(script: str, transcript: str, program: Optional[PathLike] = None, seconds: float = SECONDS,
               image: Optional[PathLike] = None) -> Dict[int, str]:
-    """Why the events of a transcript denied commands, as far as a run of the script, where one can be had, is
-    answered alike."""
+    """Why the events of a transcript denied commands. Runs the script for that, if possible, and uses it up to the
+    first answer that differs."""
     try:
         came, causes = run_script(script, program, seconds, image)
     except NvmesimError:
@@ -56,7 +56,7 @@ def explain(script: str, transcript: str, width: int = 120, comments: bool = Tru
     Args:
         script: the script's text.
         transcript: what `nvmesim` printed for it.
-        width: the columns of a line; meanings are folded, other columns are cut short.
+        width: the columns of a line; meanings are wrapped, other columns are cut.
         comments: whether the script's comments and blank lines are shown.
         causes: why events denied commands, by their numbers.
 

@@ -1,4 +1,4 @@
-"""Files that commands read and write: an output is never an input, replaces no file without --force, and is whole."""
+"""Files that commands read and write: an output is never an input, replaces a file only with --force, and is atomic."""
 from __future__ import annotations
 
 import argparse
@@ -19,7 +19,7 @@ STANDARD = "-"
 
 @contextmanager
 def doing(action: str, name: PathLike) -> Iterator[None]:
-    """Raises an error of the system as a `FileFault`, which says what could not be done with which file."""
+    """Raises an `OSError` as a `FileFault`, with the action and the file."""
     try:
         yield
     except BrokenPipeError:
@@ -41,12 +41,12 @@ class Output:
 
         Args:
             name: the file.
-            inputs: the files that the command reads and its other outputs; `-` is standard input, None is no file.
+            inputs: the command's inputs and its other outputs; `-` is standard input, None is no file.
             is_forced: whether a file that exists is replaced.
 
         Raises:
             OutputRefused: it is one of the inputs, no regular file, or exists and `is_forced` is false.
-            FileFault: its folder is not there.
+            FileFault: its folder does not exist.
         """
         self.name = os.fspath(name)
         self._path = Path(os.path.realpath(self.name))
@@ -54,7 +54,7 @@ class Output:
         self._check()
 
     def _check(self) -> None:
-        """Refuses what must not be written."""
+        """Refuses a file that must not be written."""
         with doing("write", self.name):
             os.stat(self._path.parent)
         if any(_is_same(self._path, it) for it in self._inputs):
@@ -86,7 +86,7 @@ class Output:
         self._is_forced = True
 
     def _put(self, data: bytes, found: Optional[os.stat_result]) -> None:
-        """Puts the data into a new file, which takes the place when it is whole."""
+        """Writes the data to a new file, which replaces the old one when it is complete."""
         new = self._path.with_name(f".{self._path.name[:200]}.{secrets.token_hex(4)}.new")
         file = os.open(new, os.O_WRONLY | os.O_CREAT | os.O_EXCL | os.O_CLOEXEC, 0o666)
         try:
@@ -101,7 +101,7 @@ class Output:
 
 
 def _status(path: PathLike) -> Optional[os.stat_result]:
-    """What is at a path, links followed; None if nothing is."""
+    """The status of the file at a path, links followed; None if there is none."""
     try:
         return os.stat(path)
     except FileNotFoundError:
@@ -109,7 +109,7 @@ def _status(path: PathLike) -> Optional[os.stat_result]:
 
 
 def _identity(name: PathLike) -> Optional[Tuple[int, int]]:
-    """The device and the number of a file; None if it is not there."""
+    """The device and inode of a file; None if it does not exist."""
     try:
         found = os.fstat(sys.stdin.fileno()) if name == STANDARD else os.stat(name)
     except (OSError, ValueError):
@@ -118,7 +118,7 @@ def _identity(name: PathLike) -> Optional[Tuple[int, int]]:
 
 
 def _is_same(path: Path, other: PathLike) -> bool:
-    """Whether both are one file, or would be: another output may not be there yet."""
+    """Whether both are the same file, even if it does not exist yet."""
     found = _identity(path)
     if found is None:
         return other != STANDARD and os.path.realpath(other) == os.fspath(path)

@@ -1,4 +1,4 @@
-"""Follows a script and its answers, event by event: which command each event is about, and what became of it."""
+"""Follows a script and its answers, event by event: which command each event is about, and its state."""
 from __future__ import annotations
 
 from dataclasses import dataclass, field
@@ -14,7 +14,7 @@ from .script import Configuration, ScriptLine, configuration_of, events_of
 
 @dataclass(eq=False)
 class Command:
-    """A command on its way. The numbers are those of events, from 1; None where it did not come so far.
+    """A command, with the numbers of its events from 1; None for a step that it did not reach.
 
     Attributes:
         controller: the controller that it is for.
@@ -22,8 +22,8 @@ class Command:
         line: the request's line; None for a raw host's command.
         ticket: the driver's ticket; None for a raw host's command.
         entry: the entry as a raw host stored it; None for a request.
-        reset: the reset or power cycle that it met before its answer was delivered.
-        status, rule: what its execution gave.
+        reset: the reset or power cycle that aborted it before its answer was delivered.
+        status, rule: the results of its execution.
         value, data: what the poll returned with it.
     """
 
@@ -76,13 +76,13 @@ class _Side:
     raw: Optional[RawQueues] = None
 
     def forget(self) -> None:
-        """Its queues and what was fetched are gone."""
+        """Discards its queues and fetched commands."""
         self.waiting = {0: [], 1: []}
         self.fetched = []
 
 
 class Follower:
-    """Takes events one after the other, and says of each which commands it is about."""
+    """Takes events in order, and finds the commands that each is about."""
 
     def __init__(self, raw: Iterable[int] = ()) -> None:
         """Follows a subsystem in which these controllers belong to raw hosts."""
@@ -136,7 +136,7 @@ class Follower:
         return side.raw
 
     def _moved(self, event: Event, side: _Side) -> List[Command]:
-        """The commands that came one step further."""
+        """The commands that an event advances."""
         answer = event.answer
         if isinstance(answer, Placed):
             return [_place(event, answer, side)]
@@ -154,7 +154,7 @@ class Follower:
         return []
 
     def _reset(self, event: Event, controller: int) -> List[Command]:
-        """The commands that a reset meets."""
+        """The commands that a reset aborts."""
         side = self._side(controller)
         met = [*side.outstanding.values()] if side.raw is None else side.fetched
         met = [it for it in met if it.reset is None]
@@ -164,7 +164,7 @@ class Follower:
         return met
 
     def _power_cycled(self, event: Event) -> List[Command]:
-        """The commands that a power cycle meets, those of each controller in turn."""
+        """The commands that a power cycle aborts, controller by controller."""
         for side in self._sides.values():
             if side.raw is not None:
                 side.raw.power_cycle()
@@ -200,7 +200,7 @@ def _execute(event: Event, answer: Executed, side: _Side) -> Command:
     if side.raw is not None and command.entry is not None and answer.status is Status.SUCCESSFUL_COMPLETION:
         side.raw.succeed(command.entry)
         if command.entry.opcode is AdminOpcode.DELETE_IO_SUBMISSION_QUEUE:
-            deleted = command.entry.field(40, 2)  # what was fetched from that queue goes with it
+            deleted = command.entry.field(40, 2)  # commands that were fetched from that queue are discarded
             side.fetched = [it for it in side.fetched if it.queue != deleted]
     return command
 

@@ -187,7 +187,7 @@ class Host:
     def register(self, namespace: NamespaceLike, new_key: int = 0, current_key: int = 0,
                  action: RegisterAction = RegisterAction.REGISTER, ignore_existing_key: bool = False,
                  persist: Persistence = Persistence.KEEP) -> None:
-        """Registers, unregisters or replaces this host's key; `persist` says whether it survives a power loss."""
+        """Registers, unregisters or replaces this host's key; `persist` is whether it survives a power loss."""
         self.finish(self.place_register(namespace, new_key, current_key, action, ignore_existing_key, persist))
 
     def acquire(self, namespace: NamespaceLike, rtype: ReservationType, key: int, preempted_key: int = 0,
@@ -258,7 +258,7 @@ class Host:
         return answer
 
     def _execute(self, command: Command) -> str:
-        """Has a request rung, fetched and executed, as far as it is not; why it was denied, where that can be said."""
+        """Rings, fetches and executes a request as far as needed. Returns why it was denied, if that is known."""
         if command.rung is None:
             self.ring()
         while command.fetched is None:

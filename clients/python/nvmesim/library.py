@@ -1,7 +1,7 @@
-"""The library libnvmesim by ctypes, instead of the program: raw hosts without a process between, some ten times as
-quick. `Subsystem(backend="library")` uses it.
+"""The library libnvmesim by ctypes instead of the program: raw hosts without a process in between, about ten times as
+fast. `Subsystem(backend="library")` uses it.
 
-What a script's line could not say is an `ArgumentError`: numbers that are negative or too large for their field."""
+Arguments that no line of a script could express raise `ArgumentError`: numbers that are negative or too large."""
 from __future__ import annotations
 
 import ctypes
@@ -23,8 +23,10 @@ from .looks import FetchedCommand, Queue, ReservationState
 VARIABLE = "NVMESIM_LIBRARY"
 """The variable of the environment that names the shared object."""
 
-VERSION = 2
+VERSION = 3
 """The version of the library's interface that is used here."""
+SCRIPT_BLOCKS = 65536
+"""The most blocks of a namespace, as in a script."""
 
 # The numbers of answers, as nvmesim.h has them.
 STORED, WROTE, VALUE, TOOK, IDLE, POSTED, NO_SUCH, CQ_FULL, CYCLED = range(1, 10)
@@ -85,7 +87,7 @@ _CNTLID, _SLICE = ctypes.c_uint16, (ctypes.c_char_p, ctypes.c_size_t)
 _SIM = ctypes.POINTER(_Sim)
 _CALLS: Dict[str, Tuple[object, Sequence[object]]] = {
     "nvmesim_version": (_NUMBER, ()),
-    "nvmesim_open": (_NUMBER, (_SIM, _NUMBER, _ADDRESS, _COUNT, _ADDRESS, _COUNT, _ADDRESS, _COUNT, *_SLICE)),
+    "nvmesim_open": (_NUMBER, (_SIM, _NUMBER, _LONG, _ADDRESS, _COUNT, _ADDRESS, _COUNT, _ADDRESS, _COUNT, *_SLICE)),
     "nvmesim_close": (None, (_SIM,)),
     "nvmesim_store": (_Answer, (_SIM, _CNTLID, _LONG, *_SLICE)),
     "nvmesim_write32": (_Answer, (_SIM, _CNTLID, _LONG, _NUMBER)),
@@ -108,7 +110,7 @@ _CALLS: Dict[str, Tuple[object, Sequence[object]]] = {
 
 @dataclass(frozen=True)
 class Submitted:
-    """What a command in one call came to.
+    """The result of `submit`.
 
     Attributes:
         status: its status.
@@ -219,8 +221,8 @@ class Open:
         cs = (_Controller * len(controllers))(*((it % 2**64, it >> 64, k + 1) for k, it in enumerate(controllers)))
         ns = (_Namespace * len(namespaces))(*((size, nsid, shared) for nsid, size, shared in namespaces))
         at = (_Attached * len(attached))(*((nsid, cntlid) for cntlid, nsid in attached))
-        answer = self._library.nvmesim_open(self._at, VERSION, cs, len(cs), ns, len(ns), at, len(at), blocks,
-                                            len(blocks))
+        answer = self._library.nvmesim_open(self._at, VERSION, SCRIPT_BLOCKS, cs, len(cs), ns, len(ns), at, len(at),
+                                            blocks, len(blocks))
         if answer != OK:
             raise ConfigurationRefused(_FAULTS.get(answer, str(answer)))
 
@@ -240,31 +242,31 @@ class Open:
             self.close()
 
     def store(self, cntlid: int, address: int, data: bytes) -> Stored:
-        """The host of a controller stores bytes."""
+        """Stores bytes in the memory of a controller's host."""
         fits(controller=(cntlid, 16), address=(address, 64))
         some_bytes("data", data)
         what = self._checked(self._library.nvmesim_store(self._at, cntlid, address, data, len(data)), cntlid).what
         return Stored(cntlid, what == STORED)
 
     def write32(self, cntlid: int, offset: int, value: int) -> Wrote32:
-        """It writes a register."""
+        """Writes a register of a controller."""
         fits(controller=(cntlid, 16), offset=(offset, 64), value=(value, 32))
         self._checked(self._library.nvmesim_write32(self._at, cntlid, offset, value), cntlid)
         return Wrote32(cntlid)
 
     def read32(self, cntlid: int, offset: int) -> int:
-        """It reads a register."""
+        """Reads a register of a controller."""
         fits(controller=(cntlid, 16), offset=(offset, 64))
         return int(self._checked(self._library.nvmesim_read32(self._at, cntlid, offset), cntlid).value)
 
     def fetch(self, cntlid: int, queue: int) -> Fetched:
-        """A controller fetches a command."""
+        """Makes a controller fetch a command."""
         fits(controller=(cntlid, 16), queue=(queue, 16))
         answer = self._checked(self._library.nvmesim_fetch(self._at, cntlid, queue), cntlid)
         return Fetched(cntlid, queue, answer.what == TOOK)
 
     def execute(self, cntlid: int, place: int) -> Executed:
-        """It executes one that it has fetched."""
+        """Makes a controller execute a fetched command."""
         fits(controller=(cntlid, 16), place=(place, 64))
         answer = self._checked(self._library.nvmesim_execute(self._at, cntlid, place), cntlid)
         if answer.what != POSTED:
@@ -288,7 +290,7 @@ class Open:
         return Submitted(_STATUSES[answer.sct, answer.sc], Rule(answer.rule), answer.value, room.raw)
 
     def power_cycle(self) -> PowerCycled:
-        """Power is lost, and comes back."""
+        """Power-cycles the subsystem."""
         self._checked(self._library.nvmesim_power_cycle(self._at), 0)
         return PowerCycled()
 

@@ -1,8 +1,8 @@
 """Makes the lines of scripts: one function a line, with the words of docs/USING.md in their order.
 
-All numbers are whole and not negative. Blocks have 512 bytes. What a line can't spell is an `ArgumentError`: a number
-of too many bits, data of no bytes, a text for a number. Nothing else is judged here: a request that no command can say
-is refused by the driver, and a wrong one by the controller.
+All numbers are whole and not negative. Blocks have 512 bytes. What a line can't express is an `ArgumentError`: a number
+of too many bits, data of no bytes, a text for a number. Nothing else is checked here: the driver refuses a request that
+no command can express, and the controller a wrong one.
 """
 from __future__ import annotations
 

@@ -1,4 +1,4 @@
-"""The answers of looking lines, which begin with `?` and change nothing, taken apart."""
+"""The answers of queries, which begin with `?` and change nothing, parsed."""
 from __future__ import annotations
 
 import re
@@ -94,8 +94,8 @@ class ReservationState:
     """The reservation of a namespace.
 
     Attributes:
-        rtype: its type; NONE where nobody holds it.
-        holder: the host that holds it; None where nobody does, or where all registrants do.
+        rtype: its type; NONE if nobody holds it.
+        holder: the host that holds it; None if nobody does, or if all registrants do.
         is_held_by_all: whether all registrants hold it.
         generation: the generation, as a report has it.
         persists: whether it and its registrants outlast a loss of power.
@@ -133,11 +133,11 @@ class _Words:
         return not self._words
 
     def fault(self) -> ProtocolError:
-        """What is raised where the answer isn't understood."""
+        """What is raised if the answer isn't understood."""
         return ProtocolError(f"not understood: {self._text!r}")
 
     def word(self, label: str = "") -> str:
-        """The next word, after its label where it has one."""
+        """The next word, after its label if it has one."""
         if label and self.word() != label or not self._words:
             raise self.fault()
         return self._words.pop(0)

@@ -1,4 +1,4 @@
-"""The program `nvmelive` as a process: where it is found, and lines and answers over its pipes, within their time."""
+"""The program `nvmelive` as a process: finds it, and exchanges lines and answers over pipes, with a time limit."""
 from __future__ import annotations
 
 import functools
@@ -36,7 +36,7 @@ def find_program(given: Optional[PathLike] = None, name: str = "nvmelive", varia
         variable: the variable of the environment that names it.
 
     Raises:
-        ProgramNotFound: there is none that can be run.
+        ProgramNotFound: none is executable.
     """
     named = given if given is not None else os.environ.get(variable) or None
     if named is not None:
@@ -47,7 +47,7 @@ def find_program(given: Optional[PathLike] = None, name: str = "nvmelive", varia
     top = Path(__file__).resolve().parents[3]
     if (top / "crates.txt").is_file() and os.access(top / name, os.X_OK):
         return built_program(top / name)
-    found = _beside(name) or shutil.which(name) or _installed(name)
+    found = _next_to_package(name) or shutil.which(name) or _installed(name)
     if found is None:
         raise ProgramNotFound(f"there is no program {name} on the path, nor in {INSTALLED} under any of "
                               f"{', '.join(map(str, _prefixes()))}: scripts/install puts it there, and the variable "
@@ -55,7 +55,7 @@ def find_program(given: Optional[PathLike] = None, name: str = "nvmelive", varia
     return Path(found)
 
 
-def _beside(name: str) -> Optional[str]:
+def _next_to_package(name: str) -> Optional[str]:
     """The program of an installation that has this package in its folder `python`."""
     folder = Path(__file__).resolve().parents[2]
     return shutil.which(folder / name) if folder.parts[-2:] == tuple(INSTALLED.split("/")) else None
@@ -73,8 +73,8 @@ def _installed(name: str) -> Optional[str]:
 
 @functools.lru_cache(maxsize=None)
 def built_program(script: Path) -> Path:
-    """The program that a script at the top of the repository would run. It builds it where it lacks, and says so on
-    standard error."""
+    """The program that a script at the top of the repository runs. If it is missing, the script builds it with a notice
+    on standard error."""
     asked = subprocess.run([os.fspath(script), "--where"], stdin=subprocess.DEVNULL, stdout=subprocess.PIPE, text=True)
     if asked.returncode != 0:
         raise ProgramNotFound(f"{script} can't build its program")
@@ -82,7 +82,7 @@ def built_program(script: Path) -> Path:
 
 
 class Process:
-    """One run of the program. A thread reads its standard error, so that it never waits for us."""
+    """One run of the program. A thread reads its standard error, so that the program never blocks on it."""
 
     def __init__(self, command: Sequence[PathLike], seconds: float) -> None:
         """Starts a command.
@@ -125,7 +125,7 @@ class Process:
         return self._told.decode("utf-8", "replace")
 
     def exchange(self, lines: Sequence[str]) -> List[str]:
-        """Writes lines, and reads an answer for each; they go ahead of their answers as far as the pipe takes them.
+        """Writes lines, and reads an answer for each; as many lines as the pipe takes are written ahead.
 
         Raises:
             ProgramDied: the program ended, or closed its output.
@@ -173,7 +173,7 @@ class Process:
         return answers
 
     def _send(self, unsent: memoryview, selector: selectors.BaseSelector) -> memoryview:
-        """Writes what the pipe takes; what is left."""
+        """Writes what the pipe takes. Returns the rest."""
         try:
             unsent = unsent[os.write(self._input.fileno(), unsent[:_PIECE]):]
         except BrokenPipeError:
@@ -193,7 +193,7 @@ class Process:
             selector.unregister(self._errors)
 
     def _receive(self) -> List[str]:
-        """The whole answers that came."""
+        """The complete answers that were received."""
         piece = os.read(self._output.fileno(), _PIECE)
         if not piece:
             self._bury()
@@ -201,7 +201,7 @@ class Process:
         return [it.decode("utf-8", "replace") for it in whole]
 
     def _bury(self) -> None:
-        """Says how the program ended."""
+        """Raises the error for a program that ended."""
         status: Optional[int]
         try:
             status = self._child.wait(1.0)
@@ -216,7 +216,7 @@ class Process:
         raise ProgramHangs(self.seconds, self._last, self.told)
 
     def _end(self) -> None:
-        """Kills the program where it still runs, takes its last words, and closes the pipes."""
+        """Kills the program if it still runs, reads the rest of its standard error, and closes the pipes."""
         self._is_closed = True
         if self._child.poll() is None:
             self._child.kill()
@@ -230,12 +230,13 @@ class Process:
             pipe.close()
 
     def abandon(self) -> None:
-        """Kills the program, where it still runs, without waiting for what it would do."""
+        """Kills the program, if it still runs, without waiting for it to finish."""
         if not self._is_closed:
             self._end()
 
     def close(self) -> int:
-        """Ends the input, and waits for the program within the time limit; its exit status, negative for a signal."""
+        """Closes the input, and waits for the program within the time limit. Returns its exit status, negative for a
+        signal."""
         if self._is_closed:
             return self._child.returncode
         self._input.close()

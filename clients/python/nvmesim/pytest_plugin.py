@@ -49,7 +49,7 @@ def pytest_runtest_makereport(item: Any, call: Any) -> Iterator[None]:
 
 
 def pytest_collect_file(file_path: Path, parent: Any) -> Optional["ScriptFile"]:
-    """A script is collected where it has an expectation, and where it is named on the command line."""
+    """A script is collected if it has an expectation, and if it is named on the command line."""
     if file_path.suffix != _SUFFIX:
         return None
     if not parent.session.isinitpath(file_path) and not _has_marks(file_path):

@@ -39,7 +39,7 @@ class Entry:
 
     @property
     def opcode(self) -> Union[AdminOpcode, IoOpcode, int]:
-        """Its opcode, by its name where its queue has one."""
+        """Its opcode, by its name if its queue has one."""
         try:
             return AdminOpcode(self.raw[0]) if self.queue == 0 else IoOpcode(self.raw[0])
         except ValueError:
@@ -47,7 +47,7 @@ class Entry:
 
     @property
     def io_opcode(self) -> Optional[IoOpcode]:
-        """Its opcode where it is a known one of an I/O queue."""
+        """Its opcode if it is a known one of an I/O queue."""
         opcode = self.opcode
         return opcode if isinstance(opcode, IoOpcode) else None
 

@@ -1,6 +1,6 @@
-"""Asks the program how lines of a script are read: its proved grammar is the one that there is.
+"""Parses lines of a script by the program, which has the only grammar, a proved one.
 
-One program is asked for all scripts. It is begun when it is needed, and ends with this process.
+One program parses all scripts. It starts when it is first needed, and ends with this process.
 """
 from __future__ import annotations
 
@@ -20,13 +20,13 @@ _named: List[PathLike] = []
 
 
 def read_with(program: Optional[PathLike]) -> None:
-    """Has lines read by this program from now on, where none is named; None for the one that `find_program` finds."""
+    """Sets the program that parses lines by default; None for the one that `find_program` finds."""
     _named[:] = [] if program is None else [program]
 
 
 def words_of(texts: Sequence[str], numbers: Sequence[int], program: Optional[PathLike] = None) -> List[Tuple[str, ...]]:
     """The words of lines in one form: numbers in decimal digits, a host after `0x`, data and bytes as `hex:` without
-    the zeros at the end of data; none of a line that says nothing.
+    the zeros at the end of data; none for a comment or a blank line.
 
     Args:
         texts: the lines, which the program gets all at once.
@@ -45,7 +45,7 @@ def words_of(texts: Sequence[str], numbers: Sequence[int], program: Optional[Pat
 
 
 class _Reader:
-    """The program over zeros in memory, of which nothing but the reading of lines is asked. Any thread may ask."""
+    """The program over zeros in memory, used only to parse lines. Any thread may use it."""
 
     def __init__(self, program: Path) -> None:
         self._program = program
@@ -53,7 +53,7 @@ class _Reader:
         self._process: Optional[Process] = None
 
     def ask(self, lines: Sequence[str]) -> List[str]:
-        """The answers of lines, which go ahead of them."""
+        """The answers of lines, which are all sent first."""
         with self._lock:
             if self._process is None:
                 self._process = Process([self._program, "-"], _SECONDS)
@@ -83,7 +83,7 @@ def _reader(program: Path, process: int) -> _Reader:
 
 
 def _words_in(answer: str, number: int) -> Tuple[str, ...]:
-    """The words that an answer of `?line` has."""
+    """The words in an answer of `?line`."""
     if answer.startswith("! "):
         place, _, why = answer[2:].partition(": ")
         if not why or _ASKED.strip() in why:

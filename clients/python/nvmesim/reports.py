@@ -1,4 +1,4 @@
-"""Reservation Reports, taken apart: the data that come with the answer of a `report`.
+"""Reservation Reports, parsed: the data that come with the answer of a `report`.
 
 They have the extended data structure of the NVM Express Base Specification 2.0 (Reservation Status Extended): a header
 of 64 bytes, and an entry of 64 bytes for each controller whose host is registered.
@@ -37,11 +37,11 @@ class ReservationReport:
     """The content of a Reservation Report on a namespace.
 
     Attributes:
-        generation: how often registrants have changed (GEN).
-        rtype: the type of the reservation; NONE where nobody holds it (RTYPE).
+        generation: the generation counter (GEN).
+        rtype: the type of the reservation; NONE if nobody holds it (RTYPE).
         count: the controllers whose hosts are registered (REGCTL).
         persists: whether registrants and reservation outlast a loss of power (PTPLS).
-        controllers: those of them whose entries have come whole; fewer than `count` where the report was cut.
+        controllers: those of them whose entries have come whole; fewer than `count` if the report was cut.
     """
 
     generation: int
@@ -55,7 +55,7 @@ def parse_report(data: bytes) -> ReservationReport:
     """Takes the bytes of a report apart.
 
     Raises:
-        ProtocolError: they lack a part of the header, or say something that no report says.
+        ProtocolError: they lack a part of the header, or have values that no report has.
     """
     if len(data) < HEADER_BYTES:
         raise ProtocolError(f"a report has a header of {HEADER_BYTES} bytes, and these are {len(data)}")

@@ -14,8 +14,8 @@ def scene(kept: str, begin: int = 0, most: int = MOST, apart: Collection[int] = 
     """A script with marks, whose last events come in any order with those of other hosts.
 
     Args:
-        kept: the lines that a session was sent, or a script. Looking lines and comments are left out.
-        begin: the line of them from which on events come in any order; 0 to choose it, so that no command is under way
+        kept: the lines that a session was sent, or a script. Queries and comments are left out.
+        begin: the line of them from which on events come in any order; 0 to choose it, so that no command is in progress
             there and the scene is not too large.
         most: the limit of states of such a scene.
         apart: controllers whose fetches and executions are a part of their own, apart from their drivers' events: then
@@ -54,7 +54,7 @@ def _names(lines: Sequence[ScriptLine], apart: Collection[int]) -> Dict[ScriptLi
 
 
 def _cut(events: Sequence[ScriptLine], names: Dict[ScriptLine, str], most: int) -> int:
-    """The first event from which on the scene is not too large and before which all commands were polled; where there
+    """The first event from which on the scene is not too large and before which all commands were polled; if there
     is no such one, the first of the former."""
     counts: Dict[str, int] = {}
     cuts: List[Tuple[bool, int]] = []

@@ -1,4 +1,4 @@
-"""Scripts: which lines describe the subsystem, which are events, and what each says. The program reads them."""
+"""Scripts: the lines that describe the subsystem, and the events. The program parses them."""
 from __future__ import annotations
 
 import enum
@@ -19,7 +19,15 @@ EVENT_VERBS = REQUEST_VERBS + ("up", "ring", "fetch", "execute", "poll", "reset"
 MOST_BLOCKS = 256
 """The most blocks that a Read, Write or Compare has."""
 
+ANY_SIZE = "# nvmesim --any-size"
+"""The first line of a script whose namespaces may have more than 65,536 blocks: the option that its programs need."""
+
 _DATA_AT = {"write": 5, "compare": 5, "store": 3}
+
+
+def is_any_size(script: str) -> bool:
+    """Whether the first line of a script allows namespaces of any size."""
+    return script.partition("\n")[0].rstrip("\r") == ANY_SIZE
 
 
 class LineKind(enum.Enum):
@@ -138,14 +146,14 @@ def read_lines(text: str, is_started: bool = False, program: Optional[PathLike] 
 
 
 def _with_blocks(words: Tuple[str, ...], line: str) -> Tuple[str, ...]:
-    """The words of a line with the BLOCKS that it says: the program reads each that no command can say as 0."""
+    """The words of a line with its BLOCKS as written: the program reads a number that no command can express as 0."""
     if words[0] not in ("write", "compare") or words[4] != "0":
         return words
     return (*words[:4], str(number_taken(line.split()[4])), words[5])
 
 
 def _hint(line: str) -> str:
-    """What may help where a line is not read."""
+    """A hint for a line that is not understood."""
     return "; a comment has a line of its own, which begins with '#'" if " #" in line else ""
 
 
@@ -166,7 +174,7 @@ def events_of(lines: Iterable[ScriptLine]) -> List[ScriptLine]:
 
 @dataclass(frozen=True)
 class Configuration:
-    """What a script says before `start`.
+    """The configuration: a script's lines before `start`.
 
     Attributes:
         hosts: each controller's host identifier.

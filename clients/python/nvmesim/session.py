@@ -1,4 +1,4 @@
-"""One session with `nvmelive`: lines and their answers, and the script and transcript that they come to."""
+"""One session with `nvmelive`: lines and their answers, with the resulting script and transcript."""
 from __future__ import annotations
 
 from types import TracebackType
@@ -11,30 +11,32 @@ from .process import PathLike, Process, find_program
 from .script import LineKind, ScriptLine, number_taken, read_lines
 
 SECONDS = 10.0
-"""The time limit of an answer, where none is given."""
+"""The time limit of an answer, if none is given."""
 
 
 class Session:
     """A session, line by line. Use it in a `with`, or close it.
 
-    Lines that set up come first, then `start`, then events. Looking lines, after `start`, change nothing.
+    Lines that set up come first, then `start`, then events. Queries, after `start`, change nothing.
     """
 
     def __init__(self, image: Optional[PathLike] = None, program: Optional[PathLike] = None,
-                 seconds: float = SECONDS) -> None:
+                 seconds: float = SECONDS, any_size: bool = False) -> None:
         """Starts the program.
 
         Args:
             image: a file whose blocks of 512 bytes are the medium; None for 1,024 blocks of zeros in memory.
             program: the program `nvmelive`; None for the one that `find_program` finds.
             seconds: the time limit of each answer.
+            any_size: whether a namespace may have more than 65,536 blocks.
 
         Raises:
             ProgramNotFound: there is no such program.
         """
         medium = "-" if image is None else a_path("image", image)
         self._program = find_program(program)
-        self._process = Process([self._program, medium], seconds_of(seconds))
+        options = ["--any-size"] if any_size else []
+        self._process = Process([self._program, *options, medium], seconds_of(seconds))
         self._lines: List[str] = []
         self._answers: List[str] = []
         self._raw: List[int] = []
@@ -71,7 +73,7 @@ class Session:
 
     @property
     def follower(self) -> Follower:
-        """What is known of the commands on their way. Raises `NotDone` before `start`."""
+        """What is known of the commands in progress. Raises `NotDone` before `start`."""
         if self._follower is None:
             raise NotDone("the session was not started")
         return self._follower
@@ -86,9 +88,9 @@ class Session:
         return self.ask_all([line])[0]
 
     def ask_all(self, lines: Sequence[str]) -> List[str]:
-        """The answers of several lines, which are sent ahead of them. Raises as `ask` does, for the first fault."""
+        """The answers of several lines, which are all sent first. Raises like `ask`, for the first fault."""
         if isinstance(lines, (str, bytes)) or not isinstance(lines, Sequence):
-            raise ArgumentError(f"lines is a list of texts, and not {shown(lines)}")
+            raise ArgumentError(f"lines is a list of texts, not {shown(lines)}")
         answers = self._process.exchange(lines)
         for line, answer in zip(lines, answers):
             if answer.startswith("!"):
@@ -96,9 +98,9 @@ class Session:
         return answers
 
     def look(self, line: str) -> str:
-        """The answer of a looking line, which begins with `?`."""
+        """The answer of a query, which begins with `?`."""
         if not one_line("line", line).startswith("?"):
-            raise ArgumentError(f"a looking line begins with '?', and {shown(line)} does not")
+            raise ArgumentError(f"a query begins with '?', and {shown(line)} does not")
         return self.ask(line)
 
     def configure(self, line: str) -> None:

@@ -31,7 +31,7 @@ class Subsystem:
         if backend == "program":
             return object.__new__(cls)
         if backend != "library":
-            raise ArgumentError(f"backend is 'program' or 'library', and not {shown(backend)}")
+            raise ArgumentError(f"backend is 'program' or 'library', not {shown(backend)}")
         if image is not None or program is not None:
             raise ArgumentError("the library takes no image and no program")
         return LibrarySubsystem()

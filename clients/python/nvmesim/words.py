@@ -1,4 +1,4 @@
-"""Says in words what a line of a script means, what its answer means, and which command it is about."""
+"""Describes in words a line of a script, its answer, and the command that it is about."""
 from __future__ import annotations
 
 from typing import Dict, List, Optional, Sequence, Tuple
@@ -42,7 +42,7 @@ _RANGED = (IoOpcode.READ, IoOpcode.WRITE, IoOpcode.COMPARE, IoOpcode.WRITE_ZEROE
 
 
 def shortened(text: str, width: int) -> str:
-    """A text of at most `width` columns; a longer one ends with two points."""
+    """A text cut to at most `width` columns; a cut one ends with two dots."""
     return text if len(text) <= width else text[:max(0, width - 2)] + ".."
 
 
@@ -92,7 +92,7 @@ def command_label(command: Command) -> str:
 
 
 def rule_words(command: Command) -> str:
-    """The rule that denied a command, by its number and in words; an empty text where none did."""
+    """The rule that denied a command, by its number and in words; an empty string if none did."""
     if not command.is_denied:
         return ""
     words = command.rule.words
@@ -183,7 +183,7 @@ def register_words(offset: int) -> str:
 
 
 def configuration_words(line: ScriptLine) -> str:
-    """What a line before the events says; an empty text for a comment or a blank line."""
+    """The meaning of a line before the events; an empty string for a comment or a blank line."""
     if line.kind is LineKind.START:
         return "the subsystem is checked and started; the events follow"
     if line.kind is not LineKind.CONFIGURATION:
@@ -208,7 +208,7 @@ def status_words(status: Status) -> str:
 
 
 def verdict_words(command: Command) -> str:
-    """What its execution came to, with the rule in words where one denied it."""
+    """The result of its execution, with the rule in words if one denied it."""
     if command.status is None:
         return "not executed"
     if command.is_denied:
@@ -262,19 +262,19 @@ def short_meaning(event: Event) -> str:
 
 
 def refused_words(line: ScriptLine, answer: Refused) -> str:
-    """Why a driver refuses a request; which field no command can say, where that is it."""
+    """Why a driver refuses a request, with the field that no command can express if there is one."""
     field = _bad_field(line) if answer.refusal is Refusal.BAD_REQUEST else ""
     return f"{answer.refusal.words}: {field}" if field else answer.refusal.words
 
 
 def _bad_field(line: ScriptLine) -> str:
-    """The first field of a request that no command can say; an empty text where there is none."""
+    """The first field of a request that no command can express; an empty string if there is none."""
     numbers = line.numbers()
     for name, place, least, most in _TAKEN.get(line.verb, ()):
         if not least <= numbers[place] <= most:
             return f"{name} is {numbers[place]:,}, and {least:,} to {most:,} are taken"
     if line.verb in ("attach", "detach") and len(numbers) - 2 > _MOST_LISTED:
-        return f"the list has {len(numbers) - 2:,} controllers, and {_MOST_LISTED:,} are the most"
+        return f"the list has {len(numbers) - 2:,} controllers; at most {_MOST_LISTED:,} are allowed"
     return ""
 
 
@@ -301,7 +301,7 @@ def _driver_words(event: Event, answer: Answer) -> str:
 
 
 def _power_words(event: Event) -> str:
-    """What a power cycle does, and which commands it meets."""
+    """What a power cycle does, and which commands it aborts."""
     words = "the whole subsystem loses power and gets it back; all drivers and controllers are down"
     waiting: Dict[int, List[Command]] = {}
     for command in event.commands:
@@ -350,11 +350,11 @@ def report_words(report: ReservationReport) -> str:
         holds = ", a holder" if it.is_holder else ""
         words += f"; controller {it.number} of {host_words(it.host)} with key {hexadecimal(it.key)}{holds}"
     rest = report.count - len(report.controllers)
-    return words + (f"; and {rest} that the report has no room for" if rest else "")
+    return words + (f"; and {rest} that the report cuts off" if rest else "")
 
 
 def data_words(data: bytes, most: int = 16) -> str:
-    """Bytes in short: their number, and the first ones that matter, also as text where all are visible."""
+    """Bytes in short: their number, and the first ones that matter, also as text if all are visible."""
     kept = data.rstrip(b"\0")
     if not kept:
         return f"{len(data)} bytes of zeros"

@@ -1,8 +1,7 @@
 """Builds the package for pip and the like by Python alone: so `pip install` needs no network.
 
 It is the build backend that `pyproject.toml` names, by PEP 517 and PEP 660. Every other one would have to be fetched
-first. The table `[project]` is the only place of what is said of the package, except for its version, which is in
-`nvmesim/__init__.py`.
+first. The table `[project]` has all metadata of the package, except for its version, which is in `nvmesim/__init__.py`.
 """
 from __future__ import annotations
 
@@ -79,7 +78,7 @@ def _modules() -> Iterator[Path]:
 
 
 def _metadata() -> str:
-    """What is said of the package, in the form of the core metadata."""
+    """The package's metadata, in the form of the core metadata."""
     said = tables((TOP / "pyproject.toml").read_text(encoding="utf-8"))
     project, extras = said["project"], said.get("project.optional-dependencies", {})
     heads: List[Tuple[str, str]] = [
@@ -94,7 +93,7 @@ def _metadata() -> str:
 
 
 def _entry_points() -> str:
-    """What other programs call in the package, in the form of the file `entry_points.txt`."""
+    """The entry points of the package, in the form of the file `entry_points.txt`."""
     said = tables((TOP / "pyproject.toml").read_text(encoding="utf-8"))
     groups = {head[len(_ENTRY_POINTS):]: table for head, table in said.items() if head.startswith(_ENTRY_POINTS)}
     groups.update({"console_scripts": said["project.scripts"]} if "project.scripts" in said else {})

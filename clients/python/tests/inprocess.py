@@ -96,19 +96,19 @@ def orders_of(plan: Plan) -> List[Order]:
 
 
 def _came_to(plan: Plan, order: Order, ask: Ask) -> Outcome:
-    """What an order comes to that is run from its begin to its end, of which nothing is left out."""
+    """The outcome of an order that is run from its beginning to its end, with all its events."""
     looks, labels = Looks(plan), []  # type: Tuple[Looks, List[Tuple[str, str]]]
     places = {it.name: n for n, it in enumerate(plan.steps)}
     state: State = first_state(plan, dict(zip(looks.all(), ask(looks.all()))))
     for choice, step in zip(order, plan.steps_of(order)):
-        answer, *told = ask([step.line.text, *looks.behind(step)])
-        label, state = state.next(plan, looks, choice, answer, dict(zip(looks.behind(step), told)))
+        answer, *told = ask([step.line.text, *looks.after_event(step)])
+        label, state = state.next(plan, looks, choice, answer, dict(zip(looks.after_event(step), told)))
         labels.append((step.name, label))
     return Outcome(tuple(sorted(labels, key=lambda it: places[it[0]])), tuple(map(in_one_form, ask(looks.last()))))
 
 
 def _asked_of(plan: Plan) -> Ask:
-    """What is asked of a stand-in, which a crash ends: another one begins over its medium."""
+    """Sends lines to a stand-in. A crash ends it, and another one starts over its medium."""
     image = io.BytesIO(bytes(512 * 1024))
     worlds = [_set_up(plan, image)]
 
@@ -131,7 +131,7 @@ def _set_up(plan: Plan, image: BinaryIO) -> World:
 
 
 def one_by_one(plan: Plan) -> Dict[Outcome, int]:
-    """How many orders come to each outcome: each is run in a stand-in of its own."""
+    """The number of orders for each outcome: each order is run in its own stand-in."""
     found: Dict[Outcome, int] = {}
     for order in orders_of(plan):
         outcome = _came_to(plan, order, _asked_of(plan))
@@ -140,7 +140,7 @@ def one_by_one(plan: Plan) -> Dict[Outcome, int]:
 
 
 def one_by_one_over(plan: Plan, program: Path) -> Dict[Outcome, int]:
-    """The same over programs: each order is run in one of its own."""
+    """The outcomes over programs: each order is run in its own program."""
     found: Dict[Outcome, int] = {}
     with Programs(program, plan.setup, 10.0) as programs:
         for order in orders_of(plan):
@@ -159,5 +159,5 @@ def one_by_one_over(plan: Plan, program: Path) -> Dict[Outcome, int]:
 
 
 def counts_of(found: Findings) -> Dict[Outcome, int]:
-    """How many orders come to each outcome."""
+    """The number of orders for each outcome."""
     return {outcome: ways.count for outcome, ways in found.items()}

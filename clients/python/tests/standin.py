@@ -1,7 +1,7 @@
 #!/usr/bin/env python3
 """A stand-in for nvmelive, in Python: hosts with drivers, one medium, the lines that the client's tests send.
 
-It lets the client be tested where the program is not built. The examples' transcripts judge it (test_standin.py), and
+It lets the client be tested if the program is not built. The examples' transcripts judge it (test_standin.py), and
 nothing is claimed of it beyond them: raw hosts, identify and lists of controllers are answered `!`.
 """
 from __future__ import annotations
@@ -63,7 +63,7 @@ def one(form: str, word: str, place: int, words: List[str]) -> str:
     if form[0] == "=" and word in form[1:].split("|"):
         return word
     if form[0] == "=" or not re.fullmatch(r"[0-9]+|0x[0-9a-fA-F]+", word) or number(word) >= 2**int(form[1:]):
-        raise Unread(place, f"a number below 2^{form[1:]}, and not {word!r}")
+        raise Unread(place, f"a number below 2^{form[1:]}, not {word!r}")
     return f"{number(word):#x}" if form[0] == "H" else str(number(word))
 
 
@@ -73,7 +73,7 @@ def data(form: str, word: str, place: int, words: List[str]) -> str:
     size = 512 * number(words[4]) if form == "D" else len(digits)
     if not re.fullmatch(r"(?:[0-9a-fA-F]{2})+", digits) or not is_fill and kind != "hex" or len(digits) > 2 * size > 0:
         wanted = "DATA, fill: and two hexadecimal digits, or hex: and pairs of them that BLOCKS have room for"
-        raise Unread(place, f"{wanted if form == 'D' else 'hex: and pairs of hexadecimal digits'}, and not {word!r}")
+        raise Unread(place, f"{wanted if form == 'D' else 'hex: and pairs of hexadecimal digits'}, not {word!r}")
     if form == "D" and size not in range(512, 512 * 257):
         return "hex:00"
     made = bytes.fromhex(digits) * (size if is_fill else 1)

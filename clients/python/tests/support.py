@@ -26,7 +26,7 @@ LIVE = _program("NVMELIVE")
 SIM = _program("NVMESIM")
 PROGRAMS: List[Path] = [STANDIN, *([LIVE] if LIVE else [])]
 if LIVE is None:
-    os.environ["NVMELIVE"] = str(STANDIN)  # what reads lines where no program is named
+    os.environ["NVMELIVE"] = str(STANDIN)  # what reads lines if no program is named
 
 
 def heed_interrupts() -> None:

@@ -30,22 +30,22 @@ BAD_REQUESTS = [
     ("release 1 1 9 1 0x11", "ACTION is 9, and 0 to 7 are taken"),
     ("report 1 1 0", "DWORDS is 0, and 1 to 32,768 are taken"),
     ("protect 1 1 8", "STATE is 8, and 0 to 7 are taken"),
-    ("attach 1 1" + " 1" * 2048, "the list has 2,048 controllers, and 2,047 are the most"),
+    ("attach 1 1" + " 1" * 2048, "the list has 2,048 controllers; at most 2,047 are allowed"),
 ]
 
-# A request, and why it is denied; None where it is executed.
+# A request, and why it is denied; None if it is executed.
 REQUESTS: List[Tuple[str, Optional[str]]] = [
-    ("register 1 1 3 0 0 0 0x11", "RREGA (ACTION) is 3, and 2 is the most"),
-    ("register 1 1 3 0 1 0 0x11", "RREGA (ACTION) is 3, and 2 is the most"),
+    ("register 1 1 3 0 0 0 0x11", "RREGA (ACTION) is 3; at most 2 is allowed"),
+    ("register 1 1 3 0 1 0 0x11", "RREGA (ACTION) is 3; at most 2 is allowed"),
     ("register 1 1 0 0 1 0 0x11", "CPTPL is 01b, which is reserved"),
-    ("acquire 1 1 7 1 0x11 0", "RACQA (ACTION) is 7, and 2 is the most"),
+    ("acquire 1 1 7 1 0x11 0", "RACQA (ACTION) is 7; at most 2 is allowed"),
     ("acquire 1 1 0 0 0x11 0", "RTYPE is 0, and types are 1 to 6"),
     ("acquire 1 1 0 7 0x11 0", "RTYPE is 7, and types are 1 to 6"),
-    ("release 1 1 2 1 0x11", "RRELA (ACTION) is 2, and 1 is the most"),
-    ("identify 1 3 1", "CNS is 3, and 2 is the most"),
-    ("protect 1 1 3", "WPS (STATE) is 3, and 2 is the most"),
-    ("attach 1 7 1", "NSID is 7, and no such namespace is configured"),
-    ("detach 1 7 1", "NSID is 7, and no such namespace is configured"),
+    ("release 1 1 2 1 0x11", "RRELA (ACTION) is 2; at most 1 is allowed"),
+    ("identify 1 3 1", "CNS is 3; at most 2 is allowed"),
+    ("protect 1 1 3", "WPS (STATE) is 3; at most 2 is allowed"),
+    ("attach 1 7 1", "NSID is 7, and that namespace is not configured"),
+    ("detach 1 7 1", "NSID is 7, and that namespace is not configured"),
     ("acquire 1 1 0 1 0x11 0", "host a1h has registered no key"),
     ("register 1 1 1 0 0 0x11 0", "host a1h has registered no key"),
     ("register 1 1 1 1 0 0x11 0", "host a1h has registered no key"),
@@ -75,11 +75,11 @@ REQUESTS: List[Tuple[str, Optional[str]]] = [
     ("detach 1 1 2 1", "controller 1 comes after controller 2 in the list"),
     ("attach 1 1 1 1", "controller 1 comes after controller 1 in the list"),
     ("attach 1 1 2", "controller 2 is attached to namespace 1 already"),
-    ("attach 1 2 2", "namespace 2 is private, and controller 1 has it"),
+    ("attach 1 2 2", "namespace 2 is private, but controller 1 has it"),
     ("detach 1 2 2", "controller 2 is not attached to namespace 2"),
     ("detach 1 2 1 2", "controller 2 is not attached to namespace 2"),
     ("detach 1 2 1", None),
-    ("attach 1 2 1 2", "namespace 2 is private, and controller 1 has it"),
+    ("attach 1 2 1 2", "namespace 2 is private, but controller 1 has it"),
     ("protect 1 1 2", None),
     ("protect 1 1 0", "namespace 1 is write protected until a power cycle (WPS 2)"),
 ]
@@ -97,15 +97,15 @@ ENTRIES: List[Tuple[bool, bytes, bytes, Optional[str]]] = [
     (True, entry(0x09, 0, 0x07, 0xFFFF0000), b"", "NCQR is FFFFh"),
     (True, entry(0x09, 0, 0x06), b"", "FID is 6h, neither 07h nor 84h"),
     (True, entry(0x09, 1, 1 << 31 | 0x84), b"", "SV is 1, and no feature is saveable"),
-    (True, entry(0x09, 1, 0x84, 5), b"", "WPS (STATE) is 5, and 2 is the most"),
+    (True, entry(0x09, 1, 0x84, 5), b"", "WPS (STATE) is 5; at most 2 is allowed"),
     (True, entry(0x0A, 0, 0x02), b"", "FID is 2h, none of 07h, 81h and 84h"),
     (True, entry(0x0A, 0, 0x81), b"", "EXHID is 0, and hosts have identifiers of 128 bits"),
-    (True, entry(0x06, 1, 0x13), b"", "CNS is 19, and 2 is the most"),
-    (True, entry(0x15, 1, 2), b"", "SEL is 2, and 1 is the most"),
-    (True, entry(0x15, 5, 0), b"", "NSID is 5, and no such namespace is configured"),
+    (True, entry(0x06, 1, 0x13), b"", "CNS is 19; at most 2 is allowed"),
+    (True, entry(0x15, 1, 2), b"", "SEL is 2; at most 1 is allowed"),
+    (True, entry(0x15, 5, 0), b"", "NSID is 5, and that namespace is not configured"),
     (True, entry(0x15, 2, 0), struct.pack("<3H", 2, 3, 1), "controller 1 comes after controller 3 in the list"),
     (True, entry(0x15, 2, 1), struct.pack("<2H", 1, 3), "controller 3 is not attached to namespace 2"),
-    (True, entry(0x15, 2, 0), struct.pack("<2H", 1, 3), "namespace 2 is private, and controller 1 has it"),
+    (True, entry(0x15, 2, 0), struct.pack("<2H", 1, 3), "namespace 2 is private, but controller 1 has it"),
     (True, entry(0x05, 0, 7 << 16 | 1, 0), b"", "PC is 0, but queues must be contiguous"),
     (True, entry(0x05, 0, 7 << 16 | 5, 1), b"", "QID is 5, and I/O queues are 1 to 4"),
     (True, entry(0x05, 0, 1, 1), b"", "QSIZE is 0, 1 entries, and 2 to 64 are taken"),
@@ -122,12 +122,12 @@ ENTRIES: List[Tuple[bool, bytes, bytes, Optional[str]]] = [
     (True, entry(0x01, 0, 7 << 16 | 1, 1 << 16 | 1, prp1=IO_SQ), b"", None),
     (True, entry(0x04, 0, 1), b"", "QID is 1, and submission queue 1 uses it"),
     (True, entry(0x09, 0, 0x07, 0x10001), b"", "an I/O queue exists: submission queue 1, completion queue 1"),
-    (False, entry(0x02, 1, 0, 0, 256), b"", "NLB is 256, 257 blocks, and 256 are the most"),
-    (False, entry(0x0D, 1, 3), b"", "RREGA (ACTION) is 3, and 2 is the most"),
+    (False, entry(0x02, 1, 0, 0, 256), b"", "NLB is 256, 257 blocks; at most 256 are allowed"),
+    (False, entry(0x0D, 1, 3), b"", "RREGA (ACTION) is 3; at most 2 is allowed"),
     (False, entry(0x11, 1, 0x108), b"", "IEKEY is 1, and only 0 is taken"),
     (False, entry(0x15, 1, 0x108), b"", "IEKEY is 1, and only 0 is taken"),
     (False, entry(0x0E, 1, 15), b"", "EDS is 0, and hosts have identifiers of 128 bits"),
-    (False, entry(0x0E, 1, 32768, 1), b"", "NUMD is 8000h, 131,076 bytes, and 131,072 are the most"),
+    (False, entry(0x0E, 1, 32768, 1), b"", "NUMD is 8000h, 131,076 bytes; at most 131,072 are allowed"),
     (False, entry(0x11, 1, 0x100), struct.pack("<QQ", 5, 0), "host c3h has registered no key"),
     (False, entry(0x0D, 1, 0), struct.pack("<QQ", 0, 5), None),
     (False, entry(0x11, 1, 0x100), struct.pack("<QQ", 6, 0), "CRKEY is 6h, and host c3h has registered key 5h"),
@@ -190,17 +190,17 @@ class CausesTest(FolderCase):
             for line, why in BAD_REQUESTS:
                 with self.subTest(line=line):
                     words = meaning(session.event(line), configuration)
-                    self.assertTrue(words.endswith(f": no command can say this: {why}"), words)
+                    self.assertTrue(words.endswith(f": no command can express this: {why}"), words)
             idle = meaning(session.event("fetch 1 1"), configuration)
             self.assertEqual(idle, "controller 1 finds nothing to fetch in queue 1: nothing is rung there that it has not "
                                    "fetched")
 
-    def test_where_they_are_told(self) -> None:
+    def test_where_they_are_reported(self) -> None:
         script = "\n".join([*SETUP, "start", "up 1", "identify 1 9 0", "ring 1", "fetch 1 0", "execute 1 0"]) + "\n"
         transcript, causes = run_script(script, LIVE)
-        self.assertEqual(causes, {5: "CNS is 9, and 2 is the most"})
+        self.assertEqual(causes, {5: "CNS is 9; at most 2 is allowed"})
         told = "\n".join(explain(script, transcript, 400, causes=causes))
-        self.assertIn("the command does not take: CNS is 9, and 2 is the most", told)
+        self.assertIn("the command does not take: CNS is 9; at most 2 is allowed", told)
         self.assertEqual(causes_of(script, transcript, LIVE), causes)
         # With a transcript that the program does not print, and without a program, there is none.
         self.assertEqual(causes_of(script, transcript.replace("0:02 6", "0:0b 4"), LIVE), {})

@@ -99,7 +99,7 @@ class StepTest(unittest.TestCase):
         self.assertEqual(script[-1], f"# expect * {shortest.model[0]}")
 
     @unittest.skipUnless(LIVE, "nvmelive is not built")
-    def test_each_kind_of_difference_is_told_once(self) -> None:
+    def test_each_kind_of_difference_is_reported_once(self) -> None:
         told: List[List[str]] = []
         for is_all in (False, True):
             words = argparse.Namespace(seed=1, scenes=4, length=30, all=is_all, output=None)
@@ -113,7 +113,7 @@ class StepTest(unittest.TestCase):
         self.assertEqual(len(set(each)), len(each), each)
         self.assertIn("# The device answers 0:00, and the model 0:80.", each)
 
-    def test_a_terminal_is_told_how_far_it_is(self) -> None:
+    def test_a_terminal_shows_the_progress(self) -> None:
         class Terminal(io.StringIO):
             def isatty(self) -> bool:
                 return True
@@ -127,7 +127,7 @@ class StepTest(unittest.TestCase):
                 self.assertEqual(compare(words, judge), 0)
             self.assertEqual(stream.getvalue(), told)
 
-    def test_a_device_that_goes_away_behind_a_difference(self) -> None:
+    def test_a_device_that_disappears_after_a_difference(self) -> None:
         """The difference is printed as it was found, and the search ends there."""
         class Gone(Zeros):
             most = 0
@@ -148,7 +148,7 @@ class StepTest(unittest.TestCase):
                 mock.patch("nvmesim.conform.command.scene", lambda *_: steps):
             self.assertEqual(compare(words, Judge([gone], [PLAIN], STANDIN)), 1)
         self.assertEqual(shown.getvalue().splitlines(), list(Judge([plain], [PLAIN], STANDIN).script(found)))
-        self.assertEqual(wrong.getvalue().count("it can't be made shorter: the system refuses it; it was "), 1)
+        self.assertEqual(wrong.getvalue().count("it can't be reduced: the system refuses it; it was "), 1)
 
     def test_what_the_system_refuses(self) -> None:
         """A device that something else has open for itself, one that is none, and a command that is not executed."""

@@ -63,7 +63,7 @@ class DocumentsTest(unittest.TestCase):
         self.assertEqual((done.returncode, done.stderr), (0, ""))
         self.assertEqual(done.stdout.count("block 1:0   512 bytes, 48656c6c6f 'Hello'"), 2)
 
-    def test_every_option_is_told(self) -> None:
+    def test_every_option_is_documented(self) -> None:
         text = (TOP / "docs" / "CLIENTS.md").read_text(encoding="utf-8")
         for command in ("explore", "test", "conform"):
             told = io.StringIO()

@@ -113,7 +113,7 @@ class ExpectTest(FolderCase):
             self.assertIn("has no expectation", str(caught.exception))
             self.assertFalse(has_marks(f"{HEAD}up 1\n{comment}\n"), comment)
 
-    def test_an_expectation_stands_behind_an_event(self) -> None:
+    def test_an_expectation_follows_an_event(self) -> None:
         for text in ("# expect up 1 ok\n" + HEAD, HEAD + "# expect up 1 ok\nup 1\n"):
             with self.assertRaises(ScriptError) as caught:
                 read_test("script", text)
@@ -136,7 +136,7 @@ class ExpectTest(FolderCase):
             came = [it.holds for it in trial.judged]
             self.assertEqual(dict(zip([*HOLDS, *BLOCKS], came)), {**HOLDS, **BLOCKS}, program)
 
-    def test_what_is_told_of_a_failure(self) -> None:
+    def test_the_report_of_a_failure(self) -> None:
         script = self.file("a.nvme", HEAD + WRITE + "# expect * 0:83\n# expect-blocks 1 0 2 48656c6c70\n"
                                                     "# expect-blocks 1 9 1 -\nflush 1 1\nreset 1\n")
         good = self.file("b.nvme", HEAD + "up 1\n# expect up 1 ok\n")

@@ -233,7 +233,7 @@ class WalkTest(unittest.TestCase):
                 outcomes += len(found)
         self.assertGreater(outcomes, 2 * 8)
 
-    def test_the_order_that_tells_an_outcome_comes_to_it_with_the_fewest_changes(self) -> None:
+    def test_the_shown_order_of_an_outcome_has_the_fewest_changes(self) -> None:
         plan = Plan(RACE_TEXT)
         for outcome, ways in walk_of(plan).explore().items():
             world = World()
@@ -244,7 +244,7 @@ class WalkTest(unittest.TestCase):
             self.assertEqual(tuple(map(world.answer, Looks(plan).last())), outcome.last)
         self.assertEqual([ways.changes - 2 for _, ways in Report(plan, walk_of(plan).explore()).found], [2, 2, 3])
 
-    def test_the_order_of_registrants_tells_no_outcomes_apart(self) -> None:
+    def test_the_order_of_registrants_does_not_distinguish_outcomes(self) -> None:
         text = HEAD
         for part, mine in (("a", 1), ("b", 2)):
             text += f"# host {part}\nregister {mine} 1 0 0 0 0 0x{mine}\nring {mine}\n"
@@ -313,7 +313,7 @@ class ProgramTest(FolderCase):
         with self.assertRaisesRegex(WorkerLacks, "a worker of the cluster does not have this package: No module"):
             explore_on_dask(Plan(SMALL), "tcp://nowhere:1", 2, str(PROGRAM), 10.0, client=Cluster())
 
-    def test_a_fault_of_a_worker_is_told_as_it_was(self) -> None:
+    def test_an_error_of_a_worker_is_passed_on(self) -> None:
         for fault in (ProgramDied(4, "ring 1", "ended"), ProgramDied(None, "", ""), ProgramHangs(1.0, "ring 1", ""),
                       ConfigurationRefused("line 3: BadId"), ScriptError(3, "why"), ProgramNotFound("nowhere")):
             came = pickle.loads(pickle.dumps(fault))

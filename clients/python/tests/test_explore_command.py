@@ -39,9 +39,9 @@ class CommandTest(FolderCase):
         for words, said in (
                 (["explore", str(RACE), "--bogus"], "unrecognized arguments: --bogus"),
                 (["explore", str(RACE), "--jobs", "x"], "invalid int value: 'x'"),
-                (["explore", str(RACE), "--jobs", "0"], "--jobs and --shards are 1 at least"),
+                (["explore", str(RACE), "--jobs", "0"], "--jobs and --shards must be at least 1"),
                 (["explore", str(RACE), "--shard", "9/8"], "'9/8' is no part; use K/N, such as 1/8"),
-                (["explore"], "explore wants a SCRIPT, or --merge and files"),
+                (["explore"], "explore needs a SCRIPT, or --merge with files"),
                 (["explore", "--merge", str(text), "--image", str(text)], "--image belongs to the parts"),
                 (["timeline", str(RACE), "--format", "png"], "a PNG file needs a name: -o FILE"),
                 (["timeline", str(RACE), "-o", "a.pdf"], "a.pdf ends with .pdf, which is no format that is written "
@@ -49,10 +49,10 @@ class CommandTest(FolderCase):
                 (["timeline", str(RACE), "-o", "a.nvme.txt"], "a.nvme.txt ends with .txt"),
                 (["explore", str(RACE), "--page", "a.svg"], "a.svg ends with .svg, which is no format that is written "
                  "here: .html, or no ending"),
-                (["conform", "--device", "/dev/null", "--scenes", "0"], "--scenes and --length are 1 at least"),
+                (["conform", "--device", "/dev/null", "--scenes", "0"], "--scenes and --length must be at least 1"),
                 (["explore", str(self.folder / "absent")], "/absent: No such file or directory"),
                 (["explain", str(fill)], "line 6: word 6: DATA, fill: and two hexadecimal digits, or hex: and pairs of "
-                 "them that BLOCKS have room for, and not 'fill:0'"),
+                 "them that BLOCKS have room for, not 'fill:0'"),
                 (["explain", str(text)], "is no text: its byte 0 is no UTF-8"),
                 (["timeline", str(RACE), "-o", "/absent/page"], "/absent/page: No such file or directory"),
                 (["explore", str(RACE), "--program", str(parrot)], "does not answer ?line"),
@@ -90,7 +90,7 @@ class CommandTest(FolderCase):
             self.assertEqual((status, told, wrong.count("\n")), (2, "", 1))
             self.assertIn(said, wrong)
 
-    def test_trifles_tell_no_outcomes_apart(self) -> None:
+    def test_unimportant_events_do_not_distinguish_outcomes(self) -> None:
         script = self.folder / "polls.nvme"
         script.write_text(SMALL.replace("# host b", "poll 1\n# host b").replace("# then", "# host c\npoll 1\n# then"),
                           encoding="utf-8")
@@ -107,7 +107,7 @@ class CommandTest(FolderCase):
         power.write_text(HEAD + "# host a\nreset 1\npoll 1\n# host b\nup 1\n# host c\nread 1 1 0 1\n", encoding="utf-8")
         self.assertIn("c.read1  refused NotReady\n   b.up1    AlreadyUp", self.explored(str(power))[1])
 
-    def test_long_values_are_told_in_short_and_told_apart_whole(self) -> None:
+    def test_long_values_are_shortened_but_compared_whole(self) -> None:
         """Two outcomes whose bytes differ in the last one only are two; no line is longer than a terminal's few."""
         script = self.folder / "long.nvme"
         one, other = "ab" * 511 + "01", "ab" * 511 + "02"

@@ -1,4 +1,4 @@
-"""What the expressions of `--always` and `--never` say, and what is refused before anything is run."""
+"""The values of expressions of `--always` and `--never`, and expressions that are refused before anything is run."""
 from __future__ import annotations
 
 import unittest

@@ -90,7 +90,7 @@ class CrashTest(FolderCase):
 @unittest.skipUnless(LIVE and HAS_COMPILER, "NVMELIVE does not name the program, or there is no C compiler")
 class FailureTest(FolderCase):
     def outcomes(self, fails: int, **options: bool) -> Dict[Tuple[str, str], int]:
-        """How many orders of the race there are by what became of the Write and the Read."""
+        """The number of orders of the race for each pair of results of the Write and the Read."""
         plan = Plan(RACE.read_text(encoding="utf-8"), fails)
         with programs_of(plan, LIVE) as programs:
             report = Report(plan, Walk(plan, programs, jobs=3, **options).explore())  # type: ignore[arg-type]

@@ -20,7 +20,7 @@ EXPECTING = ("controller 1 host 0xa1\nnamespace 1 blocks 8 shared\nattached 1 1\
 
 
 def run_command(*words: str) -> Tuple[int, str, str]:
-    """A command's status, and what it says."""
+    """A command's status, and its message."""
     told, wrong = io.StringIO(), io.StringIO()
     with contextlib.redirect_stdout(told), contextlib.redirect_stderr(wrong):
         try:

@@ -43,7 +43,7 @@ LONG = SHARED.split("# host a")[0] + "".join(
 
 
 def session_of(pid: int) -> Optional[int]:
-    """The session of a process, None where it runs no more."""
+    """The session of a process, None if it runs no more."""
     try:
         words = Path(f"/proc/{pid}/stat").read_text().rsplit(")", 1)[1].split()
     except (OSError, IndexError):
@@ -79,7 +79,8 @@ def wait_until(what: Callable[[], bool], seconds: float = 20.0) -> bool:
 @unittest.skipUnless(HAS_COMPILER, "there is no C compiler")
 class GatheringTest(unittest.TestCase):
     def test_answers_come_together(self) -> None:
-        """What a program says comes as one message once it waits for a line or ends; what is too long comes at once."""
+        """A program's output is sent as one message when it waits for a line or ends; long output is sent
+        immediately."""
         ours, theirs = socket.socketpair(socket.AF_UNIX, socket.SOCK_SEQPACKET)
         ours.settimeout(20.0)
         environment = {**os.environ, "LD_PRELOAD": str(library())}
@@ -139,7 +140,7 @@ class ForkingTest(FolderCase):
             programs.wait([other])
 
     def test_few_wait_at_once(self) -> None:
-        """Those that are too many end, and are run again from their begin."""
+        """Those that are too many end, and are run again from the start."""
         plan = Plan(SHARED)
         with mock.patch("nvmesim.explore.walk.MOST_BRANCHES", 5):
             walk = walk_of(plan, jobs=2)
@@ -154,14 +155,14 @@ class ForkingTest(FolderCase):
             self.assertEqual(library(), place)
         self.assertEqual([it.name for it in place.parent.iterdir()], [place.name])
 
-    def test_without_a_compiler_it_says_so(self) -> None:
+    def test_without_a_compiler_it_prints_a_message(self) -> None:
         told, wrong = io.StringIO(), io.StringIO()
         with mock.patch.dict(os.environ, CC="absent"), contextlib.redirect_stdout(told), \
                 contextlib.redirect_stderr(wrong):
             self.assertEqual(main(["explore", str(RACE), "--program", str(PROGRAM)]), 0)
         self.assertIn("252 orders of a 5 events, b 5 events: 3 outcomes", told.getvalue())
-        self.assertEqual(wrong.getvalue(), "nvmesim: there is no C compiler 'absent': orders are run again from their "
-                                           "begin, which is slower\n")
+        self.assertEqual(wrong.getvalue(), "nvmesim: there is no C compiler 'absent': orders are run again from the "
+                                           "start, which is slower\n")
         broken = self.folder / "broken"
         broken.write_text("#!/bin/sh\necho no; exit 1\n", encoding="utf-8")
         broken.chmod(0o755)
@@ -198,7 +199,7 @@ class ForkingTest(FolderCase):
                 if name is signal.SIGINT:
                     self.assertEqual(explorer.returncode, 2, wrong)
                     self.assertTrue(told.startswith("PARTIAL: "), told)
-                    self.assertIn("was stopped before its end", wrong)
+                    self.assertIn("was stopped early", wrong)
 
     def test_a_partial_report_finds_what_fails(self) -> None:
         script = self.folder / "long.nvme"

@@ -1,4 +1,4 @@
-"""Scripts, and what became of their commands: over the examples, and over what can't be."""
+"""Scripts and the states of their commands: over the examples, and over impossible transcripts."""
 from __future__ import annotations
 
 import unittest
@@ -36,7 +36,7 @@ class ScriptTest(unittest.TestCase):
 
 
 class FollowTest(unittest.TestCase):
-    def test_polls_hand_up_what_executions_gave(self) -> None:
+    def test_polls_deliver_the_results_of_executions(self) -> None:
         for name, script, transcript in examples():
             events = follow(list(read_lines(script)), transcript)
             for event in events:

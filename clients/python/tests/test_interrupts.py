@@ -1,4 +1,4 @@
-"""Ctrl-C and a full disk: one line that says what happened, and never a trace."""
+"""Ctrl-C and a full disk: a message of one line, and never a trace."""
 from __future__ import annotations
 
 import contextlib
@@ -27,7 +27,7 @@ class InterruptTest(FolderCase):
                                 stderr=subprocess.PIPE, env=environment, preexec_fn=heed_interrupts)
 
     def ended(self, child: "subprocess.Popen[bytes]") -> None:
-        """It is interrupted, and says so in one line."""
+        """It is interrupted, and reports that in one line."""
         child.send_signal(signal.SIGINT)
         told, wrong = child.communicate(timeout=30)
         self.assertEqual((child.returncode, told, wrong), (130, b"", b"nvmesim: interrupted\n"))

@@ -1,4 +1,4 @@
-"""The answers of looking lines, in the forms that nvmelive gives."""
+"""The answers of queries, in the forms that nvmelive gives."""
 from __future__ import annotations
 
 import unittest

@@ -1,4 +1,4 @@
-"""The plugin for pytest, where some Python on this machine has pytest."""
+"""The plugin for pytest, if some Python on this machine has pytest."""
 from __future__ import annotations
 
 import os

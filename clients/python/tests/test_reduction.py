@@ -94,7 +94,7 @@ class ReductionTest(unittest.TestCase):
                 few, many, _ = self.check(scene(seed))
                 run, all_of_them = run + few, all_of_them + many
         self.assertLess(run, 0.8 * all_of_them)
-        print(f"{SCENES} scenes: {run} events in place of {all_of_them}, {time.monotonic() - begun:.1f} seconds")
+        print(f"{SCENES} scenes: {run} events instead of {all_of_them}, {time.monotonic() - begun:.1f} seconds")
 
     @unittest.skipUnless(LIVE, "NVMELIVE does not name the program")
     def test_over_the_program(self) -> None:

@@ -1,4 +1,4 @@
-"""Reservation Reports taken apart, from their bytes and from a subsystem; and hosts of 128 bits."""
+"""Reservation Reports parsed, from their bytes and from a subsystem; and hosts of 128 bits."""
 from __future__ import annotations
 
 import unittest
@@ -79,8 +79,8 @@ class ReportTest(unittest.TestCase):
                       f"controller 2 belongs to host {HIGH:x}h, with a driver",
                       "Successful Completion (0:00); generation 1, Write Exclusive, persists, 1 registered controller; "
                       f"controller 1 of host {LOW:x}h with key 11h, a holder",
-                      "generation 1, Write Exclusive, persists, 1 registered controller; and 1 that the report has no "
-                      "room for",
+                      "generation 1, Write Exclusive, persists, 1 registered controller; and 1 that the report cuts "
+                      "off",
                       "48 bytes, 0100000001"):
             with self.subTest(words):
                 self.assertIn(words, told)

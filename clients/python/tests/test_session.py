@@ -18,7 +18,7 @@ ANSWERS = "for line in sys.stdin:\n    print({answer}, flush=True)\n"
 
 
 class UserTest(unittest.TestCase):
-    """Each test runs over the stand-in, and over the real program where it was built."""
+    """Each test runs over the stand-in, and over the real program if it was built."""
 
     def test_one_call_does_all(self) -> None:
         for program in PROGRAMS:
@@ -272,7 +272,7 @@ class BadProgramTest(FolderCase):
                     session.configure("controller 1 host 1")
 
     def test_an_answer_of_another_line_raises(self) -> None:
-        program = self.program("told = iter(['started', 'rung 2'])\n" + ANSWERS.format(answer="next(told)"))
+        program = self.program("answers = iter(['started', 'rung 2'])\n" + ANSWERS.format(answer="next(answers)"))
         with Session(program=program) as session:
             session.start()
             with self.assertRaises(ProtocolError):

@@ -97,7 +97,7 @@ class ShellTest(FolderCase):
         wanted = {
             "?identify 2 1": "! controller 2 is a raw host's, and has no driver that could ask it",
             "?identify 3 1": "! there is no controller 3",
-            "?identify 1 x": "! CNS, a number below 2^8, and not 'x': ?identify C CNS [NSID]",
+            "?identify 1 x": "! CNS, a number below 2^8, not 'x': ?identify C CNS [NSID]",
             "?identify 1 9": "! it is answered Invalid Field in Command (0:02)",
             "?identify 1": "! ?identify C CNS [NSID] is how it is written", "?report 5": "! there is no such namespace",
             "?report": "! ?report N is how it is written", "?controllers 1": "! ?controllers is how it is written",
@@ -129,11 +129,11 @@ class ShellTest(FolderCase):
         self.assertEqual(told[12], "! start takes no words")
         self.assertTrue(told[13].startswith("! line 2 word 1: "), told[13])
         self.assertEqual(told[14:], [
-            "ok", "refused line 4: BadSize; line 2: namespace 1 has 70000 blocks, and 65536 is the most", kept,
+            "ok", "refused line 4: BadSize; line 2: namespace 1 has 70000 blocks; at most 65536 are allowed", kept,
             "ok", "started", "up 1 ok", "host 1h's driver comes up, and controller 1 with it"])
 
     def test_blocks_that_do_not_fit(self) -> None:
-        """In memory the message says how to get more blocks; over an image there is no such way."""
+        """In memory the message describes how to get more blocks; over an image it does not."""
         lines = ["controller 1 host 1", "namespace 1 blocks 65536 shared", "start"]
         more = "for more blocks than the 1,024 in memory: truncate -s 32M disk.img, and ./nvmelive disk.img"
         status, told, _ = self.typed(lines)
@@ -214,7 +214,7 @@ def at_terminal(command: Sequence[str], keys: Sequence[Tuple[bytes, bytes]]) -> 
 
 
 def shown_next(terminal: int, last: bytes) -> Optional[bytes]:
-    """What a terminal shows next; None where the other side is closed. Ctrl-C is typed again where nothing follows it
+    """What a terminal shows next; None if the other side is closed. Ctrl-C is typed again if nothing follows it
     for a second: Python's readline passes over a signal that comes while it shows a key."""
     if not select.select([terminal], [], [], 1)[0]:
         if last == INTERRUPT:

@@ -87,7 +87,7 @@ class TimelineTest(FolderCase):
             seen |= {(name.startswith("raw"), it) for it in wanted}
         self.assertLessEqual({(is_raw, it) for is_raw in (True, False) for it in ("changes", "looks", "other")}, seen)
 
-    def test_it_needs_nothing_beside_it(self) -> None:
+    def test_it_is_self_contained(self) -> None:
         script = HEAD + "flush 1 1\n"
         page = timeline(script, transcript_of(script), "<b>&\"'")
         self.assertNotIn("<b>", page)
@@ -116,7 +116,7 @@ class TimelineTest(FolderCase):
         self.assertEqual([it.findtext(f"{SPACE}title") for it in captions], ["First of all", "host a"])
         places = [float(it.find(f"{SPACE}rect").get("y", 0))  # type: ignore[union-attr]
                   for it in (*with_class(parts, "event"), *captions)]
-        self.assertEqual(len(set(places)), len(places), "no caption lies over an event")
+        self.assertEqual(len(set(places)), len(places), "no caption covers an event")
 
     def test_bands_say_who_is_registered_and_who_holds(self) -> None:
         script = HEAD.replace("start", "controller 2 host 0xb2\nattached 2 1\nstart\nup 2")
@@ -134,7 +134,7 @@ class TimelineTest(FolderCase):
         self.assertEqual(len(with_class(parts, "holds")), 2)
         self.assertEqual(len(with_class(parts, "key")), 2)
 
-    def test_the_first_denied_command_is_said_at_once(self) -> None:
+    def test_the_first_denied_command_is_shown_first(self) -> None:
         script = HEAD + "read 1 1 8 1\nring 1\nfetch 1 1\nexecute 1 0\npoll 1\n"
         page = timeline(script, transcript_of(script))
         self.assertIn('<p class="first"><a href="#" data-go="5">Event 5</a>', page)
@@ -184,7 +184,7 @@ class TimelineTest(FolderCase):
         (self.folder / "rsvg-convert").write_text("#!/bin/sh\necho no; exit 1\n", encoding="utf-8")
         with path, self.assertRaisesRegex(NoFormat, "makes no PNG.*: no$"):
             png(script, transcript_of(script), "none")
-        with self.assertRaisesRegex(NoFormat, "is the most"):
+        with self.assertRaisesRegex(NoFormat, "at most"):
             png(HEAD + "ring 1\n" * 1500, transcript_of(HEAD + "ring 1\n" * 1500), "tall")
 
     def test_five_hundred_events(self) -> None:
@@ -195,7 +195,7 @@ class TimelineTest(FolderCase):
         self.assertEqual(len(parts), -(-505 // ROWS_OF_A_PART))
         self.assertEqual(len(with_class(parts, "cross")), 36)
 
-    def test_no_text_lies_over_another_or_over_a_span(self) -> None:
+    def test_no_text_covers_another_or_a_span(self) -> None:
         """By letters of 7.3 pixels in the heads, and of 6 in the numbers of rules."""
         hosts = range(1, 17)
         head = "".join(f"controller {it} host 0x{it:x}{'f' * 30}\n" for it in hosts) + "namespace 1 blocks 8 shared\n"

@@ -1,5 +1,4 @@
-// A program that knows only devices: it opens them, and makes the control calls of linux/nvme_ioctl.h. What it finds is
-// checked here.
+// The client of the tests: a program that only opens devices and makes the ioctls of linux/nvme_ioctl.h, with checks.
 #ifndef CLIENT_H
 #define CLIENT_H
 
@@ -43,19 +42,19 @@ void fail(const char *file, int line, const char *what);
 void check_is(const char *file, int line, const char *what, long long found, long long wanted);
 void check_fails(const char *file, int line, const char *what, int found, int why);
 
-// Whether the hosts have drivers, whose requests say fewer commands than a raw host can spell.
+// Whether the hosts have drivers, whose requests can express fewer commands than a raw host.
 extern bool has_driver;
-// The status of a command that no request says because of a field, where there are drivers; else this one.
+// The expected status of a command with a field that no request can express: `status`, or Invalid Field with drivers.
 int of_raw(int status);
 
 int open_device(const char *name);
 void fill(uint8_t *at, size_t length, unsigned seed);
 bool is_filled(const uint8_t *at, size_t length, unsigned seed);
-// Room of this many bytes that begins at an offset of its page, with 64 bytes of A5h after it.
+// A buffer of `length` bytes at an offset of its page, followed by 64 guard bytes of A5h.
 uint8_t *room_at(size_t length, size_t offset);
 bool is_guarded(const uint8_t *room, size_t length);
 
-// A command to its end: its status, or -1 and errno.
+// Executes a command. Returns its status, or -1 with errno.
 int admin(int fd, uint8_t opcode, uint32_t nsid, uint32_t cdw10, uint32_t cdw11, void *data, uint32_t length);
 int io(int fd, uint8_t opcode, uint32_t nsid, uint32_t cdw10, uint32_t cdw11, uint32_t cdw12, void *data,
        uint32_t length);

@@ -1,4 +1,4 @@
-// A namespace as a block device: positions, bytes and blocks, flags, the end, and what becomes of a command that fails.
+// A namespace as a block device: positions, bytes and blocks, flags, the end, and a command that fails.
 #define _GNU_SOURCE
 #include "client.h"
 

@@ -53,7 +53,7 @@ static void try_descriptors(void) {
     CHECK_IS(ioctl(fd, BLKSSZGET, &size), 0);
     CHECK_IS(size, 512);
     CHECK_FAILS(ioctl(fd, BLKDISCARD, &bytes), EOPNOTSUPP);
-    // A controller and a generic device have control calls alone, and streams are refused where they are opened.
+    // A controller and a generic device have control calls alone, and streams are refused when they are opened.
     int controller = open_device("/dev/nvme0"), generic = open_device("/dev/ng0n1");
     CHECK_FAILS((int)read(controller, &byte, 1), EBADF);
     CHECK_FAILS((int)write(generic, &byte, 1), EBADF);

@@ -28,7 +28,7 @@ static const struct {
     {"files", try_files}, {"disk", try_disk}, {"others", try_others},
 };
 
-// `gone DEVICE SECONDS`: opens a device, waits for a byte, and says what a command then comes to.
+// `gone DEVICE SECONDS`: opens a device, waits for a byte, then prints the result of a command.
 static int tell_gone(const char *device) {
     int fd = open_device(device);
     puts("open");

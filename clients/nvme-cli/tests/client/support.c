@@ -20,7 +20,7 @@ void fail(const char *file, int line, const char *what) {
 
 void check_is(const char *file, int line, const char *what, long long found, long long wanted) {
     if (found != wanted) {
-        fprintf(stderr, "%s:%d: %s is %#llx, and not %#llx (errno %d, %s)\n", file, line, what, found, wanted, errno,
+        fprintf(stderr, "%s:%d: %s is %#llx instead of %#llx (errno %d, %s)\n", file, line, what, found, wanted, errno,
                 strerror(errno));
         exit(1);
     }
@@ -28,7 +28,7 @@ void check_is(const char *file, int line, const char *what, long long found, lon
 
 void check_fails(const char *file, int line, const char *what, int found, int why) {
     if (found != -1 || errno != why) {
-        fprintf(stderr, "%s:%d: %s gives %d with errno %d (%s), and not -1 with %d (%s)\n", file, line, what, found,
+        fprintf(stderr, "%s:%d: %s returns %d with errno %d (%s) instead of -1 with %d (%s)\n", file, line, what, found,
                 errno, strerror(errno), why, strerror(why));
         exit(1);
     }

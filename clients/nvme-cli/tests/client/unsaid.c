@@ -71,14 +71,14 @@ static void short_data(int fd, int namespace) {
 }
 
 void try_unsaid(void) {
-    uint8_t before[PAGE], behind[PAGE];
+    uint8_t before[PAGE], after[PAGE];
     int fd = open_device("/dev/nvme0"), namespace = open_device("/dev/nvme0n1");
     CHECK_IS(io(namespace, REPORT, 1, PAGE / 4 - 1, 1, 0, before, PAGE), SUCCESS);
     other_opcodes(fd, namespace);
     other_fields(fd, namespace);
     short_data(fd, namespace);
-    CHECK_IS(io(namespace, REPORT, 1, PAGE / 4 - 1, 1, 0, behind, PAGE), SUCCESS);
-    CHECK(memcmp(before, behind, PAGE) == 0);
+    CHECK_IS(io(namespace, REPORT, 1, PAGE / 4 - 1, 1, 0, after, PAGE), SUCCESS);
+    CHECK(memcmp(before, after, PAGE) == 0);
     CHECK_IS(ioctl(fd, NVME_IOCTL_RESET), 0);
     CHECK_IS(io(namespace, FLUSH, 1, 0, 0, 0, NULL, 0), SUCCESS);
 }

@@ -1,4 +1,4 @@
-"""A device compared with the model: the same commands on both, and the first answer that differs."""
+"""Compares a device with the model: sends the same commands to both, and reports the first answer that differs."""
 from __future__ import annotations
 
 from .device import Abilities, Answer, Commands, Device, DeviceFault

@@ -18,7 +18,7 @@ _FIELDS: Dict[str, Dict[str, Any]] = {
     "compare": {"has_compare": False}, "write-zeroes": {"has_zeroes": False},
     "write-protection": {"has_protection": False}, "attachment": {"has_attachment": False},
     "reservations": {"rtypes": ()}}
-"""What a device may lack, and how it says so."""
+"""What a device may lack, and how it reports that."""
 
 
 def add_arguments(parser: argparse.ArgumentParser) -> None:
@@ -31,12 +31,12 @@ def add_arguments(parser: argparse.ArgumentParser) -> None:
     parser.add_argument("--second", metavar="DEVICE", help="the same namespace by another controller, for scenes of "
                         "two hosts")
     parser.add_argument("--destroy-data", action="store_true", help="write to the device")
-    parser.add_argument("--dry-run", action="store_true", help="say what would be written, and write nothing")
+    parser.add_argument("--dry-run", action="store_true", help="print the plan, and write nothing")
     parser.add_argument("--seed", type=int, default=1, metavar="N", help="the number of the first scene")
     parser.add_argument("--scenes", type=int, default=50, metavar="N", help="the number of scenes")
     parser.add_argument("--length", type=int, default=40, metavar="N", help="the number of commands in a scene")
     parser.add_argument("--without", metavar="NAME", action="append", default=[], choices=list(_FIELDS),
-                        help=f"leave out as if a device lacked it: {', '.join(_FIELDS)}")
+                        help=f"treat as missing on the device: {', '.join(_FIELDS)}")
     parser.add_argument("--all", action="store_true", help="continue after a difference, and report each kind once")
     parser.add_argument("--output", metavar="FILE", help="write the script there too; with --all the last one")
     add_force(parser)
@@ -44,9 +44,9 @@ def add_arguments(parser: argparse.ArgumentParser) -> None:
 
 
 def run(words: argparse.Namespace) -> int:
-    """Carries the command out; its exit status."""
+    """Executes the command. Returns its exit status."""
     if words.scenes < 1 or words.length < 1:
-        raise DeviceFault("--scenes and --length are 1 at least")
+        raise DeviceFault("--scenes and --length must be at least 1")
     inputs = [words.device, words.second, words.program]
     output = Output(words.output, inputs, words.force) if words.output else None
     devices: List[Device] = []
@@ -62,7 +62,7 @@ def run(words: argparse.Namespace) -> int:
         if words.dry_run:
             return 0
         if not words.destroy_data:
-            raise DeviceFault("nothing was written: --destroy-data is needed for that, --dry-run for the plan alone")
+            raise DeviceFault("nothing was written: give --destroy-data to write, or --dry-run to print the plan")
         _check_free(devices[0], judge)
         return compare(words, judge, output)
     finally:
@@ -71,7 +71,7 @@ def run(words: argparse.Namespace) -> int:
 
 
 def _plan(devices: List[Device], hosts: List[Abilities]) -> Iterator[str]:
-    """What would be written where, and what is left out."""
+    """Which blocks would be written, and what is left out."""
     for device, it in zip(devices, hosts):
         yield f"{device.path}: {it.model}, controller {it.cntlid}, namespace {device.nsid} of {it.blocks} blocks"
     if any((it.blocks, device.nsid) != (hosts[0].blocks, devices[0].nsid) for it, device in zip(hosts, devices)):
@@ -93,15 +93,15 @@ def _plan(devices: List[Device], hosts: List[Abilities]) -> Iterator[str]:
 
 
 def _check_free(device: Device, judge: Judge) -> None:
-    """Refuses a namespace that somebody has registered for."""
+    """Refuses a namespace that has registrants."""
     if judge.hosts[0].rtypes:
         answer = device.submit(Step(0, "report").command([]))
         if answer.status == "0:00" and parse_report(answer.data).count:
-            raise DeviceFault(f"{device.path} has registrants: somebody uses it; nothing was written")
+            raise DeviceFault(f"{device.path} has registrants, so it is in use; nothing was written")
 
 
 def compare(words: argparse.Namespace, judge: Judge, output: Optional[Output] = None) -> int:
-    """Plays the scenes, and prints the first difference, or one of each kind; the exit status."""
+    """Plays the scenes, and prints the first difference, or one of each kind. Returns the exit status."""
     told: Set[Tuple[str, str, str]] = set()
     for number in range(words.seed, words.seed + words.scenes):
         _show(f"scene {number - words.seed + 1} of {words.scenes}")
@@ -127,20 +127,20 @@ def compare(words: argparse.Namespace, judge: Judge, output: Optional[Output] = 
 
 
 def _show(text: str) -> None:
-    """Overwrites the progress line on a terminal."""
+    """Clears the progress line on a terminal."""
     if sys.stderr.isatty():
         print(f"\r{text}\033[K", end="", file=sys.stderr, flush=True)
 
 
 def _shortened(judge: Judge, found: Difference) -> Tuple[Difference, bool]:
-    """The shortest difference, and whether the device is still there: a command that differs may have taken it away."""
+    """The shortest difference, and whether the device still answers: the command that differs may have disabled it."""
     try:
         return judge.shortened(found), True
     except DeviceFault as fault:
-        print(f"it can't be made shorter: {fault}", file=sys.stderr)
+        print(f"it can't be reduced: {fault}", file=sys.stderr)
         return found, False
 
 
 def _kind(found: Difference) -> Tuple[str, str, str]:
-    """The command that is answered differently, and the two statuses."""
+    """The command whose answers differ, and the two statuses."""
     return found.step.verb, found.device[0], found.model[0]

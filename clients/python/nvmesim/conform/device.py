@@ -1,4 +1,4 @@
-"""A namespace of an NVMe device, by the control calls of Linux, and what it says of itself."""
+"""A namespace of an NVMe device through the ioctls of Linux, and its Identify data."""
 from __future__ import annotations
 
 import ctypes
@@ -20,13 +20,13 @@ IDENTIFY_BYTES = 4096
 
 
 class DeviceFault(NvmesimError):
-    """A device that can't be compared, with the reason."""
+    """The device can't be compared, with the reason."""
 
 
 @dataclass(frozen=True)
 class Command:
-    """A command: its queue, its opcode, the double words 10 to 13, the bytes that go to the device, and how many come
-    from it."""
+    """A command: its queue, its opcode, the double words 10 to 13, the bytes for the device, and how many it
+    returns."""
 
     is_admin: bool
     opcode: int
@@ -39,7 +39,7 @@ class Command:
 
 @dataclass(frozen=True)
 class Answer:
-    """What a command came to: its status as transcripts have it, double word 0, and the data that came."""
+    """The result of a command: its status as transcripts have it, double word 0, and the returned data."""
 
     status: str
     value: int = 0
@@ -47,14 +47,14 @@ class Answer:
 
 
 class Commands(Protocol):
-    """What carries commands out on one namespace: a device, or what a test puts before it."""
+    """Executes commands on one namespace: a device, or a test's wrapper of one."""
 
     def submit(self, command: Command) -> Answer:
-        """A command to its end."""
+        """Executes a command."""
 
 
 class Device:
-    """An open device, such as /dev/nvme0n1. Nothing else may use it: it is opened for this process alone.
+    """An open device, such as /dev/nvme0n1. It is opened exclusively, so nothing else can use it.
 
     Attributes:
         path: its name.
@@ -62,7 +62,7 @@ class Device:
     """
 
     def __init__(self, path: str) -> None:
-        """Opens the device. Raises `FileFault` if it can't be, and `DeviceFault` if it is no namespace."""
+        """Opens the device. Raises `FileFault` if that fails, and `DeviceFault` if it isn't a namespace."""
         self.path = path
         with doing("open", path):
             self._file = os.open(path, os.O_RDWR | os.O_EXCL | os.O_CLOEXEC)
@@ -77,7 +77,7 @@ class Device:
         os.close(self._file)
 
     def submit(self, command: Command) -> Answer:
-        """A command to its end. Raises `DeviceFault` where the system itself refuses it."""
+        """Executes a command. Raises `DeviceFault` if the kernel refuses it."""
         size = max(len(command.sent), command.wanted)
         room = ctypes.create_string_buffer(command.sent, size) if size else None
         address = ctypes.addressof(room) if room is not None else 0
@@ -103,7 +103,7 @@ def identify(device: Commands, cns: int) -> bytes:
 
 @dataclass(frozen=True)
 class Abilities:
-    """What a device says of itself by Identify.
+    """A device's properties, from Identify.
 
     Attributes:
         blocks: the blocks of its namespace, of 512 bytes each.
@@ -111,9 +111,9 @@ class Abilities:
         cntlid: its controller.
         host: the identifier of the host that uses it.
         model: its model and serial number.
-        most_blocks: the most blocks of a command that are tried.
+        most_blocks: the largest number of blocks of a command that is tried.
         has_compare, has_zeroes, has_protection, has_attachment: which commands it has.
-        rtypes: which types of reservations it has; none where it has no reservations.
+        rtypes: which types of reservations it has; none if it has no reservations.
         has_persistence: whether these may persist through a loss of power.
     """
 
@@ -132,12 +132,12 @@ class Abilities:
 
     @classmethod
     def of(cls, device: Commands) -> Abilities:
-        """Asks a device. Raises `DeviceFault` where it can't be compared."""
+        """Reads the properties of a device. Raises `DeviceFault` if it can't be compared."""
         controller, namespace = identify(device, 1), identify(device, 0)
         blocks, = struct.unpack_from("<Q", namespace)
         form = namespace[128 + 4 * (namespace[26] & 0xF):][:4]
         if blocks < 64:
-            raise DeviceFault(f"the namespace has {blocks} blocks, and 64 at least are compared")
+            raise DeviceFault(f"the namespace has {blocks} blocks, but the comparison needs at least 64")
         if form[2] != 9 or form[0] or form[1]:
             raise DeviceFault(f"the namespace has blocks of {1 << form[2]} bytes and {form[0] + 256 * form[1]} of "
                               "metadata; the model has blocks of 512 bytes and no metadata")
@@ -152,6 +152,6 @@ class Abilities:
 
 
 def _host_of(device: Commands) -> int:
-    """The host's identifier; 0 where the device does not tell one of 128 bits."""
+    """The host's identifier; 0 if the device does not report one of 128 bits."""
     answer = device.submit(Command(True, _GET_FEATURES, _HOST_IDENTIFIER, 1, wanted=16))
     return int.from_bytes(answer.data, "little") if answer.status == "0:00" else 0

@@ -1,4 +1,4 @@
-"""Plays a scene on the devices and on the model, compares what comes, and makes a difference as short as it can be."""
+"""Plays a scene on the devices and on the model, compares the answers, and shortens a scene whose answers differ."""
 from __future__ import annotations
 
 import struct
@@ -14,7 +14,7 @@ from .scenes import KEYS
 from .steps import REGION, Step
 
 Told = Tuple[str, str]
-"""What a step came to: its status, and in words what else is compared."""
+"""The result of a step: its status, and in words the rest that is compared."""
 
 
 @dataclass(frozen=True)
@@ -22,9 +22,9 @@ class Difference:
     """A scene whose last step is answered differently.
 
     Attributes:
-        steps: the steps of the scene; those that prepare and those that look at the end are not among them.
+        steps: the steps of the scene, without those that prepare it and those that query the end.
         step: the step that is answered differently.
-        device, model: what came.
+        device, model: the two answers.
     """
 
     steps: Tuple[Step, ...]
@@ -37,7 +37,7 @@ class Judge:
     """Devices, each of a host, compared with the model.
 
     Attributes:
-        hosts: what the devices say of themselves.
+        hosts: the devices' properties.
         runs: how many scenes were played so far.
     """
 
@@ -52,7 +52,7 @@ class Judge:
         self.runs = 0
 
     def preparation(self) -> List[Step]:
-        """What is done before each scene: nobody is registered, nothing is protected, and the blocks are zeros."""
+        """The steps before each scene. They remove registrants and write protection, and zero the blocks."""
         found: List[Step] = []
         if all(it.has_protection for it in self.hosts):
             found.append(Step(0, "protect", (0,)))
@@ -64,7 +64,8 @@ class Judge:
         return [*found, Step(0, "write", (0, REGION, 0)), Step(0, "write", (blocks - REGION, REGION, 0))]
 
     def ending(self) -> List[Step]:
-        """The state that is compared after each scene: the reservation and, once it is cleared, all blocks."""
+        """The steps after each scene, which read the state to compare: the reservation and, once it is cleared, all
+        blocks."""
         found: List[Step] = []
         if all(it.rtypes for it in self.hosts):
             found = [Step(0, "report"), Step(0, "register", (2, 1, 0, 0, KEYS[0])), Step(0, "release", (1, 0, KEYS[0])),
@@ -75,7 +76,7 @@ class Judge:
         return [*found, Step(0, "read", (0, REGION)), Step(0, "read", (blocks - REGION, REGION))]
 
     def play(self, steps: Sequence[Step]) -> Optional[Difference]:
-        """Plays a scene: the first step that is answered differently, if there is one."""
+        """Plays a scene. Returns the first step whose answers differ, if any."""
         self.runs += 1
         bases = [0, 0]
         with Model(self.hosts, self._program, self._seconds) as model:
@@ -84,7 +85,7 @@ class Judge:
                     answers = (self._submit(step, several[:place]), model.submit(step))
                     if part == 0 and step.verb == "report":
                         bases = [_generation(it, base) for it, base in zip(answers, bases)]
-                    told = [self._told(step, it, base, side == 1)
+                    told = [self._compared_part(step, it, base, side == 1)
                             for side, (it, base) in enumerate(zip(answers, bases))]
                     if told[0] != told[1]:
                         done = steps[:place + 1] if part == 1 else steps if part == 2 else ()
@@ -92,15 +93,16 @@ class Judge:
         return None
 
     def _submit(self, step: Step, before: Sequence[Step]) -> Answer:
-        """A step on its device. A fault of the system names the step and the one before it, which may be the cause."""
+        """Runs a step on its device. An error of the kernel names the step and the one before it, which may be the
+        cause."""
         try:
             return self._devices[step.host].submit(step.command(self._cntlids))
         except DeviceFault as fault:
-            behind = f", after {before[-1].words}" if before else ""
-            raise DeviceFault(f"{fault}; it was {step.words}{behind}") from None
+            cause = f", after {before[-1].words}" if before else ""
+            raise DeviceFault(f"{fault}; it was {step.words}{cause}") from None
 
     def shortened(self, found: Difference) -> Difference:
-        """The same with as few steps as can be: none can be left out without the difference going."""
+        """The difference with the fewest steps: without any one of them it disappears."""
         shortest, size = found, max(1, len(found.steps) // 2)
         while True:
             shorter = self._without_pieces(shortest, size)
@@ -109,7 +111,7 @@ class Judge:
             shortest, size = shorter, max(1, size // 2)
 
     def _without_pieces(self, found: Difference, size: int) -> Difference:
-        """The same without those runs of `size` steps that a difference does not need."""
+        """The difference without the runs of `size` steps that it does not need."""
         begin = 0
         while begin < len(found.steps):
             again = self.play(found.steps[:begin] + found.steps[begin + size:])
@@ -119,8 +121,8 @@ class Judge:
                 found = again
         return found
 
-    def _told(self, step: Step, answer: Answer, base: int, is_model: bool) -> Told:
-        """What is compared of an answer."""
+    def _compared_part(self, step: Step, answer: Answer, base: int, is_model: bool) -> Told:
+        """The part of an answer that is compared."""
         if answer.status != "0:00":
             return answer.status, ""
         if step.verb == "read":
@@ -150,7 +152,7 @@ class Judge:
         return "; ".join([head, *sorted(rows)])
 
     def script(self, found: Difference) -> Iterator[str]:
-        """A difference as a script for the model, with what it expects there and what the device answered."""
+        """A difference as a script for the model, with the expected answer and the device's answer."""
         with Model(self.hosts, self._program, self._seconds) as model:
             places = model.places
         yield f"# The device answers {_said(found.device)}, and the model {_said(found.model)}."
@@ -172,7 +174,7 @@ def _said(told: Told) -> str:
 
 
 def _number_of(cntlid: int, cntlids: Sequence[int]) -> int:
-    """The number here of a device's controller, from 1; 0 for one that is not compared."""
+    """The number of a device's controller in scripts, from 1; 0 for one that is not compared."""
     return cntlids.index(cntlid) + 1 if cntlid in cntlids else 0
 
 

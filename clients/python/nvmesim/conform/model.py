@@ -11,18 +11,18 @@ from .device import Abilities, Answer
 from .steps import Places, Step
 
 MOST_BLOCKS = 1024
-"""The blocks of the model at most: those that it has in memory."""
+"""The most blocks of the model, all in memory."""
 
 
 class Model:
     """A run of the model. Use it in a `with`.
 
     Attributes:
-        places: where the blocks of the devices are in it.
+        places: maps the blocks of the devices to its own.
     """
 
     def __init__(self, hosts: Sequence[Abilities], program: Optional[PathLike], seconds: float) -> None:
-        """Starts a subsystem with a driver for each host, and a namespace that all have."""
+        """Starts a subsystem with a driver for each host, and a namespace that is attached to all."""
         self.places = Places(hosts[0].blocks, min(hosts[0].blocks, MOST_BLOCKS))
         self._session = Session(program=program, seconds=seconds)
         for line in setup_lines(hosts, self.places):
@@ -37,7 +37,7 @@ class Model:
         self._session.close()
 
     def submit(self, step: Step) -> Answer:
-        """A step to its end."""
+        """Runs a step."""
         lines = step_lines(step, self.places)
         placed, *_, polled = self._session.ask_all(lines)
         answer = parse_answer(polled)
@@ -47,7 +47,7 @@ class Model:
 
 
 def host_identifiers(hosts: Sequence[Abilities]) -> List[int]:
-    """A host of the model for each device: devices with one identifier that is not 0 have one host."""
+    """A host of the model for each device. Devices with the same identifier share a host, unless it is 0."""
     known: Dict[int, int] = {}
     found: List[int] = []
     for number, it in enumerate(hosts, 1):

@@ -1,4 +1,4 @@
-"""Scenes: commands at random, from a seed, of what all devices of a comparison have."""
+"""Scenes: random commands from a seed, among those that all compared devices support."""
 from __future__ import annotations
 
 import random
@@ -8,13 +8,13 @@ from .device import Abilities
 from .steps import REGION, Step
 
 KEYS = (0x11, 0x22, 0x33, 0)
-"""The keys of scenes: that of each host comes first."""
+"""The keys of scenes: each host's own key first."""
 
 _Maker = Callable[[random.Random, int], Tuple[int, ...]]
 
 
 def scene(seed: int, hosts: Sequence[Abilities], length: int) -> List[Step]:
-    """`length` commands of these hosts, determined by a seed."""
+    """`length` random commands of these hosts, from a seed."""
     chance, makers = random.Random(seed), _makers(hosts)
     words = list(makers)
     found: List[Step] = []
@@ -26,7 +26,7 @@ def scene(seed: int, hosts: Sequence[Abilities], length: int) -> List[Step]:
 
 
 def _makers(hosts: Sequence[Abilities]) -> "dict[str, _Maker]":
-    """What makes the numbers of each command; a word comes as often as its command shall."""
+    """The makers of each command's numbers. A word that is listed several times is chosen more often."""
     blocks, most = hosts[0].blocks, min(it.most_blocks for it in hosts)
 
     def ranges(chance: random.Random, _: int) -> Tuple[int, ...]:

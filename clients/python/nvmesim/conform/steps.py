@@ -1,4 +1,4 @@
-"""The steps of a comparison: each is a line of a script for the model, and a command for the device."""
+"""The steps of a comparison: a line of a script for the model, and a command for the device."""
 from __future__ import annotations
 
 import struct
@@ -37,14 +37,14 @@ class Step:
 
     @property
     def data(self) -> bytes:
-        """The data of a Write or a Compare: no two blocks are alike."""
+        """The data of a Write or a Compare: all blocks differ."""
         _, count, seed = self.numbers
         return b"".join(struct.pack("<HH", seed, n + 1).ljust(16, bytes([seed % 251 + 1])).ljust(BLOCK_BYTES, b"\0")
                         for n in range(count)) if seed else bytes(BLOCK_BYTES * count)
 
     @property
     def words(self) -> str:
-        """The step in a message: its word and numbers, and the host."""
+        """The step for a message: its word and numbers, and the host."""
         return f"'{' '.join(map(str, (self.verb, *self.numbers)))}' of host {self.host + 1}"
 
     def line(self, places: Places) -> str:
@@ -77,7 +77,7 @@ class Places:
     model_blocks: int
 
     def of_model(self, slba: int) -> int:
-        """The place in the model of a block of the device."""
+        """The model's block for a block of the device."""
         return slba if slba < self.device_blocks // 2 else slba - self.device_blocks + self.model_blocks
 
 

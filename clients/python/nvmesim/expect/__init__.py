@@ -1,4 +1,4 @@
-"""Scripts as tests: comments that say what an event must be answered, and what became of them.
+"""Scripts as tests: comments with the expected answers of events, and their results.
 
     from nvmesim.expect import read_test, try_script
 

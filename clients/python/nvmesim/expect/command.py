@@ -33,7 +33,7 @@ def add_arguments(parser: argparse.ArgumentParser) -> None:
 
 
 def run(words: argparse.Namespace) -> int:
-    """Carries the command out; its exit status."""
+    """Executes the command. Returns its exit status."""
     output = Output(words.junit, [*words.scripts, words.image, words.program], words.force) if words.junit else None
     trials: List[Trial] = []
     refused: List[_Refused] = []
@@ -57,7 +57,7 @@ def run(words: argparse.Namespace) -> int:
 
 
 def _tried(words: argparse.Namespace, name: str, medium: Medium) -> Union[Trial, _Refused]:
-    """What became of a script, or why it is no test; a program that can't be found ends the command."""
+    """The result of a script, or why it isn't a test. Raises if the program is not found."""
     try:
         test = read_test(name, text_of(name))
         with medium.of_a_run(configuration_of(test.lines).blocks) as image:

@@ -1,4 +1,4 @@
-"""What became of tests as a report of JUnit's form, which the services for continuous integration read."""
+"""Results of tests as a JUnit report, which continuous integration services read."""
 from __future__ import annotations
 
 import re
@@ -9,7 +9,7 @@ from .told import failure_rows, line_of, unanswered_words
 from .trials import Judged, Trial
 
 Refused = Tuple[str, str]
-"""A file that is no test: its name, and why."""
+"""A file that isn't a test: its name, and why."""
 
 # What XML 1.0 can't have, not even spelled out.
 _UNSPEAKABLE = re.compile("[^\t\n\r\x20-\ud7ff\ue000-\ufffd\U00010000-\U0010ffff]")
@@ -37,7 +37,7 @@ def _suite(trial: Trial) -> xml.Element:
     errors = len(trial.test.expectations) - len(trial.judged)
     if trial.fault and not errors:
         cases.append(_new_case(trial.test.name, 0, "the run to its end"))
-        _add(cases[-1], "error", "the run did not come to its end", trial.fault)
+        _add(cases[-1], "error", "the run did not complete", trial.fault)
         errors = 1
     suite = xml.Element("testsuite", name=_clean(trial.test.name), tests=str(len(cases)), errors=str(errors),
                         failures=str(len(trial.failed)), skipped="0", time=f"{trial.seconds:.3f}")
@@ -79,5 +79,5 @@ def _add(case: xml.Element, kind: str, message: str, text: str) -> None:
 
 
 def _clean(text: str) -> str:
-    """A text without what XML can't have."""
+    """A text without the characters that XML forbids."""
     return _UNSPEAKABLE.sub("?", text)

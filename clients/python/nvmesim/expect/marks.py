@@ -1,7 +1,7 @@
 """Reads the expectations of a script: comments `# expect ..` and `# expect-blocks ..` after its events.
 
-They are comments, so every program runs such a script as it is. What nearly is such a comment is refused: a slip must
-not make a test that can't fail.
+They are comments, so every program runs the script unchanged. A comment that nearly is an expectation is refused, since
+a typo must not make a test that can't fail.
 """
 from __future__ import annotations
 
@@ -15,9 +15,9 @@ from ..script import MOST_BLOCKS, LineKind, ScriptLine, read_lines
 from . import patterns
 
 EXPECT = "expect"
-"""The word of a comment that says what the event above it is answered."""
+"""The first word of a comment with the expected answer of the event above it."""
 EXPECT_BLOCKS = "expect-blocks"
-"""The word of a comment that says what blocks hold after the event above it."""
+"""The first word of a comment with the expected content of blocks after the event above it."""
 
 _COMMENT = re.compile(r"#([ \t]*)(\S*)[ \t\r]*(.*?)[ \t\r]*\Z")
 _SLIPS = ("expected", "expecting", "expectation", "expectations", "expected-blocks")
@@ -30,7 +30,7 @@ class AnswerExpected:
     Attributes:
         line: the comment's line, from 1.
         text: the comment.
-        event: the number of the event that it is after, from 1.
+        event: the number of the event before it, from 1.
         words: the answer's words, `*` among them.
     """
 
@@ -41,7 +41,7 @@ class AnswerExpected:
 
     @property
     def wanted(self) -> str:
-        """The answer that is expected, as the comment has it."""
+        """The expected answer, as the comment has it."""
         return " ".join(self.words)
 
     def holds(self, answer: str) -> bool:
@@ -51,13 +51,13 @@ class AnswerExpected:
 
 @dataclass(frozen=True)
 class BlocksExpected:
-    """What blocks of a namespace must have at a place of the script.
+    """The expected content of blocks of a namespace at a place of the script.
 
     Attributes:
         line: the comment's line, from 1.
         text: the comment.
-        event: the number of the event that it is after; 0 where it is before all.
-        nsid, slba, count: the namespace, the first block, and how many, 1 to 256.
+        event: the number of the event before it; 0 if there is none.
+        nsid, slba, count: the namespace, the first block, and the number of blocks, 1 to 256.
         data: the bytes of all of them.
     """
 
@@ -87,7 +87,8 @@ def read_test(name: str, text: str) -> ScriptTest:
     """Reads a script that is a test.
 
     Raises:
-        ScriptError: it is no script, has no expectation, has one that can never hold, or a comment that nearly is one.
+        ScriptError: it isn't a script, has no expectation, has one that can never hold, or a comment that nearly is
+        one.
     """
     lines = tuple(read_lines(text))
     found: List[Expectation] = []
@@ -153,7 +154,7 @@ def _answer_expected(line: ScriptLine, words: Sequence[str], events: int, last: 
 
 
 def _blocks_expected(line: ScriptLine, words: Sequence[str], events: int) -> BlocksExpected:
-    """Blocks and their bytes, which are read as those of a Write."""
+    """Blocks and their bytes, in the form of a Write."""
     if len(words) != 4:
         raise ScriptError(line.number, f"{line.text!r} is not '# expect-blocks N SLBA COUNT HEX'")
     spelled = {"-": "hex:00"}.get(words[3], words[3] if words[3].startswith("fill:") else f"hex:{words[3]}")

@@ -1,4 +1,4 @@
-"""Answers that are expected: whole, or with `*` for words that do not matter."""
+"""Expected answers: complete, or with `*` for words that do not matter."""
 from __future__ import annotations
 
 import difflib
@@ -30,11 +30,11 @@ _DIGITS = re.compile(r"(?:(?:[0-9a-f]{2})+|-)\Z")
 
 
 class NeverAnswered(ValueError):
-    """No answer of the line is as expected; with the reason."""
+    """No answer of the line can match, with the reason."""
 
 
 def check_pattern(line: ScriptLine, words: Sequence[str]) -> None:
-    """Refuses what can never hold of the answer of a line, and what says nothing of it.
+    """Refuses an expectation that no answer of the line matches, and one that every answer matches.
 
     Raises:
         NeverAnswered: with the reason.
@@ -61,7 +61,7 @@ def holds(words: Sequence[str], answer: str) -> bool:
 
 
 def _begins(words: Tuple[str, ...], answer: Tuple[str, ...]) -> bool:
-    """Whether an answer begins as these words say."""
+    """Whether an answer begins with these words."""
     while words and words[0] != ANY:
         if not answer or words[0] != answer[0]:
             return False
@@ -70,14 +70,14 @@ def _begins(words: Tuple[str, ...], answer: Tuple[str, ...]) -> bool:
 
 
 def _check_parts(line: ScriptLine, words: Sequence[str]) -> None:
-    """Refuses words with a `*` among them that no answer of the line has, or that tell nothing."""
-    if set(_behind_head(line, words)) <= {ANY}:
+    """Refuses words with a `*` that no answer of the line matches, or that every answer matches."""
+    if set(_after_head(line, words)) <= {ANY}:
         raise NeverAnswered(f"{' '.join(words)!r} holds of every answer of {line.text!r}")
     known = _known(line)
     for before, word in zip(("", *words), words):
         if before == ANY and _NUMBER.match(word):
             raise NeverAnswered(f"the number {word} after a '*' can be any number of the answer: "
-                                "say the word before it too")
+                                "give the word before it too")
         if word != ANY and not _is_word(line, word, known):
             raise NeverAnswered(f"no answer of {line.text!r} has the word {word!r}{_hint(line, word)}")
     head = words[0]
@@ -112,8 +112,8 @@ def _own_numbers(line: ScriptLine) -> Tuple[str, ...]:
     return tuple(map(str, line.numbers()[:count]))
 
 
-def _behind_head(line: ScriptLine, words: Sequence[str]) -> Sequence[str]:
-    """What an expectation says beyond the words that each answer of the line begins with."""
+def _after_head(line: ScriptLine, words: Sequence[str]) -> Sequence[str]:
+    """The words of an expectation after those that each answer of the line begins with."""
     heads = _heads(line)
     for word in (heads if len(heads) == 1 else ()) + _own_numbers(line):
         words = words[1:] if words and words[0] == word else words
@@ -121,13 +121,13 @@ def _behind_head(line: ScriptLine, words: Sequence[str]) -> Sequence[str]:
 
 
 def _hint(line: ScriptLine, word: str) -> str:
-    """What was meant by a word that no answer of the line has, or how its answers begin."""
+    """A suggestion for a word that no answer of the line has, or how its answers begin."""
     near = difflib.get_close_matches(word, sorted(_known(line)), 1, 0.6)
     return f"; did you mean {near[0]!r}?" if near else f"; {_forms(line)}"
 
 
 def _forms(line: ScriptLine) -> str:
-    """How answers of a line begin."""
+    """The words that answers of a line begin with."""
     if line.is_power_cycle:
         return "its answer is 'powercycle'"
     heads = " or ".join(repr(" ".join((it, *_own_numbers(line)))) for it in _heads(line))

@@ -1,4 +1,4 @@
-"""Formats the results of tests: what was expected next to what came, and a summary."""
+"""Formats the results of tests: expected and actual answers, and a summary."""
 from __future__ import annotations
 
 from typing import Iterable, Iterator, List, Tuple
@@ -13,11 +13,11 @@ from .trials import Judged, Trial
 _MOST_BYTES = 24
 
 Row = Tuple[str, str]
-"""A word, and what it says."""
+"""A label and its text."""
 
 
 def trial_lines(trial: Trial) -> Iterator[str]:
-    """What became of one test, in lines that begin with `FILE:LINE:` where a line of the script is meant."""
+    """The result of one test, in lines that begin with `FILE:LINE:` if they are about a line of the script."""
     name, count = trial.test.name, len(trial.test.expectations)
     for it in trial.failed:
         yield f"{name}:{it.expectation.line}: FAILED"
@@ -32,7 +32,7 @@ def trial_lines(trial: Trial) -> Iterator[str]:
 
 
 def failure_rows(trial: Trial, judged: Judged) -> Iterator[Row]:
-    """The rows about an expectation that does not hold, each with its word."""
+    """The labelled rows about an expectation that does not hold."""
     if judged.event is not None:
         yield "event", judged.event.line.text
     if isinstance(judged.expectation, AnswerExpected):
@@ -61,7 +61,7 @@ def _block_rows(wanted: BlocksExpected, judged: Judged) -> Iterator[Row]:
 
 
 def _piece(data: bytes, begin: int) -> str:
-    """Some bytes from a place on, as `?blocks` spells them."""
+    """Some bytes from an offset on, in the form of `?blocks`."""
     piece = data[begin:begin + _MOST_BYTES]
     rest = data[begin + _MOST_BYTES:].rstrip(b"\0")
     shown = piece.hex() if rest else piece.rstrip(b"\0").hex() or "-"
@@ -74,7 +74,7 @@ def line_of(trial: Trial, command: Command) -> int:
 
 
 def unanswered_words(command: Command) -> str:
-    """A request whose answer was not delivered, and how far it is."""
+    """A request whose answer was not delivered, and the steps that it went through."""
     later = {"rung": command.rung, "fetched": command.fetched, "executed": command.executed, "aborted": command.reset}
     steps = ["placed", *(word for word, event in later.items() if event is not None)]
     return f"{command_words(command)}, ticket {command.ticket} of controller {command.controller}; {', '.join(steps)}"
@@ -86,7 +86,7 @@ def counted(number: int, what: str) -> str:
 
 
 def summary(trials: Iterable[Trial], refused: int) -> str:
-    """The summary of the trials, and of `refused` files that are no tests."""
+    """The summary of the trials, and of `refused` files that aren't tests."""
     whole: List[Trial] = list(trials)
     wanted = sum(len(it.test.expectations) for it in whole)
     failed = sum(len(it.failed) for it in whole)

@@ -1,4 +1,4 @@
-"""Runs a script that is a test, and judges its expectations by what came."""
+"""Runs a script that is a test, and checks its expectations."""
 from __future__ import annotations
 
 import time
@@ -10,21 +10,21 @@ from ..causes import event_cause
 from ..errors import LineError, NvmesimError
 from ..history import Command, Event
 from ..process import PathLike
-from ..script import LineKind, configuration_of
+from ..script import LineKind, configuration_of, is_any_size
 from ..session import SECONDS, Session
 from .marks import AnswerExpected, BlocksExpected, Expectation, ScriptTest
 
 
 @dataclass(frozen=True)
 class Judged:
-    """An expectation and what came.
+    """An expectation and the actual answer.
 
     Attributes:
         expectation: what was expected.
         event: the event that it follows; None for blocks before all events.
-        came: the answer, or the bytes of the blocks; None where the program could not look at them.
+        came: the answer, or the bytes of the blocks; None if the program could not read them.
         why: why it could not.
-        holds: whether that was expected.
+        holds: whether it matches the expectation.
     """
 
     expectation: Expectation
@@ -44,7 +44,7 @@ class Trial:
         events: the events that happened.
         causes: why events denied commands by rules 6 and 11, by their numbers.
         unanswered: the requests whose answers were not delivered at the end.
-        fault: why the run did not come to its end; an empty text where it did.
+        fault: why the run stopped early; an empty string if it completed.
         seconds: how long it took.
     """
 
@@ -63,17 +63,17 @@ class Trial:
 
     @property
     def is_good(self) -> bool:
-        """Whether it came to its end and every expectation holds."""
+        """Whether the run completed and every expectation holds."""
         return not self.fault and not self.failed
 
 
 def try_script(test: ScriptTest, image: PathLike = "-", program: Optional[PathLike] = None,
                seconds: float = SECONDS) -> Trial:
-    """Runs a test to its end, whatever fails on the way.
+    """Runs a test to its end, even if expectations fail.
 
     Args:
         test: the script.
-        image: the file of the blocks, which is written; `-` for 1,024 blocks of zeros in memory.
+        image: the file with the blocks, which the run changes; `-` for 1,024 blocks of zeros in memory.
         program: the program `nvmelive`; None for the one that `find_program` finds.
         seconds: the time limit of each answer.
 
@@ -81,7 +81,8 @@ def try_script(test: ScriptTest, image: PathLike = "-", program: Optional[PathLi
         ProgramNotFound: there is no such program.
     """
     trial, begun = Trial(test), time.monotonic()
-    with Session(image, program, seconds) as session:
+    any_size = bool(test.lines) and is_any_size(test.lines[0].text)
+    with Session(image, program, seconds, any_size) as session:
         try:
             _run(session, trial)
         except NvmesimError as fault:
@@ -93,7 +94,7 @@ def try_script(test: ScriptTest, image: PathLike = "-", program: Optional[PathLi
 
 
 def _run(session: Session, trial: Trial) -> None:
-    """Every line in its order, also those that say nothing, so that the program counts lines as the script does."""
+    """Every line in order, including comments and blank lines, so that the program's line numbers are the script's."""
     wanted = {it.line: it for it in trial.test.expectations}
     configuration = configuration_of(trial.test.lines)
     event: Optional[Event] = None

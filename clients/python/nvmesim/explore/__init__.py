@@ -1,4 +1,4 @@
-"""Every order of the marked events of a script: what each comes to, and whether something always or never holds."""
+"""Runs a script's marked events in every order. Reports the outcomes, and whether a condition always or never holds."""
 from __future__ import annotations
 
 from typing import Callable, Optional, Sequence
@@ -29,7 +29,7 @@ def explore(plan: Plan, program: Optional[PathLike] = None, prefixes: Sequence[O
         seconds: the time limit of each answer.
         report: receives what was done, while it continues.
         medium: what each run begins with; None for zeros, as many blocks as its namespaces take.
-        is_reduced: whether the second order of two events that commute is spared.
+        is_reduced: whether only one order of two events that commute is run.
     """
     with programs_of(plan, program, seconds, medium) as programs:
         walk = Walk(plan, programs, prefixes, jobs, report, is_reduced)
@@ -41,8 +41,7 @@ def explore(plan: Plan, program: Optional[PathLike] = None, prefixes: Sequence[O
 
 def programs_of(plan: Plan, program: Optional[PathLike] = None, seconds: float = SECONDS,
                 medium: Optional[Medium] = None, tell: Callable[[str], None] = lambda why: None) -> Programs:
-    """The programs that explore a plan: forked while they wait, or else started anew; `tell` is called with the
-    reason."""
+    """The programs that explore a plan: forked while they wait, or else started anew; `tell` receives the reason."""
     found = find_program(program)
     try:
         loaded = library()
@@ -59,6 +58,6 @@ def programs_of(plan: Plan, program: Optional[PathLike] = None, seconds: float =
 
 def explore_shard(text: str, shard: Shard, program: Optional[PathLike] = None, jobs: int = 1,
                   seconds: float = SECONDS, medium: Optional[Medium] = None) -> Findings:
-    """What the orders of one part of a script's exploration come to; for workers that get the script as a text."""
+    """The outcomes of one part of an exploration, for workers that get the script as a string."""
     plan = Plan(text)
     return explore(plan, program, shard.prefixes(plan), jobs, seconds, medium=medium)

@@ -1,8 +1,7 @@
-"""Programs that wait where an order has come to. Each is branched from where it waits, or its order is run again.
+"""Programs that wait after the events of an order. A program is forked there, or its events are run again.
 
-With the library that forks it, a program that waits for a line is copied there: the copy has all that the program has
-in memory, and a copy of its image if it has one. Without it a branch is a program of its own, to which the order so far
-is sent again.
+The library forks a program that waits for a line: the fork gets the memory, and a copy of the image if any.
+Without the library a branch is a new program, to which the events so far are sent again.
 """
 from __future__ import annotations
 
@@ -22,38 +21,38 @@ from .marks import CRASH
 from .medium import Medium
 
 MOST_BRANCHES = 256
-"""The most programs that wait at once."""
+"""The largest number of programs that wait at once."""
 _HEADS = ("ok", "started")
 _MOST_TOLD = 1 << 16
 _LARGE_PAGES = "glibc.malloc.hugetlb=1:glibc.malloc.mmap_threshold=1073741824:glibc.malloc.top_pad=4194304"
 
 
 class NoFork(NvmesimError):
-    """The system does not let a program be forked."""
+    """The program can't be forked."""
 
 
 class Branch(Protocol):
-    """A subsystem that waits somewhere in an order."""
+    """A subsystem that waits after some events of an order."""
 
     @property
     def calls_left(self) -> int:
-        """The call of its image that fails, counted from now; 0 where none does."""
+        """The call of its image that fails, counted from now; 0 if none does."""
 
     def end_faults(self) -> None:
-        """Lets no more call of its image fail."""
+        """From now on no call of its image fails."""
 
     def ask(self, lines: Sequence[str]) -> None:
-        """Begins to ask lines; `Branches.wait` gives the answers."""
+        """Sends lines; `Branches.wait` returns the answers."""
 
     def fork(self) -> Branch:
-        """Another branch that waits there too."""
+        """A fork of this branch."""
 
     def close(self) -> None:
         """Ends it."""
 
 
 class Branches(Protocol):
-    """What an exploration can branch.
+    """Subsystems that an exploration can fork.
 
     Attributes:
         can_fork: whether a branch can be forked; else it can only continue.
@@ -70,10 +69,10 @@ class Branches(Protocol):
         """A branch that waits after these events, which it runs with its first question."""
 
     def reopen(self, branch: Branch) -> Branch:
-        """Ends a branch as a crash does: a branch that was just begun, over its medium as it was left."""
+        """Ends a branch like a crash. Returns a new branch over its medium."""
 
     def wait(self, asked: Collection[Branch]) -> List[Tuple[Branch, List[str]]]:
-        """Waits until branches that were asked have answered: which, and the answers."""
+        """Waits for answers of branches. Returns the branches with their answers."""
 
 
 class _Program:
@@ -137,7 +136,7 @@ class Programs:
             seconds: the time limit of each answer.
             medium: what each begins with; None for zeros in memory.
             library: the library that forks it; None to run orders again.
-            tell: is called with the reason why programs can't be forked, though there is a library.
+            tell: receives the reason why programs can't be forked although there is a library.
             fails: the call of the image that fails, 0 for none; only if they can be forked.
         """
         self.program, self.setup, self.seconds, self.fails = program, list(setup), seconds, fails
@@ -187,9 +186,9 @@ class Programs:
                 branch, self._base = self._base, None
             else:
                 branch = self._base.forked(self._base.image)
-        return self._behind(branch, list(lines))
+        return self._continued(branch, list(lines))
 
-    def _behind(self, branch: _Program, lines: List[str]) -> _Program:
+    def _continued(self, branch: _Program, lines: List[str]) -> _Program:
         """A branch after these events too, the last of which it runs with its first question."""
         while CRASH in lines:
             place = lines.index(CRASH)
@@ -201,7 +200,7 @@ class Programs:
         return branch
 
     def reopen(self, branch: Branch) -> _Program:
-        """A program that has just opened the image of a branch, which ends."""
+        """Ends a branch, and starts a program over its image."""
         assert isinstance(branch, _Program)
         if branch.owed:
             branch.ask(())
@@ -211,8 +210,8 @@ class Programs:
         return opened
 
     def _started(self, left: Optional[int] = None) -> _Program:
-        """A program of its own, after the setup, over a fresh medium or a copy of one that was left. Without its
-        greeting it has no library, and can't be forked."""
+        """A new program after the setup, over a new medium or a copy of one. Without a greeting it has no library, so
+        it can't be forked."""
         ours, theirs = socket.socketpair()
         image = self.medium.fresh() if left is None else self.medium.copy_of(left)
         kept = [] if image is None else [image]
@@ -258,7 +257,7 @@ class Programs:
         by_channel: Dict[Channel, _Program] = {it.channel: it for it in asked if isinstance(it, _Program)}
         came, late = wait_for(by_channel, self.seconds)
         if late:
-            raise ProgramHangs(self.seconds, late[0].line, self._told())
+            raise ProgramHangs(self.seconds, late[0].line, self._last_errors())
         found: List[Tuple[Branch, List[str]]] = []
         for channel in came:
             branch = by_channel[channel]
@@ -273,7 +272,7 @@ class Programs:
         return found
 
     def _end_of(self, branch: _Program) -> NvmesimError:
-        """How a program ended."""
+        """The error for a program that ended."""
         if branch.child is None and not branch.channel.has_greeted:
             return NoFork("the system lets no more programs be forked: try fewer with --jobs 1")
         status = None
@@ -282,10 +281,10 @@ class Programs:
                 status = branch.child.wait(1.0)
             except subprocess.TimeoutExpired:
                 pass
-        return death_of(status, branch.channel.line, self._told())
+        return death_of(status, branch.channel.line, self._last_errors())
 
-    def _told(self) -> str:
-        """The last of what was on standard error."""
+    def _last_errors(self) -> str:
+        """The last part of standard error."""
         end = self._errors.seek(0, os.SEEK_END)
         self._errors.seek(max(0, end - _MOST_TOLD))
         return self._errors.read().decode("utf-8", "replace")
@@ -306,7 +305,7 @@ def _check_setup(setup: Sequence[str], answers: Sequence[str]) -> None:
 
 
 def _check(channel: Channel, answers: Sequence[str]) -> None:
-    """Refuses what a script is refused for."""
+    """Raises the error of a refused line."""
     for line, answer in zip(channel.lines, answers):
         if answer.startswith("refused line"):
             raise ConfigurationRefused(answer[len("refused "):])

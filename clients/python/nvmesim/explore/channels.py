@@ -1,4 +1,4 @@
-"""A program's standard input and output as one socket: lines go out and answers come in, and nothing waits."""
+"""A program's standard input and output as one non-blocking socket."""
 from __future__ import annotations
 
 import select
@@ -21,9 +21,9 @@ class Channel:
     """The explorer's end of a program's socket.
 
     Attributes:
-        has_greeted: whether the program has said its number, as it does with the library that forks it.
-        lines: what was asked last.
-        calls_left: the call of the image that fails, counted from now; 0 where none does.
+        has_greeted: whether the program has sent its process number, which the forking library does.
+        lines: the lines that were sent last.
+        calls_left: the call of the image that fails, counted from now; 0 if none does.
     """
 
     def __init__(self, end: socket.socket) -> None:
@@ -43,7 +43,7 @@ class Channel:
 
     @property
     def line(self) -> str:
-        """The first line that was not answered."""
+        """The first line without an answer."""
         return self.lines[len(self._answers)] if len(self._answers) < len(self.lines) else ""
 
     @property
@@ -68,11 +68,11 @@ class Channel:
             self._unsent = memoryview(b"")
 
     def receive(self) -> Optional[List[str]]:
-        """Takes what came; the answers where all are there, else None.
+        """Receives data. Returns the answers when they are complete, else None.
 
         Raises:
             Ended: the program has closed its end.
-            ProtocolError: it has said more than answers.
+            ProtocolError: it has sent more lines than answers.
         """
         try:
             piece = self._end.recv(_PIECE)
@@ -98,7 +98,7 @@ class Channel:
         return self._answers
 
     def send_word(self, descriptors: Sequence[int]) -> None:
-        """Sends descriptors, which are no input, but the word to fork."""
+        """Sends descriptors with the request to fork."""
         socket.send_fds(self._end, [_NO_ANSWER], list(descriptors))
 
     def let_fail(self, call: int) -> None:
@@ -112,8 +112,8 @@ class Channel:
 
 
 def wait_for(channels: Collection[Channel], seconds: float) -> Tuple[List[Channel], List[Channel]]:
-    """Waits until something comes from one of them: those from which something came, and all of which nothing came
-    in this time; it sends what is unsent meanwhile."""
+    """Waits for input from any of them, and sends unsent lines meanwhile. Returns those with input, and those that
+    timed out."""
     by_number: Dict[int, Channel] = {it.fileno(): it for it in channels}
     until = time.monotonic() + seconds
     while True:

@@ -96,9 +96,9 @@ def _outputs(words: argparse.Namespace) -> Dict[str, Output]:
 def _check_words(words: argparse.Namespace) -> None:
     """Refuses options that do not go together."""
     if (words.script is None) == (words.merge is None):
-        raise NvmesimError("explore wants a SCRIPT, or --merge and files")
+        raise NvmesimError("explore needs a SCRIPT, or --merge with files")
     if words.jobs < 1 or words.shards < 1:
-        raise NvmesimError("--jobs and --shards are 1 at least")
+        raise NvmesimError("--jobs and --shards must be at least 1")
     if words.merge is not None and words.image is not None:
         raise NvmesimError("--image belongs to the parts, not to their --merge")
     if words.fail < 0 or words.fail and (words.merge is not None or words.dask is not None or words.shard is not None):
@@ -106,7 +106,7 @@ def _check_words(words: argparse.Namespace) -> None:
     if words.within is not None and (words.dask is not None or words.shard is not None):
         raise NvmesimError("--within excludes --shard and --dask")
     if words.shard is not None and (words.always or words.never or words.dask is not None):
-        raise NvmesimError("--shard prints what --merge judges: give --always and --never there")
+        raise NvmesimError("give --always and --never to --merge, not to --shard")
 
 
 def _shard(words: argparse.Namespace, plan: Plan) -> int:
@@ -115,7 +115,7 @@ def _shard(words: argparse.Namespace, plan: Plan) -> int:
     with Medium(words.image, plan.blocks) as medium:
         found, is_whole = _found(words, plan, shard, medium)
     if not is_whole:
-        raise NvmesimError("the part was stopped before its end, and nothing of it is printed")
+        raise NvmesimError("the part was stopped early, so nothing of it is printed")
     for line in json_lines(plan, shard, found, medium.digest):
         print(line)
     return 0
@@ -164,7 +164,7 @@ def _found(words: argparse.Namespace, plan: Plan, shard: Shard, medium: Medium) 
     progress = Progress(plan, sys.stderr)
     until: Optional[float] = None if words.within is None else time.monotonic() + words.within
     with programs_of(plan, words.program, words.seconds, medium,
-                     lambda why: _tell(f"{why}: orders are run again from their begin, which is slower")) as programs:
+                     lambda why: _tell(f"{why}: orders are run again from the start, which is slower")) as programs:
         walk = Walk(plan, programs, shard.prefixes(plan), words.jobs, progress.report, not words.all_orders)
         found = walk.explore(until)
     progress.end()
@@ -175,7 +175,7 @@ def _found(words: argparse.Namespace, plan: Plan, shard: Shard, medium: Medium) 
 
 def _report(words: argparse.Namespace, outputs: Dict[str, Output], plan: Plan, checks: Sequence[Check],
             found: Findings, is_whole: bool = True) -> int:
-    """Prints what was found; 1 where something is not as it must be, 2 where too little was judged to say so."""
+    """Prints the report. Returns 1 if a check fails, 2 if too few orders were judged."""
     report = Report(plan, found, checks, is_whole, _by(words, plan), words.trifles)
     if words.shrink and not report.is_good:
         _shrink(words, plan, report)
@@ -190,7 +190,7 @@ def _report(words: argparse.Namespace, outputs: Dict[str, Output], plan: Plan, c
     if not report.is_good:
         return 1
     if not is_whole:
-        raise NvmesimError("the exploration was stopped before its end: the report is of the orders that were judged")
+        raise NvmesimError("the exploration was stopped early; the report covers the orders that were judged")
     if checks and report.orders < FEWEST_ORDERS:
         raise NvmesimError(f"{report.why_one_order()}: --always and --never are judged by {FEWEST_ORDERS} orders at "
                            "least")

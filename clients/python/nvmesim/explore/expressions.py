@@ -1,10 +1,10 @@
-"""The expressions of `--always` and `--never`: a small part of Python's, over named answers.
+"""The expressions of `--always` and `--never`: a subset of Python's, over named answers.
 
     a.write1 == 'Successful Completion' and not b.write1.rule == 7
     implies(a.acquire1 == 'Successful Completion', reservation(1).holder == 0xa1)
     block(1, 0) in ('b2', '')
 
-An expression is taken apart and judged here; no code of it is run.
+An expression is parsed and evaluated here; it is never executed as Python.
 """
 from __future__ import annotations
 
@@ -45,7 +45,7 @@ class Expression:
     """An expression whose names are checked against a plan before anything is run."""
 
     def __init__(self, text: str, plan: Plan, watched: Iterable[str] = ()) -> None:
-        """Takes an expression apart.
+        """Parses an expression.
 
         Args:
             text: the expression.
@@ -53,7 +53,7 @@ class Expression:
             watched: the lines that look at blocks, `?blocks N SLBA COUNT`.
 
         Raises:
-            ExpressionError: it is none, or names something that the script has not.
+            ExpressionError: it isn't an expression, or names something that the script does not have.
         """
         self.text = text
         self._plan = plan
@@ -68,7 +68,7 @@ class Expression:
         self._check(self._tree)
 
     def holds(self, values: Values) -> bool:
-        """Whether it holds of an outcome. Raises `ExpressionError` where it compares what can't be compared."""
+        """Whether it holds of an outcome. Raises `ExpressionError` if it compares what can't be compared."""
         try:
             return bool(self._plain(self._evaluate(self._tree, values)))
         except TypeError as fault:
@@ -81,7 +81,7 @@ class Expression:
                      and not (isinstance(it, ast.Call) and ast.unparse(it.func) == "implies"))
 
     def value(self, values: Values) -> Hashable:
-        """What it comes to in an outcome."""
+        """Its value in an outcome."""
         try:
             found: Hashable = self._evaluate(self._tree, values)
         except TypeError as fault:
@@ -89,7 +89,7 @@ class Expression:
         return found
 
     def told(self, values: Values) -> str:
-        """The same in short: of many bytes the first ones, how many there are, and a digest."""
+        """The value for a message: of many bytes the first ones, the number of bytes, and a digest."""
         found = self.value(values)
         if isinstance(found, Value):
             return str(found)
@@ -105,7 +105,7 @@ class Expression:
         return ExpressionError(f"{self.text!r}: {why}")
 
     def _check(self, node: ast.expr) -> None:
-        """Refuses whatever is not of the language."""
+        """Refuses everything outside the language."""
         if isinstance(node, ast.BoolOp):
             self._check_all(node.values)
         elif isinstance(node, ast.UnaryOp) and isinstance(node.op, ast.Not):
@@ -122,7 +122,7 @@ class Expression:
         elif isinstance(node, (ast.Tuple, ast.List, ast.Set)):
             self._check_all(node.elts)
         elif not (isinstance(node, ast.Constant) and isinstance(node.value, (str, int, bool, type(None)))):
-            raise self._fault(f"{ast.unparse(node)} says nothing here")
+            raise self._fault(f"{ast.unparse(node)} does not belong here")
 
     def _check_all(self, nodes: Iterable[ast.expr]) -> None:
         for node in nodes:
@@ -171,7 +171,7 @@ class Expression:
                                   "case, without the zeros at their end")
 
     def _known(self, node: ast.expr) -> Optional[AbstractSet[Any]]:
-        """What a value can be; None where that is not known."""
+        """What a value can be; None if that is not known."""
         if not isinstance(node, ast.Attribute):
             return None
         if isinstance(node.value, ast.Call):

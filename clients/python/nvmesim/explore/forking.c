@@ -85,7 +85,7 @@ ssize_t write(int file, const void *from, size_t size)
     return (ssize_t)size;
 }
 
-/* Says the number of this process, once. */
+/* Sends the number of this process, once. */
 static void tell_number(void)
 {
     char line[32];
@@ -97,7 +97,7 @@ static void tell_number(void)
         _exit(2);
 }
 
-/* How many calls of the image are left until one fails; 0 where none does. */
+/* How many calls of the image are left until one fails; 0 if none does. */
 static long left;
 
 /* Counts a call of the image; whether it fails. */

@@ -69,9 +69,9 @@ class Independence:
         return found
 
     def _touched(self, step: Step, command: str) -> Touched:
-        """The same; `command` is the request that is executed. By `others_are_untouched` and `hosts_are_apart` an event
-        changes its own host and controller only, by `calls_are_of_executions` only executions reach the medium, and by
-        `only_allowed_commands_change` only they change reservations."""
+        """The parts that an event touches; `command` is the request that is executed. By `others_are_untouched` and
+        `hosts_are_apart` an event changes its own host and controller only, by `calls_are_of_executions` only
+        executions reach the medium, and by `only_allowed_commands_change` only they change reservations."""
         verb, number = step.line.verb, step.line.controller
         if step.line.is_of_all or command == _UNKNOWN:
             return EVERYTHING

@@ -12,7 +12,7 @@ VERSION = 1
 
 
 def json_report(report: Report) -> Dict[str, Any]:
-    """What `explore --json` prints: all that the report says, and of each outcome what expressions can name."""
+    """What `explore --json` prints: the report, and for each outcome all that expressions can name."""
     return {
         "report": VERSION, "script": report.plan.text, "parts": report.plan.parts, "orders": report.plan.orders,
         "judged": report.orders, "is_whole": report.is_whole, "is_good": report.is_good,
@@ -32,7 +32,7 @@ def _ways(report: Report, ways: Ways) -> Dict[str, Any]:
 
 
 def _values(values: Values) -> Dict[str, Any]:
-    """What an outcome says."""
+    """The named answers of an outcome."""
     reservations = {str(nsid): {
         "rtype": int(it.rtype), "name": it.rtype.text, "holder": "all" if it.is_held_by_all else it.holder,
         "generation": it.generation, "persists": it.persists, "protection": int(it.protection),
@@ -44,7 +44,7 @@ def _values(values: Values) -> Dict[str, Any]:
 
 
 def _check(report: Report, check: Check) -> Dict[str, Any]:
-    """Whether a check is met, and by what order it is not."""
+    """Whether a check is met, or an order that breaks it."""
     broken = report.broken(check)
     example = "".join(f"{it}\n" for it in report.example(check)) if broken else None
     return {"check": check.name, "is_met": not broken, "fails_in": sum(ways.count for _, ways in broken),

@@ -1,4 +1,4 @@
-"""What kind of value a part of an expression has: a comparison of two kinds says nothing, and is refused beforehand."""
+"""The type of a part of an expression. A comparison of different types is refused, since it is always false."""
 from __future__ import annotations
 
 import ast
@@ -12,7 +12,7 @@ _ORDERING = (ast.Lt, ast.LtE, ast.Gt, ast.GtE)
 
 
 def kind_of(node: ast.expr) -> Optional[str]:
-    """The kind of a value, as far as the expression determines it."""
+    """The type of a value, as far as the expression determines it."""
     if isinstance(node, ast.Constant):
         kinds = {bool: TRUTH, int: NUMBER, str: TEXT}
         return kinds.get(type(node.value))
@@ -24,7 +24,7 @@ def kind_of(node: ast.expr) -> Optional[str]:
 
 
 def fault_of(node: ast.Compare) -> str:
-    """Why a comparison says nothing, or an empty text."""
+    """Why a comparison is useless, or an empty string."""
     sides = [node.left, *node.comparators]
     for left, how, right in zip(sides, node.ops, sides[1:]):
         if isinstance(how, (ast.In, ast.NotIn)):
@@ -40,7 +40,7 @@ def fault_of(node: ast.Compare) -> str:
 
 
 def _are_alike(left: Optional[str], right: Optional[str], is_ordering: bool) -> bool:
-    """Whether values of two kinds can be compared; a truth counts as a number, except for which is greater."""
+    """Whether values of two types can be compared; a Boolean counts as a number, except for < and >."""
     if left is None or right is None or left == right:
         return True
     return not is_ordering and {left, right} == {NUMBER, TRUTH}

@@ -1,4 +1,4 @@
-"""The library that forks the program: compiled on first use, and again where its source has changed."""
+"""The library that forks the program: compiled on first use, and again if its source has changed."""
 from __future__ import annotations
 
 import hashlib
@@ -15,7 +15,7 @@ FLAGS = ["-std=c11", "-O2", "-Wall", "-Wextra", "-Wpedantic", "-fPIC", "-shared"
 
 
 class NoLibrary(NvmesimError):
-    """The library can't be had: there is no C compiler, or it does not compile the library."""
+    """The library can't be built: there is no C compiler, or it fails."""
 
 
 def folder() -> Path:
@@ -28,7 +28,7 @@ def library() -> Path:
     """The library, compiled if it is not there yet. Its name has its source's digest.
 
     Raises:
-        NoLibrary: it can't be had.
+        NoLibrary: it can't be built.
     """
     digest = hashlib.sha256("\0".join(FLAGS).encode() + b"\0" + SOURCE.read_bytes())
     compiler = os.environ.get("CC", "cc")
@@ -40,7 +40,7 @@ def library() -> Path:
             place.parent.mkdir(parents=True, exist_ok=True)
             _compile(compiler, place)
     except (OSError, RuntimeError) as fault:
-        raise NoLibrary(f"the library has no place to be kept: {fault}") from None
+        raise NoLibrary(f"the library can't be stored: {fault}") from None
     return place
 
 
@@ -52,7 +52,7 @@ def _compile(compiler: str, place: Path) -> None:
         done = subprocess.run([compiler, *FLAGS, "-o", new, str(SOURCE), "-ldl"], stdin=subprocess.DEVNULL,
                               stdout=subprocess.PIPE, stderr=subprocess.STDOUT, text=True)
         if done.returncode != 0:
-            said = done.stdout.splitlines() or ["it says nothing"]
+            said = done.stdout.splitlines() or ["no message"]
             raise NoLibrary(f"{compiler!r} does not compile the library: {said[0]}")
         os.chmod(new, 0o755)
         os.replace(new, place)

@@ -35,8 +35,8 @@ def nearest_mark(lines: Sequence[ScriptLine]) -> str:
     """The first comment after `start` that is nearly a mark, with its line, for a script that has none; else an empty
     text."""
     events = [it.number for it in lines if it.kind is LineKind.START]
-    behind = (it for it in lines if it.kind is LineKind.COMMENT and events and it.number > events[0])
-    return next((f"line {it.number}, {it.text!r}, is nearly {nearest!r}" for it in behind
+    comments = (it for it in lines if it.kind is LineKind.COMMENT and events and it.number > events[0])
+    return next((f"line {it.number}, {it.text!r}, is nearly {nearest!r}" for it in comments
                  if (nearest := _nearest(it.text))), "")
 
 
@@ -73,7 +73,7 @@ def is_crash(line: ScriptLine) -> bool:
 
 
 def _nearest(text: str) -> str:
-    """The mark that a comment nearly is, or an empty text for a comment that is far from all."""
+    """The mark that a comment nearly is, or an empty string for a comment that is far from all."""
     words = re.findall(r"\w+", text)
     for wanted, most in _MOST_WORDS.items():
         if words and len(words) <= most and _is_near(words[0].lower(), wanted):

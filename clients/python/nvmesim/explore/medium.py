@@ -1,7 +1,7 @@
 """The medium that each run begins with: zeros, or a copy of an image as it was when the exploration began.
 
 Zeros are in memory if the program's own blocks are enough, and else in a file of holes. An image is copied once, and
-that copy once for each run. So the file itself is never written, and what becomes of it meanwhile does not matter.
+that copy once for each run. So the file itself is never written, and later changes to it do not matter.
 Holes of a file stay holes: an image that is mostly zeros takes little room and time.
 """
 from __future__ import annotations
@@ -28,7 +28,7 @@ _MOST_BLOCKS = 1 << 54
 
 
 class MediumError(NvmesimError):
-    """An image that can't be one, or that is another than was said."""
+    """A file that can't be an image, or that differs from the recorded one."""
 
 
 class Medium:
@@ -38,11 +38,11 @@ class Medium:
     them stays.
 
     Attributes:
-        digest: what distinguishes images, in hexadecimal digits; an empty text for zeros.
+        digest: what distinguishes images, in hexadecimal digits; an empty string for zeros.
     """
 
     def __init__(self, image: Optional[PathLike] = None, blocks: int = 0) -> None:
-        """Takes a copy of an image; None for zeros: as many blocks as these, and 1,024 at least.
+        """Takes a copy of an image; None for zeros: this number of blocks, and at least 1,024.
 
         Raises:
             MediumError: the image is no regular file, or in use by a program that may write it.
@@ -55,7 +55,7 @@ class Medium:
             return
         with doing("read", image):
             if not stat.S_ISREG(os.stat(image).st_mode):
-                raise MediumError(f"{os.fspath(image)} is no regular file, as an image has to be")
+                raise MediumError(f"{os.fspath(image)} is no regular file; an image must be one")
             with open(image, "rb") as file:
                 _share(file.fileno(), os.fspath(image))
                 self._kept = self.copy_of(file.fileno())
@@ -80,8 +80,8 @@ class Medium:
 
     @contextmanager
     def of_a_run(self, blocks: int = 0) -> Iterator[str]:
-        """The word IMAGE of the program for one run: `-`, or a copy of the run's own, which goes with it. If there
-        is no image, it has these blocks at least."""
+        """The word IMAGE of the program for one run: `-`, or a copy of the run's own, which goes with it. Without an
+        image it has at least this number of blocks."""
         copy = _file_of(blocks) if self._kept is None and blocks > IN_MEMORY else self.fresh()
         if copy is None:
             yield "-"
@@ -110,8 +110,8 @@ class Medium:
 
 
 def _file_of(blocks: int) -> Optional[int]:
-    """A file of `blocks` blocks of zeros, all of it a hole, which the caller closes; None for more than a file has: the
-    program says so better."""
+    """A file of `blocks` blocks of zeros, all of it a hole, which the caller closes; None for more blocks than a file
+    can have: the program reports that better."""
     if blocks > _MOST_BLOCKS:
         return None
     with doing("make", f"an image of {blocks} blocks"), tempfile.TemporaryFile(buffering=0) as file:

@@ -73,9 +73,9 @@ class _Drawing:
                 f"holds in all {self.report.orders} orders")
             yield f'<h2 class="{"broken" if broken else "met"}"><code>{escape(check.name)}</code> {told}</h2>'
             if broken:
-                yield self._beside(check, broken[0][1].order)
+                yield self._compared(check, broken[0][1].order)
 
-    def _beside(self, check: Check, order: Order) -> str:
+    def _compared(self, check: Check, order: Order) -> str:
         """A counterexample and the nearest good order."""
         good = [(0, ways.order) for (_, ways), values in zip(self.report.found, self.report.values)
                 if check.is_met(values)]
@@ -95,13 +95,13 @@ class _Drawing:
         if not self.is_drawn:
             script = "\n".join(script_of(self.plan, order))
             return f"<pre>{escape(script)}</pre>"
-        script = "".join(f"{it}\n" for it in self._told(order, other))
+        script = "".join(f"{it}\n" for it in self._split_script(order, other))
         transcript, told = self._run(script)
         before = sum(it.part == BEFORE for it in self.plan.steps)
         picture = Picture(script, transcript, told, before + 1, is_short)
         return f'<div class="pictures">{"".join(it.svg() for it in picture.parts)}</div>'
 
-    def _told(self, order: Order, other: Optional[Tuple[int, Order]]) -> Iterator[str]:
+    def _split_script(self, order: Order, other: Optional[Tuple[int, Order]]) -> Iterator[str]:
         """The script of an order, with a comment where it parts from another."""
         lines = list(script_of(self.plan, order))
         place = None if other is None else _alike(order, other[1])

@@ -48,7 +48,7 @@ class Phase:
 
 
 class Position(NamedTuple):
-    """How far an order is: its phase, and how many events of each part of it have come."""
+    """A position in an order: its phase, and the number of events of each part so far."""
 
     phase: int
     done: Tuple[int, ...]
@@ -59,11 +59,11 @@ class Plan:
 
     Attributes:
         text: the script.
-        fails: the call of the image that fails in each order, 0 where none does.
+        fails: the call of the image that fails in each order, 0 if none does.
         setup: its lines up to `start`, without comments.
-        nearest: of a script without marks, the comment that nearly is one, in words; else an empty text.
+        nearest: of a script without marks, the comment that nearly is one, in words; else an empty string.
         phases: its phases; the first one has the events before all marks, and may be empty.
-        configuration: what it says before `start`.
+        configuration: its lines before `start`.
     """
 
     def __init__(self, text: str, fails: int = 0) -> None:
@@ -107,7 +107,7 @@ class Plan:
 
     @property
     def positions(self) -> int:
-        """How many positions there are, the last one too: as many states at least."""
+        """The number of positions, including the last one: a lower bound of the number of states."""
         count = 1
         for phase in self.phases:
             count += prod(len(part) + 1 for part in phase.parts) - 1
@@ -143,7 +143,7 @@ class Plan:
         return self._settled(number, (*done[:choice], done[choice] + 1, *done[choice + 1:]))
 
     def _settled(self, number: int, done: Tuple[int, ...]) -> Position:
-        """Phases that are done are left."""
+        """Leaves completed phases."""
         while sum(done) == self.phases[number].length:
             number += 1
             if number == len(self.phases):
@@ -159,7 +159,7 @@ class Plan:
             position = self.after(position, choice)
 
     def completed(self, order: Order) -> Order:
-        """An order that continues as long as it can with the first part that has an event left."""
+        """The order that always takes the next event of the first part that has one left."""
         position = self.begin()
         for choice in order:
             position = self.after(position, choice)

@@ -41,7 +41,7 @@ _MOST_LISTED = 12
 
 
 def codes_of(line: ScriptLine) -> FrozenSet[str]:
-    """The statuses that the answer of a line can have, and an empty text for none."""
+    """The statuses that the answer of a line can have, and an empty string for none."""
     if line.is_request:
         return _OF_ALL | set(_OF_REQUEST[line.verb]) | {""}
     return frozenset(it.code for it in Status) | {""} if line.verb in ("up", "execute", "poll") else frozenset(("",))
@@ -60,7 +60,7 @@ def _texts(codes: AbstractSet[str]) -> FrozenSet[str]:
 
 
 def values_of(line: ScriptLine, field: str, requests: AbstractSet[str]) -> Optional[AbstractSet[Any]]:
-    """What a field of a line's answer can be; None where that is not a few values."""
+    """What a field of a line's answer can be; None if that is not a few values."""
     if field == "executed":
         return _texts(codes_of(line)) | {NOT_EXECUTED} if line.is_request else frozenset(("",))
     known: Mapping[str, AbstractSet[Any]] = {
@@ -70,7 +70,7 @@ def values_of(line: ScriptLine, field: str, requests: AbstractSet[str]) -> Optio
 
 
 def reservation_values(field: str, hosts: AbstractSet[int]) -> Optional[AbstractSet[Any]]:
-    """What a field of a reservation can be; None where that is not a few values."""
+    """What a field of a reservation can be; None if that is not a few values."""
     known: Mapping[str, AbstractSet[Any]] = {
         "rtype": frozenset(map(int, ReservationType)), "name": frozenset(it.text for it in ReservationType),
         "protection": frozenset(map(int, Protection)), "holder": frozenset(("all", None)) | hosts}

@@ -1,4 +1,4 @@
-"""How far an exploration is, and how long it will still take."""
+"""The progress of an exploration, and its remaining time."""
 from __future__ import annotations
 
 import time
@@ -14,10 +14,10 @@ _LONG = 20.0
 
 
 class Progress:
-    """Reports on standard error how far an exploration is: on a terminal all along, else once where it will be long."""
+    """Reports the progress on standard error: repeatedly on a terminal, else once if the exploration is long."""
 
     def __init__(self, plan: Plan, stream: TextIO) -> None:
-        """Waits for the first report, from which on the time counts: before it the program may be built."""
+        """Measures time from the first report, since the program may be built before it."""
         self.plan, self.stream = plan, stream
         self._begun: Optional[float] = None
         self._shown = 0.0
@@ -64,12 +64,12 @@ class Progress:
 
 
 def states_in_all(plan: Plan, statistics: Statistics) -> int:
-    """How many states there may be: as many for each position of the parts as there were so far."""
+    """An estimate of the number of states: each position has as many as so far on average."""
     return statistics.states * plan.positions // max(1, statistics.positions)
 
 
 def seconds_left(plan: Plan, statistics: Statistics, seconds: float) -> float:
-    """How long the rest may take, if it continues as so far."""
+    """An estimate of the remaining time, at the speed so far."""
     return seconds * (states_in_all(plan, statistics) / max(1, statistics.states) - 1)
 
 

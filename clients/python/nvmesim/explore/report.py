@@ -18,7 +18,7 @@ from .values import Values
 _COLUMNS = 110
 _FEW_BLOCKS = 16
 FEWEST_ORDERS = 2
-"""Fewer orders than these are no exploration: no expression is found to hold by them."""
+"""The smallest number of orders from which an expression is reported to hold."""
 
 
 class Check:
@@ -34,7 +34,7 @@ class Check:
         return f"{'always' if self.is_wanted else 'never'} {self.expression.text}"
 
     def is_met(self, values: Values) -> bool:
-        """Whether an outcome is as it must be."""
+        """Whether an outcome meets the check."""
         return self.expression.holds(values) is self.is_wanted
 
 
@@ -43,7 +43,7 @@ class Report:
 
     Attributes:
         found: the outcomes, ranked.
-        values: what each of them says.
+        values: the named answers of each.
         groups: those that are alike in what matters, together.
         shorter: of a check, by its name, a counterexample that was cut down.
     """
@@ -58,7 +58,7 @@ class Report:
             checks: what they must be.
             is_whole: whether they are those of all orders.
             by: what outcomes are grouped by; without it, by what matters.
-            has_trifles: whether outcomes are also distinguished by events that do not matter.
+            has_trifles: whether unimportant events distinguish outcomes too.
         """
         self.plan, self.checks, self.is_whole = plan, checks, is_whole
         self.by, self.has_trifles = by, has_trifles
@@ -88,7 +88,7 @@ class Report:
         return sum(ways.count for _, ways in self.found)
 
     def why_one_order(self) -> str:
-        """Why there is only one order: a script of one part, or parts without concurrent events."""
+        """Why there is only one order: the script has one part, or no concurrent events."""
         names = list(self.plan.parts)
         if not names:
             nearest = f" ({self.plan.nearest})" if self.plan.nearest else ""
@@ -101,7 +101,7 @@ class Report:
         told = told or _count(self.plan.length, "event")
         total = self.orders
         if not self.is_whole:
-            yield f"PARTIAL: {_count(total, 'order')} of {self.plan.orders} were judged, and others may come to more."
+            yield f"PARTIAL: {_count(total, 'order')} of {self.plan.orders} were judged; the others may have more outcomes."
         yield f"{_count(total, 'order')} of {told}: {_count(len(self.groups), 'outcome')}"
         if self.plan.orders < FEWEST_ORDERS:
             yield f"{self.why_one_order()}, so nothing was tried in another order."
@@ -126,7 +126,7 @@ class Report:
         return {name: text for name, text in first.items() if all(it.get(name) == text for it in self._table)}
 
     def rows_of(self, group: Group) -> Dict[str, str]:
-        """What all outcomes of a group say, by names; what was asked for comes first."""
+        """The named answers that all outcomes of a group share; the requested names first."""
         rows = {it.text: it.told(self.values[group.first]) for it in self.by}
         for name, text in self._table[group.first].items():
             if name not in rows and all(self._table[it].get(name) == text for it in group.members):
@@ -134,7 +134,7 @@ class Report:
         return rows
 
     def _rows(self, values: Values) -> Dict[str, str]:
-        """What an outcome says, by names: requests, other events that matter and differ, and the last state."""
+        """An outcome by names: requests, other events that matter and differ, and the last state."""
         rows = {step.name: str(values.answers[step.name]) for step in self.plan.steps if step.line.is_request}
         for step in self.plan.steps:
             if not step.line.is_request and (self.has_trifles or matters(self.plan, step)) and self._differs(step):
@@ -163,12 +163,12 @@ class Report:
         yield from begun
 
     def _differs(self, step: Step) -> bool:
-        """Whether an event's answer distinguishes outcomes, beyond what its request says already."""
+        """Whether an event's answer distinguishes outcomes in addition to its request's."""
         found = (it.answers[step.name] for it in self.values)
         return len({it.request or it.text for it in found}) > 1
 
     def _telling(self, order: Order) -> Iterator[str]:
-        """An order in short: which part does what, in turn."""
+        """An order in short: the parts and their events, in order."""
         steps = [it for it in self.plan.steps_of(order) if it.part not in (BEFORE, THEN)]
         width = max((len(it.part) for it in steps), default=1)
         for part, group in groupby(steps, key=lambda it: it.part):
@@ -182,7 +182,7 @@ class Report:
         return [it for it, values in zip(self.found, self.values) if not check.is_met(values)]
 
     def _checked(self, check: Check, total: int) -> Iterator[str]:
-        """Whether a check is met, and by what order it is not."""
+        """Whether a check is met, with an order that breaks it if not."""
         broken = self.broken(check)
         count = sum(ways.count for _, ways in broken)
         yield ""
@@ -195,14 +195,14 @@ class Report:
         yield from self.example(check)
 
     def example(self, check: Check) -> List[str]:
-        """A script that does not meet a check; an empty one where all do."""
+        """A script that breaks a check; an empty one if none does."""
         broken = self.broken(check)
         if not broken:
             return []
         return self.shorter.get(check.name) or list(script_of(self.plan, broken[0][1].order))
 
     def counterexample(self) -> str:
-        """The first counterexample as a script; an empty text where all checks are met."""
+        """The first counterexample as a script; an empty string if all checks are met."""
         for check in self.checks:
             if self.broken(check):
                 return "".join(f"{it}\n" for it in self.example(check))
@@ -215,7 +215,7 @@ def _exactly(value: Hashable) -> Hashable:
 
 
 def script_of(plan: Plan, order: Order) -> Iterator[str]:
-    """A script that runs one order; comments say whose events follow."""
+    """A script that runs one order; comments mark whose events follow."""
     yield from plan.setup
     for part, group in groupby(plan.steps_of(order), key=lambda it: it.part):
         if part != BEFORE:

@@ -1,4 +1,4 @@
-"""Exploring in parts: which orders a part has, what it found as JSON lines, and all parts joined again."""
+"""Exploring in parts: the orders of a part, its findings as JSON lines, and joining all parts."""
 from __future__ import annotations
 
 import hashlib
@@ -17,7 +17,7 @@ _FORM = re.compile(r"([1-9][0-9]*)/([1-9][0-9]*)\Z")
 
 
 class ShardError(NvmesimError):
-    """Parts that can't be joined, or a part that there is not."""
+    """Parts that can't be joined, or a part that does not exist."""
 
 
 @dataclass(frozen=True)
@@ -36,12 +36,12 @@ class Shard:
         return Shard(int(found[1]), int(found[2]))
 
     def prefixes(self, plan: Plan) -> List[Order]:
-        """The beginnings of this part's orders: of all beginnings of one length, each N-th."""
+        """The beginnings of this part's orders: every N-th of all beginnings of one length."""
         return _prefixes(plan, self.count)[self.number - 1::self.count]
 
 
 def _prefixes(plan: Plan, shards: int) -> List[Order]:
-    """All beginnings of orders of the least length that gives enough of them for `shards` parts."""
+    """All beginnings of orders, of the least length with enough beginnings for `shards` parts."""
     level: List[Tuple[Order, Any]] = [((), plan.begin())]
     for _ in range(plan.length):
         if shards == 1 or len(level) >= _PREFIXES_A_SHARD * shards:
@@ -52,15 +52,15 @@ def _prefixes(plan: Plan, shards: int) -> List[Order]:
 
 
 def digest_of(plan: Plan) -> str:
-    """What distinguishes scripts."""
+    """A digest that distinguishes scripts."""
     return hashlib.sha256(plan.text.encode("utf-8")).hexdigest()
 
 
 def json_lines(plan: Plan, shard: Shard, found: Findings, image: str = "") -> Iterator[str]:
-    """What a part found: a line that says which part of what it is, and a line for each outcome.
+    """The findings of a part: a line that identifies it, and a line for each outcome.
 
     Args:
-        image: the digest of the image that its runs began with; an empty text for zeros in memory.
+        image: the digest of the image that its runs began with; an empty string for zeros in memory.
     """
     count = sum(it.count for it in found.values())
     yield json.dumps({"explore": VERSION, "script": plan.text, "digest": digest_of(plan), "image": image,
@@ -82,10 +82,10 @@ def merge(parts: Sequence[Iterable[str]], names: Sequence[str] = ()) -> Tuple[Pl
 
     Args:
         parts: the lines of each.
-        names: what each is called in a fault, such as the names of files.
+        names: the name of each in an error, such as its file name.
 
     Raises:
-        ShardError: they are not all parts of one exploration, each once and whole.
+        ShardError: a part is missing, repeated, incomplete, or of another exploration.
     """
     heads: List[Dict[str, Any]] = []
     found: List[Findings] = []
@@ -119,6 +119,6 @@ def _check(heads: Sequence[Dict[str, Any]]) -> None:
     count = heads[0]["shards"]
     lacking = sorted(set(range(1, count + 1)) - set(numbers))
     if lacking:
-        raise ShardError(f"part {lacking[0]}/{count} is not there")
+        raise ShardError(f"part {lacking[0]}/{count} is missing")
     if len(numbers) > count:
-        raise ShardError("a part is there twice")
+        raise ShardError("a part is given twice")

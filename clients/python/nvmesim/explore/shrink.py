@@ -1,7 +1,7 @@
 """Cuts a counterexample down: the fewest events of its order that still show what it shows.
 
-An event is left out if without it the check still fails, and all that the check looks at is what it was: so a request
-is not unanswered just because its poll was left out.
+An event is left out if the check still fails without it, with the same values: so a request does not become unanswered
+because its poll was left out.
 """
 from __future__ import annotations
 
@@ -21,7 +21,7 @@ Named = Tuple[Choice, Step]
 
 
 def shrunk(plan: Plan, branches: Branches, check: Check, order: Order) -> Tuple[Plan, Order]:
-    """The plan without the events that a counterexample does without, and its order.
+    """The plan with only the events that the counterexample needs, and its order.
 
     Args:
         plan: the script with its parts.
@@ -39,7 +39,7 @@ def shrunk(plan: Plan, branches: Branches, check: Check, order: Order) -> Tuple[
 
 
 def _commands(steps: Sequence[Named]) -> List[List[Named]]:
-    """Events in groups that may well go together: each request with what follows it in its part."""
+    """Events in groups that are left out together: each request with the events after it in its part."""
     groups: List[List[Named]] = []
     last: Dict[str, List[Named]] = {}
     for it in steps:
@@ -74,7 +74,7 @@ def _plan_of(plan: Plan, names: Set[str]) -> Plan:
 
 
 def _shown(plan: Plan, branches: Branches, check: Check, steps: Sequence[Named]) -> Optional[Hashable]:
-    """What the check looks at in an order that it is not met by; None where it is met, or something is not there."""
+    """The values of the check in an order that breaks it; None if it is met, or a value is missing."""
     rest = _plan_of(plan, {step.name for _, step in steps})
     looks = Looks(plan)
     branch = branches.begin()
@@ -94,13 +94,13 @@ def _run(plan: Plan, looks: Looks, branches: Branches, branch: Branch,
     state = first_state(plan, dict(zip(looks.all(), _asked(branches, branch, looks.all()))))
     labels: List[Tuple[str, str]] = []
     for choice, step in steps:
-        behind = looks.behind(step)
+        queries = looks.after_event(step)
         if step.line.is_crash:
             branch = branches.reopen(branch)
-            answer, told = CRASH, _asked(branches, branch, behind)
+            answer, told = CRASH, _asked(branches, branch, queries)
         else:
-            answer, *told = _asked(branches, branch, [step.line.sent, *behind])
-        label, state = state.next(plan, looks, choice, answer, dict(zip(behind, told)))
+            answer, *told = _asked(branches, branch, [step.line.sent, *queries])
+        label, state = state.next(plan, looks, choice, answer, dict(zip(queries, told)))
         labels.append((step.name, label))
     if plan.fails:
         branch.end_faults()

@@ -1,10 +1,10 @@
 """States of a subsystem as an exploration distinguishes them, and what the answer of each event adds.
 
-A state is what the looking lines tell: reservations, attachments, blocks; of each controller its registers, queues,
-fetched commands and driver. It also has the requests on their way, by the names of their lines, since the window that
-holds their commands and data is not looked at: a line says what its request stores, and for data that a command brings
-is what all hosts shared when it was executed. A raw host may store anything, so all that happened to its controller
-represents it. Two states with equal descriptions continue in the same way, with equal answers to equal events.
+A state is what the queries report: reservations, attachments, blocks; of each controller its registers, queues,
+fetched commands and driver. It also has the requests in progress, by the names of their lines, since the window with
+their commands and data is not queried: a line determines what its request stores, and the data that a command returns
+are represented by what all hosts shared at its execution. A raw host may store anything, so its controller's whole
+history represents it. Two states with equal descriptions have equal answers to equal events from then on.
 """
 from __future__ import annotations
 
@@ -27,7 +27,7 @@ Range = Tuple[int, int, int]
 
 
 class Looks:
-    """Which looking lines an exploration asks."""
+    """Which queries an exploration asks."""
 
     def __init__(self, plan: Plan) -> None:
         """Chooses the lines for a plan."""
@@ -42,21 +42,21 @@ class Looks:
         self.access = [*(f"?reservation {n}" for n in self.namespaces), "?attached"]
         self.shared = [*self.access, *(self.blocks if self.are_blocks_seen else ())]
         self._raw = plan.configuration.raw
-        self._behind: Dict[str, List[str]] = {}
+        self._after_event: Dict[str, List[str]] = {}
 
-    def behind(self, step: Step) -> List[str]:
+    def after_event(self, step: Step) -> List[str]:
         """The lines that are asked after an event: what it can have changed.
 
         An execution may change what hosts share and mark what other controllers have fetched, and a power cycle or a
         crash may change everything; every other event changes its own controller and host alone.
         """
-        found = self._behind.get(step.name)
+        found = self._after_event.get(step.name)
         if found is None:
-            found = self._behind[step.name] = self._changed(step)
+            found = self._after_event[step.name] = self._changed(step)
         return found
 
     def _changed(self, step: Step) -> List[str]:
-        """The same."""
+        """The lines that are asked after an event, by its kind."""
         if step.line.is_of_all:
             return self.all()
         number = step.line.controller
@@ -111,10 +111,10 @@ class State:
 
     Attributes:
         position: how far the order is.
-        looks: what the looking lines reported last, in the order in which they are first asked.
-        tracks: the requests on their way through each controller.
+        looks: what the queries reported last, in the order in which they are first asked.
+        tracks: the requests in progress in each controller.
         raw: what represents each raw host's controller and window: all that happened there.
-        medium: what represents the medium where its blocks are not looked at: all that was written.
+        medium: what represents the medium if its blocks are not looked at: all that was written.
     """
 
     position: Position
@@ -150,7 +150,7 @@ class State:
                             medium)
 
     def _shared(self, looks: Looks, seen: Dict[str, str]) -> bytes:
-        """What represents all that hosts share, where a command brings data of it."""
+        """What represents all that hosts share, if a command brings data of it."""
         return _digest(self.medium, *(seen.get(it, "").encode() for it in looks.shared))
 
 
@@ -169,7 +169,7 @@ def _digest(*pieces: bytes) -> bytes:
 
 
 def _executing(step: Step, told: str, number: int) -> str:
-    """The opcode's name of the command that an execution is about; an empty text where there is none."""
+    """The opcode's name of the command that an execution is about; an empty string if there is none."""
     if step.line.verb != "execute" or not told:
         return ""
     place = step.line.numbers()[1]

@@ -1,4 +1,4 @@
-"""The requests on their way through one controller, by the names of their lines, and what answers are about."""
+"""The requests in progress in one controller, by the names of their lines, and what answers are about."""
 from __future__ import annotations
 
 from dataclasses import dataclass, replace
@@ -27,15 +27,15 @@ class Posted:
 
 @dataclass(frozen=True)
 class Track:
-    """What a controller and its host's driver have of requests. Pairs are of the admin lane and of the I/O lane.
+    """The requests in a controller and in its host's driver. Pairs are of the admin queue and of the I/O queue.
 
     Attributes:
         lanes: requests that were placed and not fetched.
         fetched: commands that were fetched and not executed, by their places.
         posted: completions that were not delivered.
         tickets: the requests whose answers were not delivered, by their tickets.
-        taken: how many commands were fetched since the driver came up.
-        heard: how many of them the driver knows of.
+        taken: the number of commands that were fetched since the driver came up.
+        heard: the number of these that the driver knows of.
     """
 
     lanes: Tuple[Names, Names] = ((), ())

@@ -17,14 +17,14 @@ class Value:
     """A named answer.
 
     Attributes:
-        text: what became of it: of a request the name of its status, `aborted`, `unanswered` or `refused ..`; of
+        text: its result: of a request the name of its status, `aborted`, `unanswered` or `refused ..`; of
             another event its outcome.
         rule: the number of the rule that denied it, or 0.
         executed: of a request, the name of the status that its execution gave, or `not executed`.
-        status: the code of its status, such as `0:83`, or an empty text.
+        status: the code of its status, such as `0:83`, or an empty string.
         data: the bytes that came with it in hexadecimal digits, without the zeros at their end.
         value: double word 0 of its answer.
-        request: of an execution or a poll, the request that it is about, or an empty text.
+        request: of an execution or a poll, the request that it is about, or an empty string.
     """
 
     text: str
@@ -47,7 +47,7 @@ FIELDS = ("text", "rule", "executed", "status", "data", "value", "request")
 
 
 class Values:
-    """All that an outcome says, by names.
+    """The named values of an outcome.
 
     Attributes:
         answers: each event's answer.
@@ -57,7 +57,7 @@ class Values:
     """
 
     def __init__(self, plan: Plan, outcome: Outcome, looks: List[str]) -> None:
-        """Takes an outcome apart; `looks` are the lines that its last answers answer."""
+        """Parses an outcome; `looks` are the lines that its last answers answer."""
         self.reservations: Dict[int, ReservationState] = {}
         self.blocks: Dict[Tuple[int, int], bytes] = {}
         self.attached = ""
@@ -116,7 +116,7 @@ def _value(line: ScriptLine, label: str, executed: Optional[List[str]], polled: 
 
 
 def _polled(words: List[str], rule: int, done: str, request: str) -> Value:
-    """What a poll delivered."""
+    """The request that a poll delivered, and its answer."""
     if words == [ABORTED]:
         return Value(ABORTED, rule, done, request=request)
     status = status_in(words[0])

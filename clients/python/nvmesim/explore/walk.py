@@ -1,4 +1,4 @@
-"""Walks all orders, and runs each event once from each state: what was met before is not run again.
+"""Walks all orders, and runs each event once from each state.
 
 From a state the events that may come next are run, each in a branch of its own. If one leads to a state that is
 known, the rest of it reports nothing new. If two events commute, the second order of them is not run either: its
@@ -27,7 +27,7 @@ class Statistics:
         states: states that were met.
         positions: how far orders were, distinguished by how many events of each part had come.
         events: events that were run.
-        spared: events that were not run, since they commute with one that was.
+        spared: events that were not run, since they commute with one that was run.
         lines: lines that were sent.
         most_live: the most branches that waited or ran at once.
     """
@@ -54,7 +54,7 @@ class Node:
         came_by: the choices that lead here, each with the state before it.
         left: how many choices were not begun.
         branch: a branch that waits here.
-        last: what looking lines reported at the end of an order.
+        last: what queries reported at the end of an order.
     """
 
     state: State
@@ -115,11 +115,11 @@ class Walk:
         self._is_begun: Set[Edge] = set()
 
     def explore(self, until: Optional[float] = None) -> Findings:
-        """What the orders come to.
+        """The outcomes of the orders.
 
         Args:
-            until: the time, as `time.monotonic` has it, at which it is stopped. It is stopped by an interruption of
-                the keyboard too: what was found so far is returned, and `is_whole` is false.
+            until: the time, as `time.monotonic` has it, at which it is stopped. Ctrl-C stops it too. It then returns
+            the findings so far, and `is_whole` is false.
         """
         if not self.allowed:
             return {}
@@ -140,7 +140,7 @@ class Walk:
         return gather(self.plan, root)
 
     def _step(self) -> None:
-        """Begins what can be begun, and takes in what has come of what was."""
+        """Starts events while branches are free, and takes the results of those that finished."""
         while self._waiting and len(self._running) < self.jobs:
             self._begin(*self._waiting.pop())
         if self._running:
@@ -154,7 +154,7 @@ class Walk:
         return found if len(path) >= self.depth else [it for it in found if (*path, it) in self.allowed]
 
     def _begin(self, node: Node, choice: Choice) -> None:
-        """Runs an event from a state, unless what it gives is known already, or will be soon."""
+        """Runs an event from a state, unless its result is known or pending."""
         node.left -= 1
         twin = self._twin(node, choice)
         if twin is not None and twin[1] in twin[0].edges:
@@ -171,7 +171,7 @@ class Walk:
     def _run(self, node: Node, choice: Choice) -> None:
         """Runs an event from a state."""
         step = self.plan.step(node.state.position, choice)
-        looked = self.looks.behind(step)
+        looked = self.looks.after_event(step)
         is_last = not self.plan.choices(self.plan.after(node.state.position, choice))
         asked = Asked(node, choice, looked, is_last)
         branch = self._branch_at(node)
@@ -187,7 +187,7 @@ class Walk:
         self.statistics.most_live = max(self.statistics.most_live, self.branches.live)
 
     def _branch_at(self, node: Node) -> Branch:
-        """A branch at a state that may continue from there: the one that waits there, where nothing else wants it."""
+        """A branch at a state that may continue from there: the one that waits there, if nothing else wants it."""
         waiting = node.branch
         if waiting is None:
             return self.branches.begin([it.line.sent for it in self.plan.steps_of(node.path)])
@@ -197,7 +197,7 @@ class Walk:
         return waiting
 
     def _take(self, branch: Branch, asked: Asked, answers: List[str]) -> None:
-        """Takes in what an event gave."""
+        """Records the result of an event."""
         node, choice = asked.node, asked.choice
         if self.plan.step(node.state.position, choice).line.is_crash:
             answers = [CRASH, *answers]
@@ -217,7 +217,7 @@ class Walk:
             branch.close()
 
     def _looked(self, branch: Branch, lines: List[str]) -> List[str]:
-        """What looking lines tell whose calls of the image are to pass."""
+        """The answers of queries whose calls of the image must not fail."""
         branch.end_faults()
         branch.ask(lines)
         while not (found := self.branches.wait([branch])):
@@ -225,7 +225,7 @@ class Walk:
         return found[0][1]
 
     def _join(self, node: Node, choice: Choice, label: str, follower: Node) -> None:
-        """Notes what a choice gave, and what waited to know it."""
+        """Records the result of a choice, and wakes those that waited for it."""
         node.edges[choice] = label, follower
         self._is_begun.discard((node, choice))
         follower.came_by.append((node, choice))
@@ -258,7 +258,7 @@ class Walk:
                     break
 
     def _twin(self, node: Node, choice: Choice) -> Optional[Edge]:
-        """The same two events in the other order, of which this choice is the second, where they commute: the state
+        """The same two events in the other order, of which this choice is the second, if they commute: the state
         after this choice's event, and the other event."""
         if self._commuting is None:
             return None
@@ -270,7 +270,7 @@ class Walk:
         return None
 
     def _spare(self, node: Node, choice: Choice, twin: Edge) -> None:
-        """Takes what a choice gives from the same two events in the other order."""
+        """Derives the result of a choice from the same two events in the other order."""
         between, other = twin
         before = next(it for it, by in node.came_by if by == other and it.edges.get(choice, ("", None))[1] is between)
         self.statistics.spared += 1

@@ -1,4 +1,4 @@
-"""A session at a terminal: a prompt before `nvmelive`, with looks that say in words what they show."""
+"""A session at a terminal: a prompt before `nvmelive`, with queries that decode their answers."""
 from __future__ import annotations
 
 from .prompt import Shell

@@ -18,21 +18,22 @@ _FAULT = 2
 
 def add_arguments(parser: argparse.ArgumentParser) -> None:
     """The options of the command besides those of the program."""
-    parser.description = ("A session at a terminal: a prompt with the history of its lines, help, and looks that say "
-                          "in words what they show. Ctrl-D ends it.")
+    parser.description = ("A session at a terminal: a prompt with the history of its lines, help, and queries that "
+                          "decode their answers. Ctrl-D ends it.")
     parser.add_argument("image", metavar="IMAGE", nargs="?", default="-", help="a file whose blocks are the medium; "
                         "without it, and for -, 1,024 blocks of zeros in memory")
     parser.add_argument("--image", dest="is_meant", action="store_true",
                         help="IMAGE is meant as one, even if it begins like a script")
+    parser.add_argument("--any-size", action="store_true", help="namespaces may have more than 65,536 blocks")
     parser.add_argument("script", metavar="SCRIPT", nargs="?", help="a script that is run first")
     parser.set_defaults(command=run)
 
 
 def run(words: argparse.Namespace) -> int:
-    """Carries the command out; its exit status is the program's."""
+    """Executes the command. Returns the exit status of the program."""
     # Ctrl-C only drops the line that is being typed; the program, which inherits this, continues too.
     signal.signal(signal.SIGINT, signal.SIG_IGN)
-    talk = Talk(find_program(words.program), words.image, words.seconds, words.is_meant)
+    talk = Talk(find_program(words.program), words.image, words.seconds, words.is_meant, words.any_size)
     try:
         if words.script is not None:
             text = Path(words.script).read_text(encoding="utf-8", errors="replace")  # comments may have any bytes
@@ -58,14 +59,14 @@ def run(words: argparse.Namespace) -> int:
 
 
 def _greet(image: str) -> None:
-    """Says at a terminal what this is, and what to type."""
+    """Prints the first lines at a terminal: what this is, and what to type."""
     medium = "1,024 blocks of zeros in memory" if image == "-" else f"the image {image}"
     print(f"nvmelive {__version__}: an NVMe subsystem that hosts share, over {medium}.")
-    print("Describe it, say start, and then what happens. help names all lines; quit or Ctrl-D ends.", flush=True)
+    print("Describe it, enter start, then events. help lists all lines; quit or Ctrl-D ends.", flush=True)
 
 
 def _edit_lines(words: List[str]) -> None:
-    """Has lines edited, kept and completed, where this Python can."""
+    """Turns on line editing, history and completion, if this Python has them."""
     try:
         import readline
     except ImportError:
@@ -81,7 +82,7 @@ def _edit_lines(words: List[str]) -> None:
 
 
 def _typed() -> Optional[str]:
-    """The next line; None at the end. Ctrl-C forgets the line that was begun."""
+    """The next line; None at the end. Ctrl-C discards the current line."""
     while True:
         signal.signal(signal.SIGINT, signal.default_int_handler)
         try:

@@ -1,4 +1,4 @@
-"""Looks that say in words what they show: `?controllers`, `?report`, `?identify`, `?status` and `?read32`."""
+"""Queries that decode their answers: `?controllers`, `?report`, `?identify`, `?status` and `?read32`."""
 from __future__ import annotations
 
 from typing import Callable, Dict, Iterator, List, NamedTuple, Tuple
@@ -25,10 +25,10 @@ class Look(NamedTuple):
 
 
 def shown(talk: Talk, line: str) -> Iterator[str]:
-    """What a look shows, line by line.
+    """The lines that a query prints.
 
     Raises:
-        NotDone: there is nothing to look at, or a word is not what its place wants.
+        NotDone: there is nothing to query, or a word is invalid.
     """
     word, *rest = line.split()
     look = LOOKS[word]
@@ -84,7 +84,7 @@ def _identify(talk: Talk, rest: List[str]) -> Iterator[str]:
 
 
 def _identified(process: Process, controller: int, cns: int, nsid: int) -> bytes:
-    """The data of an Identify in a copy of the session, in which the driver begins anew."""
+    """The data of an Identify in a copy of the session, in which the driver starts anew."""
     process.exchange([lines.reset(controller)])
     while isinstance(it := _asked(process, lines.poll(controller)), Polled) and it.ticket is not None:
         pass
@@ -105,7 +105,7 @@ def _identified(process: Process, controller: int, cns: int, nsid: int) -> bytes
 
 
 def _asked(process: Process, line: str) -> object:
-    """The answer of an event in a copy of the session, taken apart."""
+    """The answer of an event in a copy of the session, parsed."""
     (text,) = process.exchange([line])
     if text.startswith("!"):
         raise NotDone(text[1:].strip().split(": ", 1)[-1])
@@ -131,4 +131,4 @@ LOOKS: Dict[str, Look] = {
     "?status": Look("?status TYPE:CODE, such as ?status 0:83", (1, 1), _status),
     "?read32": Look("?read32 C OFF", (2, 2), _read32),
 }
-"""The looks that the program does not have, by their first words."""
+"""The queries that the program does not have, by their first words."""

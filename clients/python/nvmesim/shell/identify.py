@@ -28,7 +28,7 @@ def _text(data: bytes) -> str:
 
 
 def _bits(*names: str) -> Callable[[bytes], str]:
-    """Says which bits are set: their names from bit 0 on, an empty one for a bit without a name."""
+    """Decodes which bits are set. `names` has a name for each bit from 0 on, empty for a bit without a name."""
     def words(data: bytes) -> str:
         value = int.from_bytes(data, "little")
         told = [names[n] if n < len(names) and names[n] else f"bit {n}"
@@ -46,7 +46,7 @@ def _data_size(data: bytes) -> str:
 
 
 def _entries(data: bytes) -> str:
-    return f"{1 << (data[0] & 15)} bytes at least, {1 << (data[0] >> 4)} at most"
+    return f"at least {1 << (data[0] & 15)} bytes, at most {1 << (data[0] >> 4)}"
 
 
 def _format(data: bytes) -> str:

@@ -157,6 +157,6 @@ def _folded(head: str, words: Iterable[str]) -> Iterator[str]:
 
 
 def _check(condition: bool, why: str) -> None:
-    """Raises `NotDone` with the reason where a condition does not hold."""
+    """Raises `NotDone` with the reason if a condition does not hold."""
     if not condition:
         raise NotDone(why)

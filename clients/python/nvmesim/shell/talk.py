@@ -1,4 +1,4 @@
-"""A session whose lines are typed: the program, what was said to it, and copies of it to try things in."""
+"""A session whose lines are typed: the program, the lines that it received, and copies of it for queries."""
 from __future__ import annotations
 
 import os
@@ -19,10 +19,11 @@ class Talk:
     Attributes:
         setup: the lines that describe the subsystem, `start` among them once it was answered.
         events: the events that happened, in their order.
-        configuration: what the lines before `start` say; empty before `start`.
+        configuration: the parsed lines before `start`; empty before `start`.
     """
 
-    def __init__(self, program: PathLike, image: PathLike = "-", seconds: float = 10.0, is_meant: bool = False) -> None:
+    def __init__(self, program: PathLike, image: PathLike = "-", seconds: float = 10.0, is_meant: bool = False,
+                 any_size: bool = False) -> None:
         """Starts the program over an image, or over zeros in memory for `-`.
 
         Args:
@@ -30,8 +31,10 @@ class Talk:
             image: the image.
             seconds: how long an answer may take.
             is_meant: whether the image is meant as one, also if it begins as a script does.
+            any_size: whether a namespace may have more than 65,536 blocks.
         """
-        self._command: List[PathLike] = [program, *(["--image"] if is_meant else []), image]
+        self._any_size = ["--any-size"] if any_size else []
+        self._command: List[PathLike] = [program, *self._any_size, *(["--image"] if is_meant else []), image]
         self._seconds = seconds
         self._program = program
         self.setup: List[str] = []
@@ -49,7 +52,7 @@ class Talk:
 
     @property
     def told(self) -> str:
-        """What the program said on standard error."""
+        """The program's standard error."""
         return self._process.told
 
     @property
@@ -71,18 +74,18 @@ class Talk:
         """Begins again with a script, which the program runs first; what it prints for it.
 
         Raises:
-            ProgramDied: the program refuses it, and says why.
+            ProgramDied: the program refuses it, with its reason.
         """
         try:
             lines = list(read_lines(text, program=self._program))
         except ScriptError:
-            lines = []  # the program says better what is wrong
+            lines = []  # the program's message is better
         self.close()
         self._process = self._begin([*self._command, script])
         events = events_of(lines)
         is_whole = any(it.kind is LineKind.START for it in lines)
         told = self._process.receive(len(events)) if is_whole else []
-        self._process.exchange([""])  # the program has ended by now, where it refuses the script
+        self._process.exchange([""])  # the program has ended by now, if it refuses the script
         if is_whole:
             self.setup = [it.text for it in lines if it.kind in (LineKind.CONFIGURATION, LineKind.START)]
             self._follow()
@@ -107,7 +110,7 @@ class Talk:
         return answer
 
     def look(self, line: str) -> str:
-        """The answer of a looking line. Raises `NotDone` with the program's words where there is nothing to look at."""
+        """The answer of a query. Raises `NotDone` with the program's words if there is nothing to look at."""
         (answer,) = self._process.exchange([line])
         if answer.startswith("!"):
             raise NotDone(answer[1:].strip().split(": ", 1)[-1])
@@ -146,12 +149,12 @@ class Talk:
 
     @contextmanager
     def copy(self) -> Iterator[Process]:
-        """The program again, over zeros, with all lines of the session said to it: what happens there changes nothing
-        here."""
+        """A copy of the program over zeros, which received all lines of the session; its events do not affect this
+        one."""
         blocks = sum(self.configuration.namespaces.values())
         with tempfile.NamedTemporaryFile(prefix="nvmesim-copy-") as image:
             os.truncate(image.name, BLOCK_BYTES * max(1, blocks))
-            process = self._begin([self._command[0], "--image", image.name])
+            process = self._begin([self._command[0], *self._any_size, "--image", image.name])
             try:
                 answers = process.exchange(self.script)
                 if answers[len(self.setup):] and answers[-1].startswith("!"):

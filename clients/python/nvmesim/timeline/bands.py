@@ -19,7 +19,7 @@ class Band:
     Attributes:
         nsid: the namespace.
         host: the host's identifier.
-        held: the reservation that it holds, by its name; an empty text where it is registered.
+        held: the reservation that it holds, by its name; an empty string if it is registered.
         begin: the event that began it.
         end: the event that ended it, or the last one.
     """

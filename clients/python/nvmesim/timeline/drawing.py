@@ -34,7 +34,7 @@ def state_of(command: Command) -> str:
 
 def touch_of(command: Command) -> str:
     """What a command does with blocks: `changes`, `looks` or `flushes`, by the opcode that the controller fetched; an
-    empty text where it touches none."""
+    empty string if it touches none."""
     if command.line is not None:
         opcode = _VERBS.get(command.line.verb)
     else:
@@ -43,7 +43,7 @@ def touch_of(command: Command) -> str:
 
 
 def command_story(command: Command) -> str:
-    """All that became of a command, in one text."""
+    """The whole history of a command, in one text."""
     steps = (("placed", command.placed), ("rung", command.rung), ("fetched", command.fetched),
              ("executed", command.executed), ("reset", command.reset), ("delivered", command.polled))
     told = ", ".join(f"{name} at {number}" for name, number in steps if number is not None)
@@ -223,8 +223,8 @@ def is_denied(event: Event) -> bool:
 
 
 def event_texts(event: Event, is_short: bool = False) -> Tuple[str, str]:
-    """The words next to an event: its line, and in few words what came of it; of both less where `is_short`, but the
-    reason of a denial stays whole."""
+    """The words next to an event: its line, and its result in few words. `is_short` shortens both, except for the
+    reason of a denial."""
     if is_short:
         line, words = event_texts(event)
         return shortened(line, 22), words if is_denied(event) else shortened(words, _FEW_WORDS)

@@ -25,11 +25,11 @@ _CONVERTER = "rsvg-convert"
 
 
 class NoFormat(NvmesimError):
-    """A picture can't be had in a format."""
+    """A picture can't be written in a format."""
 
 
 def form_of(name: Optional[str], forms: Sequence[str] = FORMS) -> str:
-    """The format that the ending of a file's name says: a page where there is no file, or its name has no ending.
+    """The format for the ending of a file's name: a page if there is no file, or its name has no ending.
 
     Raises:
         NoFormat: it ends otherwise.
@@ -62,7 +62,7 @@ def _inner(part: str) -> str:
 
 
 def _style() -> str:
-    """The rules of the page that concern pictures; there is no pointer and no paper."""
+    """The page's style rules for pictures, without those for pointers and paper."""
     rules = re.sub(r"@(page|media print) \{(?:[^{}]|\{[^{}]*\})*\}", "", STYLE)
     return rules.replace("svg.part", "svg .part").replace("&", "&amp;").replace("<", "&lt;")
 
@@ -78,8 +78,8 @@ def png(script: str, transcript: str, title: str, told: Sequence[Told] = ()) -> 
     assert found is not None
     width, height = int(found[1]), int(found[2])
     if max(width, height) > _MOST_PIXELS:
-        raise NoFormat(f"the picture has {width} by {height} pixels, and {_MOST_PIXELS} each way is the most of a PNG "
-                       "file: take svg or html")
+        raise NoFormat(f"the picture has {width} by {height} pixels, and a PNG file at most {_MOST_PIXELS} each way: "
+                       "use svg or html")
     converter = shutil.which(_CONVERTER)
     browser = next(filter(None, map(shutil.which, _BROWSERS)), None)
     if converter is None and browser is None:
@@ -93,7 +93,7 @@ def png(script: str, transcript: str, title: str, told: Sequence[Told] = ()) -> 
         done = subprocess.run(command, stdin=subprocess.DEVNULL, stdout=subprocess.PIPE, stderr=subprocess.STDOUT,
                               text=True, timeout=120)
         if done.returncode != 0 or not os.path.exists(made):
-            said = done.stdout.strip().splitlines() or ["it says nothing"]
+            said = done.stdout.strip().splitlines() or ["no message"]
             raise NoFormat(f"{command[0]} makes no PNG file of the picture: {said[-1]}")
         return Path(made).read_bytes()
 

@@ -51,7 +51,8 @@ def _paragraph(text: str) -> str:
 
 
 def _rooms(picture: Picture, is_long: bool) -> str:
-    """The parts, each in a room of its own; of a long picture the later ones come as the reader comes to them."""
+    """The parts, each in its own element. The later ones of a long picture are filled when the reader scrolls to
+    them."""
     rooms: List[str] = []
     for number, part in enumerate(picture.parts):
         is_later = is_long and number >= _FIRST_PARTS
@@ -72,7 +73,7 @@ def _packed(picture: Picture) -> str:
 
 
 def _first_denied(picture: Picture) -> str:
-    """The first command that a rule denied, at once."""
+    """A line about the first command that a rule denied."""
     for event in picture.events:
         if is_denial(event) and event.command is not None:
             return (f'<p class="first"><a href="#" data-go="{event.number}">Event {event.number}</a>: '
@@ -82,7 +83,7 @@ def _first_denied(picture: Picture) -> str:
 
 
 def _summary(events: Sequence[Event], commands: Sequence[Command]) -> str:
-    """How many events and commands there are, and what became of them."""
+    """The numbers of events and of commands, by their results."""
     counts: Dict[str, int] = {}
     for command in commands:
         counts[state_of(command)] = counts.get(state_of(command), 0) + 1
@@ -113,7 +114,7 @@ def _denied(commands: Sequence[Command]) -> str:
 
 
 def _list_of(picture: Picture) -> str:
-    """All events in words, for who does not look at pictures."""
+    """All events in words, for readers without pictures."""
     items = "\n".join(f"<li><code>{escape(it.line.text)}</code> {escape(meaning(it, picture.configuration))}.</li>"
                       for it in picture.events)
     return f"<details><summary>All events in words</summary>\n<ol>\n{items}\n</ol>\n</details>"

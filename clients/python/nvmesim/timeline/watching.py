@@ -12,7 +12,7 @@ _CHANGING = ("execute", "up", "powercycle")
 
 
 def watched(session: Session, script: str) -> Tuple[str, List[Told]]:
-    """The transcript of a script, and what became of each reservation.
+    """The transcript of a script, and the changes of each reservation.
 
     Raises:
         ScriptError: the text is no script; nothing was sent.
