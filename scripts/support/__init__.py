@@ -1,1 +1,1 @@
-"""What the scripts share: proofs that are kept, and mutants that are tried over them."""
+"""Modules that the scripts share: kept proofs, and mutants that are tried over them."""

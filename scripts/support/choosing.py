@@ -7,7 +7,7 @@ from support import edits, record
 
 @dataclass
 class Book:
-    """The mutants of the crates, with what the records say of them, and what is bad about either."""
+    """The mutants of the crates, their records, and the faults of both."""
     crates: dict
     edits: dict = field(default_factory=dict)
     lines: dict = field(default_factory=dict)
@@ -26,7 +26,7 @@ def read_book(rt, root, crates, logic):
     """Reads every mutant and every record."""
     book, digests = Book(crates), record.Digests(logic)
     for folder in edits.orphans(root, crates.values()):
-        book.faults.append(f"{folder.relative_to(root)}: nobody tries these, since no crate is there")
+        book.faults.append(f"{folder.relative_to(root)}: these are never tried, since there is no crate")
     for name, crate in crates.items():
         book.edits[name], book.lines[name] = [], {}
         try:
@@ -47,13 +47,13 @@ def read_book(rt, root, crates, logic):
 
 
 def lacking(book):
-    """The mutants for which no record speaks."""
+    """The mutants without a valid record."""
     return {name: [it for it in found if not book.is_recorded(it)] for name, found in book.edits.items()}
 
 
 def of_gate(book, commit):
-    """What the merge gate tries besides `rt ci`, which tries must-fail itself: what the records lack; and of the rest a
-    tenth, whole crates that the commit chooses, so that a record which is not true is found out after a few."""
+    """The mutants that the merge gate tries besides `rt ci`, which tries must-fail itself: those without a record, and
+    a tenth of the others, in crates that the commit selects, so that a false record is found after a few commits."""
     beside = {name: [it for it in found if it.file.parent.name != "must-fail"] for name, found in book.edits.items()}
     chosen = {name: [it for it in found if not book.is_recorded(it)] for name, found in beside.items()}
     rest = {name: [it for it in found if book.is_recorded(it)] for name, found in beside.items()}

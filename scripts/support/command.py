@@ -18,7 +18,7 @@ status is 1 if one failed, and 2 if nothing could be tried."""
 
 
 def words_of(given):
-    """The command's own words."""
+    """Parses the command line."""
     parser = argparse.ArgumentParser(prog="scripts/wrong-bodies", description=USAGE,
                                      formatter_class=argparse.RawDescriptionHelpFormatter)
     parser.add_argument("names", nargs="*", metavar="NAME", help="a crate")
@@ -32,7 +32,7 @@ def words_of(given):
 
 @dataclass
 class Run:
-    """One run of the command: what is tried, and what came of it."""
+    """One run of the command: the mutants that it tries, and the results."""
     rt: object
     book: choosing.Book
     is_kept: bool
@@ -42,7 +42,7 @@ class Run:
     lock: threading.Lock = field(default_factory=threading.Lock)
 
     def take(self, result):
-        """Prints and keeps one result."""
+        """Prints and records one result."""
         with self.lock:
             self.results.append(result)
             what = f"refused {result.how} by" if result.is_refused else f"FAILED {result.how}:"
@@ -63,7 +63,7 @@ class Run:
         record.write(self.book.crates[name], lines)
 
     def close(self, bench):
-        """Ends the stay at a crate."""
+        """Finishes a crate."""
         name, is_sound = bench.crate.name, bench.is_sound()
         bench.close()
         with self.lock:
@@ -86,7 +86,7 @@ class Run:
         self.close(bench)
 
     def results_of(self, bench, batch):
-        """What comes of mutants that share a check, or of one that is no function's."""
+        """The results of mutants that share a check, or of one that belongs to no function."""
         if batch[0].function:
             return bench.try_batch(batch)
         line = self.book.lines[batch[0].crate].get(batch[0].name)
@@ -103,8 +103,8 @@ def chosen_of(words, book):
 
 
 def build_below(rt, crates, jobs):
-    """Has the libraries built that the crates depend on, where `rt ci` has not just built them. Of the crates
-    themselves each check proves what it needs, where nothing is kept of them."""
+    """Builds the libraries that the crates depend on, unless `rt ci` has just built them. Each check proves what it
+    needs of the crates themselves."""
     below = [it for it in proving.cone_of(crates) if any(it in other.below() for other in crates)]
     if all(map(proving.is_left_by_ci, below)):
         return True
@@ -113,16 +113,16 @@ def build_below(rt, crates, jobs):
 
 
 def parts_of(found, count):
-    """A crate's mutants in at most `count` parts: each the checks that one worker makes, one after the other."""
+    """A crate's mutants in at most `count` parts, each with the checks of one worker."""
     batches, alone = edits.batches_of(found, min(MOST, -(-len(found) // count)))
     checks = [*batches, *([it] for it in alone)]
     return [checks[at::count] for at in range(min(count, len(checks)))]
 
 
 def try_all(run, chosen, jobs):
-    """Tries them side by side, as many as memory holds, those first that take longest. The checks of a crate come one
-    after the other, so that what the first of them proves is there for the others; a crate is taken in parts where it
-    has more than a processor's share of the work."""
+    """Tries them in parallel, as many as memory holds, the longest first. The checks of a crate run one after the
+    other, so that later ones reuse the proofs of the first. A crate with more than a processor's share of the work is
+    divided."""
     if jobs:
         run.rt.processors = lambda: jobs
     weights = {name: len(found) * run.rt.need(run.book.crates[name]) for name, found in chosen.items()}
@@ -136,7 +136,7 @@ def try_all(run, chosen, jobs):
 
 
 def end(run, book, count):
-    """The last lines: what each crate's mutants took, what is wrong, and how many passed."""
+    """The last lines: the time of each crate's mutants, the faults, and the number of mutants that were refused."""
     for name, seconds in run.spent.items():
         tried = sum(it.edit.crate == name for it in run.results)
         say(f"{name}: {tried} mutants, {seconds:.0f} processor seconds, {seconds / max(tried, 1):.1f} each")

@@ -3,7 +3,7 @@ import re
 from dataclasses import dataclass
 from pathlib import Path
 
-from support.placing import stands_beside
+from support.placing import has_copyable_proofs
 from support.source import Function, functions_of
 
 FOLDERS = ("must-fail", "wrong-bodies")
@@ -22,7 +22,7 @@ class Change:
 
 @dataclass(frozen=True)
 class Edit:
-    """A mutant: its crate, its file, and what it changes; the function, where it changes the body of one alone,
+    """A mutant: its crate, its file, and what it changes; the function, if it changes the body of one alone,
     with the text of that body and of its changes, and whether a copy of the function can be added."""
     crate: str
     file: Path
@@ -56,7 +56,7 @@ def changes_of(text):
 
 
 def says_the_same(change):
-    """Whether a change is of spaces alone, as where a text that is twice is made one that is once."""
+    """Whether a change is of spaces alone, such as one that makes a repeated text unique."""
     return '"' not in change.old and re.findall(r"\w+|\S", change.old) == re.findall(r"\w+|\S", change.new)
 
 
@@ -99,7 +99,7 @@ def read_edit(rt, crate, file):
         return Edit(crate.name, file, text, changes)
     whole = (folder / path).read_text()
     body = "\n".join([*whole.split("\n")[function.body + 1:function.last], *(it.new for it in changes)])
-    return Edit(crate.name, file, text, changes, function, path, body, stands_beside(folder, whole, function))
+    return Edit(crate.name, file, text, changes, function, path, body, has_copyable_proofs(folder, whole, function))
 
 
 def files_of(crate, folders=FOLDERS):
@@ -118,14 +118,14 @@ def files_of(crate, folders=FOLDERS):
 
 
 def orphans(root, crates):
-    """The folders of mutants that are in no crate, so that nobody tries them."""
+    """The folders of mutants outside every crate, which would never be tried."""
     found = [it for folder in FOLDERS for it in root.glob(f"**/{folder}") if it.is_dir()]
     homes = {Path(it.folder) for it in crates}
     return [it for it in found if it.parent not in homes and "out" not in it.relative_to(root).parts]
 
 
 def are_apart(one, other):
-    """Whether two mutants can share a check: as copies; or instead of their functions, where these are two
+    """Whether two mutants can share a check: as copies; or instead of their functions, if these are two
     and neither of them names the other. No copy is added if its function is replaced, since what calls
     that function, by whatever way, is not proved there."""
     def names(edit, function):

@@ -13,7 +13,7 @@ prepare() {
 
 # Becomes the program, which `prepare` made ready.
 run_program() {
-    exec "$program" "$@"
+    exec "$program" ${sizes[@]+"${sizes[@]}"} "$@"
 }
 
 show_version() {
@@ -22,5 +22,5 @@ show_version() {
 }
 
 prove() {
-    bad_words "word 1, '--prove', begins as an option does, and there is none"
+    bad_words "word 1, '--prove', is not an option"
 }

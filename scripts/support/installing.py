@@ -16,11 +16,11 @@ LIBRARY = "lib/nvmesim"
 SHARE = "share/nvmesim"
 MANIFEST = f"{SHARE}/MANIFEST"
 SUM = re.compile(r"^[0-9a-f]{64}  (.+)$", re.M)
-# What a wrapper of the repository says, and what it says where it is installed.
+# What a wrapper of the repository says, and what it says if it is installed.
 MOVED = (('top=$(dirname "$(realpath "${BASH_SOURCE[0]}")")', 'top=$(dirname "$(dirname "$(realpath "${BASH_SOURCE[0]}")")")'),
          ("support=$top/scripts/support", f"support=$top/{LIBRARY}"))
 LAB = """#!/usr/bin/env bash
-# nvmelab: the lab, in which nvme-cli finds the subsystem as its disks; `--help` says more.
+# nvmelab: the lab, in which nvme-cli finds the subsystem as its disks; see `--help`.
 set -euo pipefail
 library=$(dirname "$(dirname "$(realpath "${BASH_SOURCE[0]}")")")/lib/nvmesim
 NVMELIVE=${NVMELIVE:-$library/nvmelive} exec "$library/lab/lab" "$@"
@@ -33,7 +33,7 @@ RELEASED: Others = (("scripts/library", "--install-proved"), ("clients/nvme-tcp/
 
 
 class NotInstalled(Exception):
-    """It can't be installed, with the reason."""
+    """The installation failed, with the reason."""
 
 
 def version_of(top: Path) -> str:
@@ -78,7 +78,7 @@ def copy_tree(folder: Path, place: Path, *without: str) -> None:
 
 
 def wrapper_of(top: Path, name: str) -> str:
-    """The script that is before a program, where it is installed."""
+    """The script that is before a program, if it is installed."""
     text = (top / name).read_text(encoding="utf-8")
     for here, there in MOVED:
         if text.count(here) != 1:
@@ -88,7 +88,7 @@ def wrapper_of(top: Path, name: str) -> str:
 
 
 def put_programs(top: Path, stage: Path) -> None:
-    """The programs, after scripts that judge their words, and the lab."""
+    """The programs, their wrappers, and the lab."""
     for name in PROGRAMS:
         copy(Path(asked(top, name, "--where")), stage / LIBRARY / name)
         put(wrapper_of(top, name), stage / "bin" / name, 0o755)
@@ -133,7 +133,7 @@ def put_others(top: Path, stage: Path, others: Others) -> None:
 
 
 def fields_of(top: Path) -> Dict[str, str]:
-    """What the manifest says before the files."""
+    """The fields of the manifest before the files."""
     digest = asked(top, "scripts/build", "digest")
     gate, proved = record_of(Store(top).gate(digest)), record_of(Store(top).proved(digest) / "record")
     commit = subprocess.run(["git", "-C", str(top), "rev-parse", "HEAD"], capture_output=True, text=True).stdout.strip()

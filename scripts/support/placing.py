@@ -12,8 +12,7 @@ from support.source import HEAD, Function
 
 @dataclass(frozen=True)
 class Placed:
-    """A mutant as a check has it: under which name, in which lines, and the function whose proof must be, where
-    it is a copy of one."""
+    """A mutant in a check: its name, its lines, and if it is a copy, the function that must be proved too."""
     edit: object
     function: Function
     copied: Function = None
@@ -33,9 +32,9 @@ def proofs_of(folder, name):
     return [it for it in Path(folder, "proofs").rglob("*") if it.is_dir() and str(it).endswith(tail)]
 
 
-def stands_beside(folder, text, function):
+def has_copyable_proofs(folder, text, function):
     """Whether a copy of the function can be added: a trait has no other names, a cycle of calls no other
-    members, and proofs are copied where they are those of one function for certain."""
+    members, and proofs are copied if they are those of one function for certain."""
     head = "\n".join(text.split("\n")[function.first:function.body])
     return not function.is_of_trait and "#[cycle" not in head and len(proofs_of(folder, function.name)) < 2
 
@@ -53,7 +52,7 @@ def renamed(lines, word):
     return [*lines[:at], re.sub(r"\bfn \w+", f"fn {word}", lines[at], count=1), *lines[at + 1:]]
 
 
-def proofs_beside(folder, function, word):
+def copied_proofs(folder, function, word):
     """The files of a function's proofs, for its copy: by their paths, with its name instead of the function's."""
     for home in proofs_of(folder, function.name):
         inside = home.relative_to(Path(folder, "proofs")).as_posix().replace("/", ".")
@@ -63,7 +62,7 @@ def proofs_beside(folder, function, word):
             yield to.relative_to(folder).as_posix(), mine.sub(rf"\g<1>{word}", file.read_text())
 
 
-def name_beside(function, number):
+def name_of_copy(function, number):
     """The name of a copy, as `--only` has it."""
     return f"{function.name}_wrong_{number}"
 
@@ -86,7 +85,7 @@ def texts_of(folder, edits, beside):
         placed += found
         for number, edit in enumerate(here):
             if beside(edit):
-                texts.update(proofs_beside(folder, edit.function, f"{edit.function.word}_wrong_{number}"))
+                texts.update(copied_proofs(folder, edit.function, f"{edit.function.word}_wrong_{number}"))
     return texts, placed
 
 
@@ -98,7 +97,7 @@ def joined(lines, copies, edits):
         out.append(line)
         for number, edit, own in copies.get(at, ()):
             function, first = edit.function, len(out) + 1
-            name = name_beside(function, number)
+            name = name_of_copy(function, number)
             out += ["", *renamed(own, name.split("::")[-1])]
             moved = Function(name, first, first + function.body - function.first, len(out) - 1, function.is_seen)
             found[edit] = Placed(edit, moved, function)

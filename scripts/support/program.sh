@@ -1,7 +1,6 @@
 # How ./nvmesim and ./nvmelive find their programs, and build them: scripts/build keeps each build in out/ by the digest
 # of its sources. A proved program runs if there is one, else one that is built without its proofs: a line on standard
-# error says so when it is built, and --version always. Callers must set `name` and `top`, and have `tell` and
-# `give_up`.
+# error reports a build, and --version always does. Callers must set `name` and `top`, and have `tell` and `give_up`.
 
 readonly builds=$top/out
 # The folder of the Python package.
@@ -19,7 +18,7 @@ build() {
     NVMESIM_TELLS=$name "$top/scripts/build" "$@"
 }
 
-# Finds the digest of the sources: the one that was kept, where no source is newer.
+# Finds the digest of the sources: the one that was kept, if no source is newer.
 find_digest() {
     local newer
     if [ -r "$builds/sources" ]; then
@@ -60,7 +59,7 @@ prepare() {
 
 # Becomes the program, which `prepare` made ready.
 run_program() {
-    exec "$program" "$@"
+    exec "$program" ${sizes[@]+"${sizes[@]}"} "$@"
 }
 
 # The newest heading of CHANGELOG.md says the version; that of clients/python is tested to be the same.

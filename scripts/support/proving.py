@@ -44,9 +44,9 @@ def is_left_by_ci(crate):
 
 
 def side_by_side(rt, work, first, jobs):
-    """Runs `work(crate)` for each crate of a list, lowest first, side by side where they don't wait for one another,
+    """Runs `work(crate)` for each crate of a list, lowest first, side by side if they don't wait for one another,
     and those of the names in `first` before the others; it gives whether all was well, and is not run for what is on a
-    crate where it was not."""
+    crate if it was not."""
     crates, call = work
     if jobs:
         rt.processors = lambda: jobs
@@ -73,7 +73,7 @@ def say(text):
 
 
 class Progress:
-    """Says which crate of how many is done, and after how many minutes."""
+    """Prints which crate of how many is done, and after how many minutes."""
 
     def __init__(self, count, tell):
         self.count, self.tell, self.done, self.begun = count, tell, 0, time.monotonic()
@@ -102,7 +102,7 @@ def build(rt, crate, flags):
 
 def runs_well(rt, crate):
     """Runs a built program as `rt ci` does, in a copy of the crate's folder data/, on its input and its words; whether
-    it prints what the crate says, and ends with its status."""
+    its output is the crate's stdout, and its status is right."""
     words = (crate.stream("args") or b"").decode().splitlines()
     status = int(crate.stream("status") or crate.said.get("status", 0))
     with tempfile.TemporaryDirectory() as room:
@@ -121,7 +121,7 @@ def runs_well(rt, crate):
 
 
 def outcome(rt, crate, flags):
-    """What becomes of a crate: whether all was well, and the words for it."""
+    """The result of a crate: whether it succeeded, and the words for it."""
     if not build(rt, crate, flags):
         return False, "NOT PROVED"
     if crate.is_program and not runs_well(rt, crate):

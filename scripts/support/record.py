@@ -2,13 +2,14 @@
 
 A line has a mutant's name, a digest and the goal that refused it. The digest is of all that the refusal rests on:
 the mutant, the crate's own sources, definitions and proofs, the contracts and definitions of the crates below, and
-the toolchain's logic. A line with another digest than the present one says nothing.
+the toolchain's logic. Comments are left out. A line with another digest than the present one is ignored.
 """
 import hashlib
 import re
 from dataclasses import dataclass
 from pathlib import Path
 
+from support.documents.tokens import tokens
 from support.source import contracts_of
 
 HEAD = "# What was refused, at which text and by which goal. scripts/wrong-bodies writes this file."
@@ -31,7 +32,7 @@ def record_of(crate):
 
 
 def read(crate):
-    """The lines of the crate's record by name; none where there is no record."""
+    """The lines of the crate's record by name; none if there is no record."""
     file, lines = record_of(crate), {}
     if not file.exists():
         return lines
@@ -61,19 +62,22 @@ def shown(crate):
     for file in sorted([*folder.glob("src/**/*.rt"), *folder.glob("specs/**/*.antt")]):
         path = str(file.relative_to(folder))
         text = file.read_text()
-        if path.endswith(".rt"):
-            text = contracts_of(text, path)
-        else:
-            text = "\n".join(line for line in text.split("\n") if line and not line.startswith("--"))
-        yield path, text
+        yield path, contracts_of(text, path) if path.endswith(".rt") else uncommented(text)
+
+
+def uncommented(text):
+    """A text of definitions or proofs without the lines that are comments, and without empty ones."""
+    return "\n".join(line for line in text.split("\n") if line.strip() and not line.lstrip().startswith("--"))
 
 
 def whole(crate):
-    """All that the crate itself is made of."""
+    """All that the crate itself is made of, without its comments."""
     folder = Path(crate.folder)
     for part in ("src", "specs", "proofs"):
         for file in sorted(it for it in folder.glob(f"{part}/**/*") if it.is_file()):
-            yield str(file.relative_to(folder)), file.read_text()
+            text = file.read_text()
+            is_code = file.suffix == ".rt"
+            yield str(file.relative_to(folder)), [it.text for it in tokens(text)] if is_code else uncommented(text)
 
 
 class Digests:

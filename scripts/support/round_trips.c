@@ -1,6 +1,6 @@
 /* Round trips a second of an nvmelive over two pipes: PROGRAM COUNT. It places a Write, rings, fetches, executes and
    polls in turn, and reads each answer before it writes the next line. It says too how much memory the program had at
-   most by the first line, by a tenth of them, by the half and by the last, in KiB, where the system reports. */
+   most by the first line, by a tenth of them, by the half and by the last, in KiB, if the system reports. */
 #include <stdio.h>
 #include <stdlib.h>
 #include <string.h>

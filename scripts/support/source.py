@@ -6,14 +6,14 @@ HEAD = re.compile(r"( *)(pub(?:\([a-z]+\))? )?(?:const )?(?:unsafe )?(?:extern \
 IMPL = re.compile(r"(?:unsafe )?impl\b(.*)")
 TRAIT = re.compile(r"(?:pub(?:\([a-z]+\))? )?(?:unsafe )?trait (\w+)")
 
-# How lines begin that say nothing to a contract: comments, imports of code, and advice to the prover.
+# The beginnings of lines that do not matter to a contract: comments, imports of code, and advice to the prover.
 UNSEEN = ("//", "use ", "#[tactic", "#![tactic")
 
 
 @dataclass(frozen=True)
 class Function:
     """A function as the prover's `--only` names it, with the lines of its text, its comments among them: body and last
-    are the braces of its body, and both its last line where it has none."""
+    are the braces of its body, and both its last line if it has none."""
     name: str
     first: int
     body: int
@@ -77,7 +77,7 @@ def module_of(path):
 
 
 def ends_of(lines, first, indent):
-    """The lines of the braces of the body, of the function whose head begins at `first`; both are its last line where
+    """The lines of the braces of the body, of the function whose head begins at `first`; both are its last line if
     it has no body, or one in that line."""
     depth = 0
     for at in range(first, len(lines)):

@@ -1,8 +1,17 @@
-"""Tests of the rules by which scripts/wrong-definitions makes definitions wrong."""
+"""Tests of the rules by which scripts/wrong-definitions makes definitions wrong, and of the batches that it tries."""
+import tempfile
 import unittest
+from pathlib import Path
+from types import SimpleNamespace
 
+from support.definitions.batches import Witnesses, batches_of, merged
+from support.definitions.book import Book, mutants_of
+from support.definitions.citing import Sources
 from support.definitions.reading import definitions_of
+from support.definitions.refusals import Outcome, Reading
 from support.definitions.rules import wrong_definitions
+from support.definitions.trying import Asking, Trying
+from support.trial import Said
 
 TEXT = """-- A module.
 use Rattle.std.specs.Prelude.{◌≡◌, ◌&&◌, ℕ, Bool, Option, None, Some}
@@ -42,7 +51,7 @@ def changed(name, rule):
     return [it for it in found[0].text.split("\n") if it not in TEXT.split("\n")]
 
 
-class Reading(unittest.TestCase):
+class Parts(unittest.TestCase):
     def test_definitions(self):
         read = [(it.name, it.gives, it.is_record, len(it.cases)) for it in definitions_of(TEXT)]
         self.assertEqual(read, [("Waits", "", True, 2), ("may", "Bool", False, 2), ("left", "", False, 1),
@@ -84,6 +93,202 @@ class Rules(unittest.TestCase):
     def test_laws(self):
         # What a law says is not made true: nothing would be left to notice it.
         self.assertEqual([it.rule for it in wrong_definitions(TEXT) if it.name == "Stays"], [])
+
+
+# A crate with four definitions, of which `high` rests on `low`, and `shut` is shut; a lemma that opens it and one that
+# does not; and laws.
+CRATE = {
+    "specs/Low.antt": """-- A module.
+use Rattle.std.specs.Prelude.{ℕ}
+
+abbrev pub low : ℕ → ℕ
+low n = 1
+
+abbrev pub side : ℕ → ℕ
+side n = 2
+
+abbrev pub same : ℕ → ℕ
+same n = 3
+
+unfoldable pub shut : ℕ → ℕ
+shut n = 4
+""",
+    "specs/High.antt": """use Rattle.one.specs.Low.{low}
+
+abbrev pub high : ℕ → ℕ
+high n = low 5
+""",
+    "proofs/Shut.antt": """use Rattle.one.specs.Low.{shut}
+
+pub named : shut 0 ≡ shut 0
+named = refl
+
+pub opened : shut 0 ≡ 4
+unfolding shut
+opened = refl
+""",
+    "proofs/each/Answers.antt": """use Rattle.one.proofs.each.Goals as goal
+
+pub returns-clause-high : goal.returns-clause-high
+returns-clause-high c = refl
+""",
+    "src/lib.rt": """//! Laws.
+ghost use Rattle.one.specs.Low.{low, side, same, shut};
+ghost use Rattle.one.specs.High.{high};
+
+/// What each is.
+fn each()
+    ensures low { low 0 ≡ 1 }
+    ensures side { side 0 ≡ 2 }
+    ensures same { same 0 ≡ same 1 }
+    ensures high { high 0 ≡ 1 }
+    ensures both { low 0 ≡ side 0 }
+{}
+
+/// By lemmas.
+#[tactic(auto, using(crate::proofs::Shut::named, crate::proofs::Shut::opened))]
+fn opening()
+    ensures shut { shut 0 ≡ 4 }
+{}
+""",
+}
+PROVED = "only=1 proved=1\n"
+
+
+def goal(clause, line=6):
+    return f"note: src/lib.rt:{line}:1: it is not proved that what it ensures holds (`returns-clause-{clause}`)\n"
+
+
+class Prover:
+    """A place whose prover has its output given: the text for the definitions of a batch, by their names."""
+
+    def __init__(self, crate, says):
+        self.asker = self.wrong = crate
+        self.says, self.asked = says, []
+
+    def check(self, batch, only, *_):
+        names = " ".join(sorted(it.item.name for it in batch))
+        self.asked.append(names if only else f"{names} in full")
+        text = self.says.get(self.asked[-1], "")
+        return Said(1 if text else 0, text + PROVED, 1.0)
+
+
+class Batches(unittest.TestCase):
+    def setUp(self):
+        self.room = tempfile.TemporaryDirectory()
+        self.addCleanup(self.room.cleanup)
+        self.write(CRATE)
+        self.crate = SimpleNamespace(name="one", folder=self.room.name, below=lambda: [], of_kit=["std"])
+        self.read()
+
+    def write(self, files):
+        for path, text in files.items():
+            Path(self.room.name, path).parent.mkdir(parents=True, exist_ok=True)
+            Path(self.room.name, path).write_text(text)
+
+    def read(self):
+        self.sources = Sources({"one": self.crate})
+        found = list(mutants_of(self.crate, self.sources))
+        self.mutants = {name: [it for it in found if it.item.name == name][0]
+                        for name in ("low", "side", "same", "shut", "high")}
+
+    def some(self, *names):
+        return [self.mutants[it] for it in names]
+
+    def witnesses(self, *names):
+        return Witnesses(self.sources, "one", [it.item for it in self.some(*names)])
+
+    def asking(self, says, *names):
+        return Asking(Prover(self.crate, says), self.sources, self.some(*names))
+
+    def reading(self, text, *names):
+        return {one.item.name: it.kind for one, it in
+                Reading(Said(1, text + PROVED, 1.0), self.sources, "one", self.some(*names)).outcomes.items()}
+
+    def test_dependent_ones_are_apart(self):
+        names = ("high", "low", "side", "same", "shut")
+        found = [sorted(it.item.name for it in batch)
+                 for batch in batches_of(self.some(*names), self.witnesses(*names), {}, 8)]
+        self.assertEqual(found, [["high", "same", "shut", "side"], ["low"]])
+        twice = [self.mutants["side"], self.mutants["side"]]
+        self.assertEqual(len(batches_of(twice, self.witnesses("side"), {}, 8)), 2)
+
+    def test_shut_definitions(self):
+        seen = {it.item.name for it in self.witnesses("shut").all}
+        self.assertEqual(seen, {"opened"})
+
+    def test_texts(self):
+        text = merged(CRATE["specs/Low.antt"], [it.bare for it in self.some("low", "same")])
+        changed = [it for it in text.split("\n") if it not in CRATE["specs/Low.antt"].split("\n")]
+        self.assertEqual(changed, ["low n = 2", "same n = 4"])
+
+    def test_each_by_its_own(self):
+        self.assertEqual(self.reading(goal("low") + goal("same"), "low", "side", "same"),
+                         {"low": "noticed", "same": "noticed"})
+
+    def test_one_that_means_the_same(self):
+        # It stays unnoticed next to one that is noticed, and alone.
+        trying = Trying(None, self.sources, self.crate, self.some("low", "same"), [])
+        trying.askings["one"] = self.asking({"low same": goal("low")}, "low", "same")
+        found = {one.item.name: it.kind for one, it in trying.settle([])}
+        self.assertEqual(found, {"low": "noticed", "same": "unnoticed"})
+        self.assertEqual(trying.askings["one"].place.asked, ["low same", "same", "same in full"])
+
+    def test_one_that_is_no_definition(self):
+        error = "specs/Low.antt:5:1: error: `low`: expected type `ℕ`\n"
+        lost = "proofs/each/Answers.antt:4:5: error: 1 declaration that depends on `low`, which was not admitted, " \
+               "was not checked: returns-clause-high\n"
+        self.assertEqual(self.reading(error + lost + goal("side"), "low", "side", "same"),
+                         {"low": "unread", "side": "noticed"})
+        missing = "specs/Low.antt:5:1: error: `low`: `m` is not in scope\n"
+        self.assertEqual(self.reading(missing, "low", "side"), {"low": "unread"})
+        self.assertEqual(self.reading(missing.replace("specs/Low", "proofs/Shut"), "low", "shut"), {})
+        # What rests on it says nothing of another, and is asked again.
+        self.assertEqual(self.reading(error + goal("both"), "low", "side"), {"low": "unread"})
+        asking = self.asking({"high side": error + goal("high")}, "high", "side")
+        self.assertEqual(asking.try_batch(self.some("high", "side")), {})
+        self.assertEqual({it.item.name: len(tried) for it, tried in asking.tried.items()}, {"high": 0, "side": 1})
+
+    def test_a_refusal_that_sees_two(self):
+        self.assertEqual(self.reading(goal("both"), "low", "side"), {})
+        trying = Trying(None, self.sources, self.crate, self.some("same", "side"), [])
+        says = {"same side": goal("both"), "side": goal("both")}
+        trying.askings["one"] = self.asking(says, "same", "side")
+        found = {one.item.name: it.kind for one, it in trying.settle([])}
+        self.assertEqual(found, {"side": "noticed", "same": "unnoticed"})
+        asking = self.asking({"low side in full": goal("both")}, "low", "side")
+        self.assertEqual(asking.try_group(self.some("low", "side")), {})
+        self.assertEqual(asking.place.asked, ["low side in full", "low in full", "side in full"])
+
+    def test_what_says_nothing(self):
+        text = ("note: src/lib.rt:6:1: `search` gave up\nsrc/lib.rt:6:1: warning: (`returns-clause-low`)\n"
+                "fn one::each: not proved\nfn one::opening: no proof: it calls `one::each`, which is not proved\n")
+        self.assertEqual(self.reading(text, "low", "side"), {})
+        self.assertEqual(self.reading(goal("low"), "side"), {})
+        # A file is that of the copy, of the crate that is asked, or of the one that its folder names.
+        error = "specs/Low.antt:5:1: error: `low`: expected type `ℕ`\n"
+        for folder, found in (("a/wrong/", {"low": "unread"}), ("a/crates/one/", {"low": "unread"}),
+                              ("a/crates/two/", {})):
+            self.assertEqual(self.reading(folder + error, "low", "side"), found, folder)
+        # A check that did not end is not believed.
+        lost = Reading(Said(-9, goal("low"), 1.0), self.sources, "one", self.some("low"))
+        self.assertEqual((lost.is_lost, lost.outcomes), (True, {}))
+
+    def test_records(self):
+        def book():
+            digests = SimpleNamespace(logic="logic", of_crate=lambda crate: "crate")
+            return Book(self.crate, {"one": self.crate}, digests, self.sources)
+
+        mine = book()
+        clause = next(it for it in self.sources.items if it.name == "each#low")
+        mine.take(self.mutants["low"], Outcome("noticed", "one", clause, "returns-clause-low: it holds"))
+        mine.take(self.mutants["same"], Outcome("unnoticed", "one", None, ""))
+        mine.write()
+        self.assertEqual([book().is_recorded(it) for it in self.some("low", "same")], [True, False])
+        for old, new, stays in [("side n = 2", "side n = 7", True), ("low n = 1", "low n = 6", False)]:
+            self.write({"specs/Low.antt": CRATE["specs/Low.antt"].replace(old, new)})
+            self.read()
+            self.assertEqual(book().is_recorded(self.mutants["low"]), stays, new)
 
 
 if __name__ == "__main__":

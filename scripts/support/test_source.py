@@ -108,7 +108,7 @@ class SourceTest(unittest.TestCase):
             self.assertEqual(named("fn one() {}\n", path)[0][0], name)
 
     def test_contracts(self) -> None:
-        """A contract stays where a body or a comment changes, and goes where an ensures changes."""
+        """A contract stays if a body or a comment changes, and goes if an ensures changes."""
         before = source.contracts_of(TEXT, "src/pairs.rt")
         for old, new, is_same in (("            1\n", "            2\n", True), ("/// Free.", "/// Of nothing.", True),
                                   ("use std::fmt;", "use std::io;", True), ("IsOk result", "IsErr result", False),

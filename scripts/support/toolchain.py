@@ -33,7 +33,7 @@ def load(root):
     wants."""
     path = Path(ask("doc")).parent / "bin" / "rt"
     if not path.is_file():
-        raise NoToolchain(f"{path} is not there")
+        raise NoToolchain(f"{path} is missing")
     loader = importlib.machinery.SourceFileLoader("rt_command", str(path))
     module = importlib.util.module_from_spec(importlib.util.spec_from_loader("rt_command", loader))
     sys.modules["rt_command"] = module

@@ -26,7 +26,7 @@ NOT_PROVED = ("not proved", "no proof: expected")
 
 @dataclass(frozen=True)
 class Result:
-    """What came of a mutant: whether it was refused, how it was tried, and by which goal or why not."""
+    """The result of a mutant: whether it was refused, how it was tried, and by which goal or why not."""
     edit: object
     is_refused: bool
     how: str
@@ -35,7 +35,7 @@ class Result:
 
 @dataclass
 class Said:
-    """What a check said, and the processor seconds that it took."""
+    """The output of a check, and the processor seconds that it took."""
     status: int
     text: str
     seconds: float
@@ -103,7 +103,7 @@ def clauses_of(text, function):
 
 
 def linked(folder, to):
-    """Copies earlier results: what was proved by links, where these can be made, since a check replaces such a file and
+    """Copies earlier results: what was proved by links, if these can be made, since a check replaces such a file and
     changes none."""
     def copy(one, other):
         try:
@@ -179,7 +179,7 @@ class Bench:
         return texts, {it: right or [it.copied] if it.copied else [] for it in wrong}
 
     def try_batch(self, batch):
-        """Tries mutants in one check, and each that is not refused there for its own sake alone; where the check
+        """Tries mutants in one check, and each that is not refused there for its own sake alone; if the check
         comes to nothing, as by one that can't be read, each half of them."""
         texts, placed = self.placed(batch)
         only = [*(function for right in placed.values() for function in right), *(it.function for it in placed)]
@@ -209,7 +209,7 @@ class Bench:
 
     def try_by_witnesses(self, edit, goal=""):
         """Tries a mutant that is no function's by a check of the functions in which it is likely to show, and in
-        full where none of them is refused; `goal` is what refused it once."""
+        full if none of them is refused; `goal` is what refused it once."""
         only = witnesses_of(self.folder, edit.name, goal)
         is_refused, words = self.asked(edit, self.kept, only=only) if only else (False, "")
         refused = [it for it in only if self.said.is_not_proved(edit.crate, it)] if is_refused else []
@@ -219,7 +219,7 @@ class Bench:
         return Result(edit, True, f"in {refused[0]}", self.first_goals(edit, words))
 
     def try_in_full(self, edit):
-        """Tries a mutant as `rt` does: over the earlier results, and from nothing where it is not refused so; but what
+        """Tries a mutant as `rt` does: over the earlier results, and from nothing if it is not refused so; but what
         is proved over work that this run began itself is proved."""
         is_refused, words = self.asked(edit, self.kept)
         is_proved = self.begins_anew and "NOT REFUSED" in words
@@ -243,13 +243,13 @@ class Bench:
         return not self.tried or self.check({}, sorted(self.tried), self.kept).status == 0
 
 
-# The bench that a worker's check by `rt` is made on, and the functions that it asks for, where these are some.
+# The bench that a worker's check by `rt` is made on, and the functions that it asks for, if these are some.
 HERE = threading.local()
 
 
 def lend(rt):
-    """Has `rt` make its checks of mutants on the worker's bench, where their time is counted. It knows how a check
-    of the whole crate ends that is not proved: so ends one of some functions here that are not all proved."""
+    """Makes `rt` run its checks of mutants on the worker's bench, which counts their time. `rt` knows only how a failed
+    check of a whole crate ends, so a failed check of some functions ends in that way here."""
     def checked(_crate, texts, _flags, kept):
         said = HERE.bench.check(texts, HERE.only, kept)
         text = SOME.sub("logic=not-proved", said.text) if HERE.only and said.status == 1 else said.text

@@ -54,7 +54,7 @@ def by_goal(units, goal):
 
 
 def naming(units, folder, word):
-    """The functions that name a word, or where none does those that cite lemmas which name it."""
+    """The functions that name a word, or if none does those that cite lemmas which name it."""
     files = [it for it in sorted(Path(folder, "proofs").glob("*.antt"))
              if re.search(rf"\b{re.escape(word)}\b", it.read_text())]
     return [it for it in units if it.names(word)] or [it for it in units if any(it.cites(file.stem) for file in files)]

@@ -22,14 +22,14 @@ need_python() {
         give_up "python3 does not run, or is older than Python 3.9, which is needed $1"
 }
 
-# Ends as the program does where its command line is bad.
+# Ends as the program does if its command line is bad.
 bad_words() {
     tell 'bad command line'
     tell "$1; usage: $usage"
     exit 3
 }
 
-# Ends as the program does where a file can't be used.
+# Ends as the program does if a file can't be used.
 file_fault() {
     tell 'file fault'
     tell "$1"
@@ -44,12 +44,12 @@ begins_a_script() {
     [ "$1" != - ] && [ -f "$1" ] && [ -r "$1" ] || return 1
     judge=${program%/*}/nvmelive
     [ -x "$judge" ] || judge=$(prepare nvmelive && printf '%s' "$program") || exit 70
-    copy=$(mktemp) || give_up 'there is no room to judge a text in'
+    copy=$(mktemp) || give_up 'there is no space to judge a text in'
     told=$(head -c $((longest + 1)) <"$1" >"$copy" && "$judge" "$copy" </dev/null 2>&1) || status=$?
     rm -f "$copy"
     case $status:$told in
         0:*) return 1 ;;
-        2:*' is a script, by its first line, '*) return 0 ;;
+        2:*' is a script by its first line; '*) return 0 ;;
         *) give_up "it can't be judged whether '$1' is a script: $told" ;;
     esac
 }
@@ -62,7 +62,7 @@ refuse_script_as_image() {
     elif [ -f "$1" ] && [[ $1 == *.nvme ]]; then
         why='by its name'
     fi
-    [ -z "$why" ] || file_fault "'$1' is a script, $why, and not an image; to use it as the image, put --image before it"
+    [ -z "$why" ] || file_fault "'$1' is a script $why; to use it as an image, put --image before it"
 }
 
 # A single word is a script over zeros in memory if it ends in `.nvme`, whether it is there or not, if it is one by its
@@ -142,13 +142,14 @@ run_waiting() {
     exit "$status"
 }
 
-# Takes the command line apart: `option` is the one of the options named first that was given, if any, `words` are the
-# image and the script, or the image alone, or neither, and `is_meant` says whether --image is before the image.
+# Parses the command line: `option` is the one of the options named first that was given, if any, `words` are the
+# image and the script, or the image alone, or neither, `is_meant` says whether --image is before the image, and `sizes`
+# has --any-size if it was given, which the program gets before all else.
 # Words that the program would refuse are refused as it does, so that nobody waits for a build to hear that.
 take_apart() {
     local allowed=$1 number=0
     shift
-    option='' words=() is_meant=''
+    option='' words=() is_meant='' sizes=()
     while [ $# -gt 0 ]; do
         number=$((number + 1))
         case $1 in
@@ -158,9 +159,13 @@ take_apart() {
                 is_meant=1 number=$((number + 1)) words=("$2")
                 shift
                 ;;
+            --any-size)
+                [ ${#sizes[@]} -eq 0 ] && [ ${#words[@]} -eq 0 ] || bad_words "word $number, '$1', comes too late"
+                sizes=("$1")
+                ;;
             -?*)
                 [[ " $allowed " == *" $1 "* && -z $option ]] ||
-                    bad_words "word $number, '$1', begins as an option does, and there is none"
+                    bad_words "word $number, '$1', is not an option"
                 option=$1
                 ;;
             *)

@@ -1,4 +1,4 @@
-"""Proves both programs and builds them, says how far that is, and keeps them with a record of how they were proved."""
+"""Proves both programs and builds them, reports the progress, and keeps them with a record of how they were proved."""
 import os
 import subprocess
 import sys
@@ -18,7 +18,7 @@ class NotProved(Exception):
 
 
 def keep(top: Path, sources: str, how: str) -> None:
-    """Keeps the programs that are in crates/*/out as proved of these sources."""
+    """Keeps the programs in crates/*/out as the proved ones of these sources."""
     store = Store(top)
     folder = store.proved(sources)
     fields = {"sources": sources, "proved": how, "toolchain": toolchain.ask("version")}
@@ -33,14 +33,14 @@ def keep(top: Path, sources: str, how: str) -> None:
 
 
 def is_kept(top: Path, sources: str) -> bool:
-    """Whether both programs are proved of these sources, and are what was kept then."""
+    """Whether both programs were proved from these sources, and are unchanged since."""
     folder = Store(top).proved(sources)
     fields = record_of(folder / "record")
     return all((folder / it).is_file() and fields.get(it) == sum_of(folder / it) for it in PROGRAMS)
 
 
 def progress(top: Path) -> str:
-    """How far the proof is that is under way; nothing where there is none."""
+    """The progress of a running proof; an empty string if there is none."""
     lines = Store(top).proving.read_text(encoding="utf-8").splitlines() if Store(top).proving.is_file() else []
     if len(lines) < 2 or not Path("/proc", lines[0]).exists():
         return ""
@@ -48,7 +48,7 @@ def progress(top: Path) -> str:
 
 
 def relay(top: Path, tell: Tell, log: IO[str]) -> int:
-    """Runs scripts/prove on the programs, and passes its lines on; its status."""
+    """Runs scripts/prove on the programs, and passes its lines on. Returns its status."""
     store = Store(top)
     words = [sys.executable, str(top / "scripts" / "prove"), "--log", str(log.name), *PROGRAMS]
     with subprocess.Popen(words, cwd=top, stdin=subprocess.DEVNULL, stdout=subprocess.PIPE, stderr=subprocess.STDOUT,
@@ -63,7 +63,7 @@ def relay(top: Path, tell: Tell, log: IO[str]) -> int:
 
 
 def prove(top: Path, tell: Tell) -> None:
-    """Proves and builds both programs, unless that was done. A proof that is under way is followed to its end."""
+    """Proves and builds both programs, unless that was done. A proof in progress is followed to its end."""
     store = Store(top)
     if is_kept(top, digest(top)):
         tell("the programs are proved already, of the sources as they are")
@@ -87,13 +87,13 @@ def prove(top: Path, tell: Tell) -> None:
         if status != 0:
             raise NotProved(f"what went wrong is in {log.name}:\n{tail(Path(log.name))}")
         if digest(top) != sources:
-            raise NotProved("a source was changed meanwhile: what was proved stays, and another run proves the rest")
+            raise NotProved("a source was changed meanwhile; the proved part is kept, and another run proves the rest")
         keep(top, sources, f"here, at {time.strftime('%Y-%m-%d %H:%M')}")
     tell("proved: from now on the proved programs run")
 
 
 def follow(top: Path, tell: Tell) -> None:
-    """Reports how far the proof of another process is, until it has ended."""
+    """Reports the progress of another process's proof, until that ends."""
     store = Store(top)
     tell(f"process {store.holder('proving')} is proving the programs: following it")
     last = ""
@@ -104,12 +104,12 @@ def follow(top: Path, tell: Tell) -> None:
             last = now
         time.sleep(0.5)
     if not is_kept(top, digest(top)):
-        raise NotProved(f"that process has failed: {store.folder / 'prove.log'} says why")
+        raise NotProved(f"that process failed; see {store.folder / 'prove.log'}")
     tell("proved: from now on the proved programs run")
 
 
 def prove_in_background(top: Path, tell: Tell) -> None:
-    """Begins a proof in a process of its own, which continues when this one has ended."""
+    """Starts a proof in a separate process, which outlives this one."""
     store = Store(top)
     if is_kept(top, digest(top)):
         tell("the programs are proved already, of the sources as they are")
@@ -118,7 +118,7 @@ def prove_in_background(top: Path, tell: Tell) -> None:
     with open(store.folder / "background.log", "w", encoding="utf-8") as log:
         words = [sys.executable, str(top / "scripts" / "build"), "prove"]
         subprocess.Popen(words, stdin=subprocess.DEVNULL, stdout=log, stderr=log, start_new_session=True, cwd="/")
-    tell("proving in the background; ./nvmesim --prove follows it, and --version says how far it is")
+    tell("proving in the background; ./nvmesim --prove follows it, and --version reports its progress")
 
 
 def tail(log: Path) -> str:

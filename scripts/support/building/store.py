@@ -33,11 +33,11 @@ class Store:
         return self.folder / "proved" / digest
 
     def gate(self, digest: str) -> Path:
-        """What is known of a gate that these sources have passed."""
+        """The record of a gate that these sources passed."""
         return self.folder / "gate" / digest
 
     def write(self, path: Path, text: str) -> None:
-        """Writes a file whole, or leaves what was there."""
+        """Replaces a file atomically."""
         path.parent.mkdir(parents=True, exist_ok=True)
         handle, name = tempfile.mkstemp(dir=path.parent)
         with os.fdopen(handle, "w", encoding="utf-8") as file:
@@ -46,7 +46,7 @@ class Store:
         os.replace(name, path)
 
     def keep(self, program: Path, place: Path) -> None:
-        """Puts a copy of a program at a place at once, whatever was there before."""
+        """Replaces a program by a copy atomically."""
         place.parent.mkdir(parents=True, exist_ok=True)
         handle, name = tempfile.mkstemp(dir=place.parent)
         os.close(handle)
@@ -61,8 +61,8 @@ class Store:
             shutil.rmtree(it, ignore_errors=True)
 
     def lock(self, name: str) -> Optional[IO[str]]:
-        """Takes a lock, and says so by an open file that holds it; None where another process has it. Those that look
-        who has it keep it from being taken for a moment, so it is tried for a moment."""
+        """Takes a lock. Returns the open file that holds it; None if another process has it. A process that queries the
+        holder takes it for a moment, so it is tried repeatedly."""
         self.folder.mkdir(parents=True, exist_ok=True)
         file = open(self.folder / f"{name}.lock", "a+", encoding="utf-8")
         end = time.monotonic() + PATIENCE
@@ -77,7 +77,8 @@ class Store:
         return file
 
     def holder(self, name: str) -> str:
-        """The process that has a lock, as it said itself; nothing where none has. Others that look are none."""
+        """The process that holds a lock, from its own record; nothing if there is none, or if another process only
+        queries it."""
         self.folder.mkdir(parents=True, exist_ok=True)
         with open(self.folder / f"{name}.lock", "a+", encoding="utf-8") as file:
             if is_taken(file, fcntl.LOCK_SH):
@@ -87,7 +88,7 @@ class Store:
 
 
 def is_taken(file: IO[str], how: int) -> bool:
-    """Takes the lock of a file, if no other process keeps it from that."""
+    """Takes the lock of a file, if it is free."""
     try:
         fcntl.flock(file, how | fcntl.LOCK_NB)
     except BlockingIOError:
@@ -106,6 +107,6 @@ def record_text(fields: Dict[str, str]) -> str:
 
 
 def record_of(path: Path) -> Dict[str, str]:
-    """The fields of a record, none where there is no such file."""
+    """The fields of a record, none if there is no such file."""
     lines: List[str] = path.read_text(encoding="utf-8").splitlines() if path.is_file() else []
     return dict(line.split(": ", 1) for line in lines if ": " in line)

@@ -1,1 +1,1 @@
-"""Configurations made at random, and what each program that reads them makes of them."""
+"""Random configurations, and the verdict of each program that reads them."""

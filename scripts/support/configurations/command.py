@@ -14,11 +14,11 @@ from typing import Callable, Dict, Iterator, List, Optional
 from support.configurations.making import configuration
 from support.configurations.reading import Programs, faults
 
-USAGE = """Tries whether all programs that read a configuration refuse the same, for the same reason.
+USAGE = """Checks that all programs that read a configuration refuse the same ones, for the same reason.
 
-nvmesim, nvmelive, the lab and nvmetcp read configurations made at random: whole ones, and ones that are changed in some
-places. They must all take a configuration, or all refuse it with the same line, column and text. The first that they
-don't is printed whole. The same SEED makes the same configurations. The status is 1 where two programs differ."""
+nvmesim, nvmelive, the lab and nvmetcp read random configurations: valid ones, and changed ones. They must all accept a
+configuration, or all refuse it with the same line, column and text. The first on which they differ is printed. The same
+SEED makes the same configurations. The status is 1 if two programs differ."""
 # How many configurations are tried at a time.
 PIECE = 500
 # One of this many accepted configurations is tried as a whole: its lines, as the lab hands them on, in a session.
@@ -44,7 +44,7 @@ WRONG: Dict[str, Callable[[bytes], bytes]] = {
 
 @dataclass
 class Worker:
-    """A process that tries configurations: its programs, the seed, and how a wrong reader changes a text."""
+    """A process that tries configurations: its programs, the seed, and the fault to plant in a reader."""
     programs: Programs
     seed: int
     wrong: Optional[Callable[[bytes], bytes]]
@@ -54,7 +54,7 @@ WORKERS: List[Worker] = []
 
 
 def begin(words: argparse.Namespace, wrong: Optional[str]) -> None:
-    """Begins a worker, in a process of its own."""
+    """Starts a worker in its own process."""
     room = Path(tempfile.mkdtemp(dir=words.room))
     programs = Programs(words.live, words.sim, words.target, room)
     if wrong is not None:
@@ -64,12 +64,12 @@ def begin(words: argparse.Namespace, wrong: Optional[str]) -> None:
 
 
 def misread(programs: Programs, read: Callable, text: bytes) -> object:
-    """What the lab makes of another text."""
+    """The lab's verdict on a changed text."""
     return read(text, programs.by_nvmesim(text).reason)
 
 
 def first_difference(first: int, count: int) -> Optional[int]:
-    """The first of these configurations which two programs judge differently."""
+    """The first of these configurations on which two programs disagree."""
     worker = WORKERS[0]
     for number in range(first, first + count):
         if faults(worker.programs, configuration(worker.seed, number), number % THOROUGH == 0):
@@ -82,7 +82,7 @@ def pieces(cases: int) -> Iterator["tuple[int, int]"]:
 
 
 def search(words: argparse.Namespace, cases: int, wrong: Optional[str]) -> Optional[int]:
-    """The first of `cases` configurations that two programs judge differently."""
+    """The first of `cases` configurations on which two programs disagree."""
     with ProcessPoolExecutor(words.workers, initializer=begin, initargs=(words, wrong)) as pool:
         found = (it for it in pool.map(first_difference, *zip(*pieces(cases))) if it is not None)
         number = next(found, None)
@@ -91,7 +91,7 @@ def search(words: argparse.Namespace, cases: int, wrong: Optional[str]) -> Optio
 
 
 def show(words: argparse.Namespace, number: int) -> None:
-    """Prints a configuration whole, and what each program makes of it."""
+    """Prints a configuration, and each program's verdict."""
     begin(words, None)
     text = configuration(words.seed, number)
     found = faults(WORKERS[0].programs, text, True)
@@ -102,7 +102,7 @@ def show(words: argparse.Namespace, number: int) -> None:
 
 
 def words_of(top: Path, given: List[str]) -> argparse.Namespace:
-    """The command's own words."""
+    """Parses the command line."""
     parser = argparse.ArgumentParser(prog="scripts/configurations", description=USAGE,
                                      formatter_class=argparse.RawDescriptionHelpFormatter)
     parser.add_argument("live", metavar="LIVE", nargs="?", help="a built nvmelive; else that of ./nvmelive")
@@ -111,7 +111,7 @@ def words_of(top: Path, given: List[str]) -> argparse.Namespace:
     parser.add_argument("--cases", type=int, default=100_000, help="how many configurations; 100,000 by default")
     parser.add_argument("--seed", type=int, default=1, help="what they are made of; 1 by default")
     parser.add_argument("--workers", type=int, default=os.cpu_count() or 1, help="how many are tried at a time")
-    parser.add_argument("--only", type=int, help="print the configuration with this number, and what is made of it")
+    parser.add_argument("--only", type=int, help="print the configuration with this number, and each program's verdict")
     parser.add_argument("--self-test", action="store_true", help="let the lab read wrongly: it must be found")
     words = parser.parse_args(given)
     words.live = path_of(words.live or asked(top / "nvmelive", "--where"))
@@ -123,13 +123,13 @@ def words_of(top: Path, given: List[str]) -> argparse.Namespace:
 def target_of(top: Path, given: Optional[str]) -> Optional[str]:
     """The nvmetcp that was given, or else the one that is built here; none without cargo."""
     if not given and not shutil.which("cargo"):
-        print("configurations: there is no cargo; nvmetcp is not built, and is left out")
+        print("configurations: there is no cargo, so nvmetcp is skipped")
         return None
     return path_of(given or asked(top / "clients/nvme-tcp/build"))
 
 
 def asked(*words: object) -> str:
-    """What a command prints."""
+    """The output of a command."""
     done = subprocess.run([str(it) for it in words], stdout=subprocess.PIPE, text=True, check=False)
     if done.returncode != 0:
         sys.exit(f"configurations: {words[0]} has failed")
@@ -137,14 +137,14 @@ def asked(*words: object) -> str:
 
 
 def path_of(program: str) -> str:
-    """The whole path of a program."""
+    """The absolute path of a program."""
     if not os.access(program, os.X_OK):
         sys.exit(f"configurations: {program} is no program")
     return str(Path(program).resolve())
 
 
 def main(top: Path, given: List[str]) -> int:
-    """The command's status."""
+    """Runs the command. Returns its status."""
     words = words_of(top, given)
     begun = time.monotonic()
     with tempfile.TemporaryDirectory(dir="/dev/shm" if os.access("/dev/shm", os.W_OK) else None) as words.room:
@@ -160,5 +160,5 @@ def main(top: Path, given: List[str]) -> int:
             show(words, number)
             return 1
     seconds = time.monotonic() - begun
-    print(f"configurations: all programs do the same with {words.cases} of seed {words.seed}, {seconds:.0f} seconds")
+    print(f"configurations: all programs agree on {words.cases} of seed {words.seed}, {seconds:.0f} seconds")
     return 0

@@ -1,4 +1,4 @@
-"""Makes configurations at random: valid ones, most of which are then changed in some places."""
+"""Makes random configurations: valid ones, most of which are then changed in some places."""
 from random import Random
 from typing import Callable, List
 
@@ -29,7 +29,7 @@ def number(random: Random, value: int) -> bytes:
 
 
 def valid(random: Random) -> List[bytes]:
-    """The lines of a configuration that is taken, without `start`."""
+    """The lines of a valid configuration, without `start`."""
     # Few, since each has a window of 4 MiB, which takes most of the time of a program.
     controllers = random.choices((1, 2, 3, 4, 16), (45, 40, 9, 5, 1))[0]
     nsids = random.sample(range(1, 9), random.choice((0, 1, 1, 2, 2, 3, 8)))

@@ -1,4 +1,4 @@
-"""What each program makes of a configuration: why it refuses it, as `LINE:COLUMN: REASON`, or that it takes it."""
+"""Each program's verdict on a configuration: the reason of a refusal, as `LINE:COLUMN: REASON`, or acceptance."""
 import os
 import re
 import sys
@@ -14,12 +14,14 @@ from nvmelab.faults import LabFault
 from nvmelab.subsystem import Subsystem
 
 TAKEN = "taken"
-EVENT = "this line is an event, and a configuration has none"
+EVENT = "this line is an event; a configuration has none"
 EMPTY = "1:1: there is no controller; add a line 'controller 1 host 1'"
 START = re.compile(rb"^[ \t\r]*start[ \t\r]*$", re.M)
+# The end of the reason that a namespace is too large for a script.
+TOO_LARGE = " blocks; at most 65536 are allowed"
 # The beginning of a reason that a line is not allowed at its place.
-PLACE = re.compile(r"\w+ (needs a 'start'|stands before 'start'|stands in a script once)")
-# What nvmetcp adds where a host is written as a UUID, which scripts don't know.
+PLACE = re.compile(r"\w+ needs a 'start'|\w+ must come before 'start'|a script has only one start$")
+# What nvmetcp adds if a host is written as a UUID, which scripts don't know.
 UUID_HINT = re.compile(r"; the host with this HOSTID is 0x[0-9a-f]{32}$")
 # An event that every script may end with: its answer says whether there is a controller.
 PROBE = b"poll 1\n"
@@ -27,12 +29,12 @@ OUTPUT = os.O_WRONLY | os.O_CREAT | os.O_TRUNC
 
 
 class Broken(Exception):
-    """A program does not do what it should, so that nothing can be compared."""
+    """A program failed, so that nothing can be compared."""
 
 
 @dataclass
 class Ended:
-    """How a program has ended."""
+    """The result of a program."""
     status: int
     output: bytes
     errors: bytes
@@ -40,14 +42,14 @@ class Ended:
 
 @dataclass
 class Judged:
-    """What nvmesim makes of a configuration, and whether it refuses it for a line outside the grammar."""
+    """nvmesim's verdict on a configuration, and whether it refuses a line outside the grammar."""
     reason: str
     is_of_line: bool
 
 
 class Programs:
-    """The programs, and a folder of files for them, which becomes this process' own: names are short then, and nvmesim
-    writes them byte by byte."""
+    """The programs, and a folder for their files, the working directory of this process: file names are short then,
+    which nvmesim writes byte by byte."""
 
     def __init__(self, live: str, sim: str, target: Optional[str], room: Path):
         os.chdir(room)
@@ -57,7 +59,7 @@ class Programs:
         self.live, self.session = live, Subsystem([live], "-")
 
     def run(self, program: str, *words: str) -> Ended:
-        """Runs a program to its end, without an input."""
+        """Runs a program without input."""
         shown = [Path("output"), Path("errors")]
         files = [(os.POSIX_SPAWN_OPEN, 0, os.devnull, os.O_RDONLY, 0)]
         files += [(os.POSIX_SPAWN_OPEN, number, str(it), OUTPUT, 0o600) for number, it in enumerate(shown, 1)]
@@ -71,30 +73,33 @@ class Programs:
         front = f"{self.script}:"
         last = (told or [""])[-1].removeprefix(f"{program}: ")
         if ended.status != 1 or not last.startswith(front):
-            raise Broken(f"{program} has ended with status {ended.status} and told {told}")
+            raise Broken(f"{program} ended with status {ended.status} and printed {told}")
         return last.removeprefix(front).lstrip()
 
-    def by_nvmesim(self, text: bytes) -> Judged:
-        """The reason of nvmesim. A configuration is a script without events that has a controller: where the script is
+    def by_nvmesim(self, text: bytes, *options: str) -> Judged:
+        """The reason of nvmesim. A configuration is a script without events that has a controller: if the script is
         run, its transcript reports both."""
         started = text if START.search(text) else text + b"\nstart"
         self.script.write_bytes(started + b"\n" + PROBE)
-        ended = self.run(self.sim, str(self.medium), str(self.script))
+        ended = self.run(self.sim, *options, str(self.medium), str(self.script))
         if ended.status != 0:
             return Judged(self.placed(ended, "nvmesim"), b": not understood\n" in ended.errors)
         *events, probe = ended.output.splitlines()
         reason = EVENT if events else EMPTY if probe.startswith(b"nocontroller") else TAKEN
         return Judged(reason, False)
 
-    def by_target(self, text: bytes) -> str:
-        """The reason of nvmetcp."""
+    def by_target(self, text: bytes, sim: str) -> str:
+        """The reason of nvmetcp. Its namespaces have any size, so if nvmesim refuses a size, nvmetcp must agree with
+        `nvmesim --any-size`."""
         self.script.write_bytes(text)
-        ended = self.run(self.target or "", "--check", str(self.script))
-        return TAKEN if ended.status == 0 else UUID_HINT.sub("", self.placed(ended, "nvmetcp"))
+        ended = self.run(self.target or "", "--check", "--image", str(self.medium), str(self.script))
+        reason = TAKEN if ended.status == 0 else UUID_HINT.sub("", self.placed(ended, "nvmetcp"))
+        if sim.endswith(TOO_LARGE) and is_same(self.by_nvmesim(text, "--any-size").reason, reason):
+            return sim
+        return reason
 
     def by_lab(self, text: bytes, reason: str) -> Tuple[str, Optional[Configuration]]:
-        """The reason of the lab, and what it reads. Of nvmesim it gets the reason that was found already, where it asks
-        about the same text."""
+        """The reason of the lab, and what it reads. Reuses nvmesim's verdict on the same text."""
         mine = text if START.search(text) else text + b"\nstart\n"
 
         def judge(asked: str) -> Optional[str]:
@@ -114,12 +119,12 @@ class Programs:
 
 
 def is_same(one: str, other: str) -> bool:
-    """Whether two reasons are the same. Which line is an event nvmesim does not tell, since it runs it."""
+    """Whether two reasons are the same. nvmesim runs an event instead of refusing it."""
     return one == other or one == EVENT and other.endswith(f": {EVENT}")
 
 
 def faults(programs: Programs, text: bytes, is_thorough: bool) -> Dict[str, str]:
-    """What each program makes of a configuration, where they don't all do the same; else nothing."""
+    """Each program's verdict on a configuration, if they differ; else nothing."""
     try:
         return differences(programs, text, is_thorough)
     except Broken as fault:
@@ -127,12 +132,12 @@ def faults(programs: Programs, text: bytes, is_thorough: bool) -> Dict[str, str]
 
 
 def differences(programs: Programs, text: bytes, is_thorough: bool) -> Dict[str, str]:
-    """The same, unless a program does not do what it should."""
+    """The verdicts if they differ; raises if a program fails."""
     sim = programs.by_nvmesim(text)
     found = {"nvmesim": sim.reason}
     found["lab"], read = programs.by_lab(text, sim.reason)
     if programs.target:
-        found["nvmetcp"] = programs.by_target(text)
+        found["nvmetcp"] = programs.by_target(text, sim.reason)
     found["nvmelive"] = by_session(programs, text, sim)
     if read is not None and is_thorough:
         found["the lab's lines"] = by_lines(programs, read)
@@ -143,7 +148,7 @@ def differences(programs: Programs, text: bytes, is_thorough: bool) -> Dict[str,
 
 def by_session(programs: Programs, text: bytes, sim: Judged) -> str:
     """The reason of nvmesim, if the answers of nvmelive to single lines agree with it: the first line that is not
-    understood is the same, for the same reason. If a line may be, and what it sets up, they don't say."""
+    understood is the same, for the same reason. They do not check whether a line is allowed there, or its effect."""
     answers = programs.session.ask([f"?line {it.decode('ascii', 'surrogateescape')}" for it in text.split(b"\n")])
     first = next((n for n, it in enumerate(answers, 1) if it.startswith("! ")), None)
     if not sim.is_of_line:
@@ -160,7 +165,7 @@ def by_session(programs: Programs, text: bytes, sim: Judged) -> str:
 
 
 def by_lines(programs: Programs, read: Configuration) -> str:
-    """Whether the lines that the lab hands on are taken, and set up what it has read."""
+    """Whether the lab's lines are accepted, and set up what it has read."""
     told = Subsystem([programs.live], str(programs.medium))
     try:
         answers = told.ask([*read.handed, "start", "?namespaces", *(f"?driver {it}" for it in read.hosts)])
@@ -171,5 +176,5 @@ def by_lines(programs: Programs, read: Configuration) -> str:
     blocks = {int(words[at + 1]): int(words[at + 5]) for at in range(0, len(words), 10)}
     drivers = {it for it, answer in zip(read.hosts, answers[count + 2:]) if answer.startswith("driver ")}
     if answers[:count + 1] != ["ok"] * count + ["started"] or (blocks, drivers) != (read.blocks, read.drivers):
-        return f"the lab hands on {read.handed}, has read {read} and is answered {answers}"
+        return f"the lab passes {read.handed} on, has read {read} and gets {answers}"
     return TAKEN

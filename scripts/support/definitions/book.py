@@ -1,9 +1,12 @@
 """Which wrong definitions there are, and what the records say of them.
 
-A line of crates/NAME/wrong-definitions.record has the file, the definition, the rule, a digest and who noticed it. The
-digest is of the wrong text and of the crates that the outcome rests on. A line with another digest than the present one
-says nothing. crates/NAME/same-definitions lists those that mean the same, each with the reason.
+A line of crates/NAME/wrong-definitions.record has the file, the definition, the rule, a digest, the crate that noticed
+it, the item of that crate whose proof failed, and the goal. The digest is of the wrong definition and of all that the item
+rests on, comments and layout left out; if no item is named, of the crate. A line with another digest than the present
+one says nothing.
+crates/NAME/same-definitions lists those that mean the same, each with the reason.
 """
+import re
 from dataclasses import dataclass
 from pathlib import Path
 
@@ -15,36 +18,41 @@ HEAD = "# Which wrong definitions were noticed, at which text and by whom. scrip
 
 @dataclass(frozen=True)
 class Mutant:
-    """A wrong definition of a crate: its file, and what it is called in records."""
+    """A wrong definition of a crate: its file, what it is called in records, the file's text with it, that text before
+    the import of what it needs, and the definition as it is."""
     crate: str
     path: str
     label: str
     text: str
+    bare: str
+    item: object = None
 
 
 @dataclass(frozen=True)
 class Line:
     label: str
     digest: str
-    by: str
+    crate: str
+    item: str
     words: str
 
     def __str__(self):
-        return " | ".join([self.label, self.digest, self.by, self.words])
+        return " | ".join([self.label, self.digest, self.crate, self.item, self.words])
 
 
 class BadRecord(Exception):
     """A record that can't be read."""
 
 
-def mutants_of(crate):
+def mutants_of(crate, sources=None):
     """All wrong definitions of a crate, in the order of its files."""
     folder = Path(crate.folder)
     for file in sorted(folder.glob("specs/**/*.antt")):
         if "declared" not in file.relative_to(folder).parts and file.name != "Examples.antt":
             path = str(file.relative_to(folder))
+            names = sources.files[crate.name, path].names if sources else {}
             for it in wrong_definitions(file.read_text()):
-                yield Mutant(crate.name, path, f"{path[6:-5]} {it.name}: {it.rule}", it.text)
+                yield Mutant(crate.name, path, f"{path[6:-5]} {it.name}: {it.rule}", it.text, it.bare, names.get(it.name))
 
 
 def lines_in(file, count):
@@ -59,24 +67,65 @@ def lines_in(file, count):
             yield parts
 
 
+def wrong_item(text, mutant):
+    """The wrong definition alone."""
+    lines = text.split("\n")
+    start = len("\n".join([*lines[:mutant.item.first], ""]))
+    after = len("\n".join(["", *lines[mutant.item.last + 1:]]))
+    return mutant.bare[start:len(mutant.bare) - after]
+
+
+def plain(text):
+    """A text without comments and layout."""
+    return " ".join(re.sub(r"(?m)^ *(?:--|//).*$", "", text).split())
+
+
 class Book:
     """The records of one crate."""
 
-    def __init__(self, crate, crates, digests):
-        self.crate, self.crates, self.digests = crate, crates, digests
+    def __init__(self, crate, crates, digests, sources):
+        self.crate, self.crates, self.digests, self.sources = crate, crates, digests, sources
         self.file = Path(crate.folder, "wrong-definitions.record")
-        self.lines = {parts[0]: Line(*parts) for parts in lines_in(self.file, 4)}
+        self.lines = {parts[0]: Line(*parts) for parts in lines_in(self.file, 5)}
         self.same = dict(lines_in(Path(crate.folder, "same-definitions"), 2))
 
-    def digest(self, mutant, by):
-        return digest_of([mutant.path, mutant.text, self.digests.of_crate(self.crates[by])])[:16]
+    def digest(self, mutant, crate, item):
+        """What a line rests on; nothing if there is no such item any more."""
+        if not item:
+            return digest_of([mutant.path, mutant.text, self.digests.of_crate(self.crates[crate])])[:16]
+        reached, entered = self.sources.basis(item)
+        texts = sorted((it.crate, it.path, it.name, plain(it.head), plain(it.body) if it in entered else "")
+                       for it in reached)
+        wrong = plain(wrong_item(self.sources.files[mutant.crate, mutant.path].text, mutant))
+        return digest_of([self.digests.logic, mutant.label, wrong, *texts])[:16]
+
+    def item_of(self, line):
+        """The item that a line names, and whether there is one."""
+        path, _, name = line.item.partition(" ")
+        file = self.sources.files.get((line.crate, path))
+        found = [it for it in file.items if it.name == name] if file else []
+        return found[0] if len(found) == 1 else None
 
     def is_recorded(self, mutant):
         line = self.lines.get(mutant.label)
-        return bool(line) and line.by in self.crates and line.digest == self.digest(mutant, line.by)
+        if not line or line.crate not in self.crates:
+            return False
+        item = self.item_of(line) if line.item != "-" else None
+        is_known = line.item == "-" or item
+        return bool(is_known) and line.digest == self.digest(mutant, line.crate, item)
 
     def take(self, mutant, outcome):
         """Keeps what was noticed; nothing else is recorded."""
         if outcome.kind == "noticed":
-            self.lines[mutant.label] = Line(mutant.label, self.digest(mutant, outcome.crate), outcome.crate, outcome.words)
+            item = outcome.item
+            named = f"{item.path} {item.name}" if item and self.is_one(item) else "-"
+            digest = self.digest(mutant, outcome.crate, item if named != "-" else None)
+            self.lines[mutant.label] = Line(mutant.label, digest, outcome.crate, named, outcome.words)
+
+    def is_one(self, item):
+        """Whether no other item of the file has its name."""
+        return sum(it.name == item.name for it in self.sources.files[item.crate, item.path].items) == 1
+
+    def write(self):
+        if self.lines:
             self.file.write_text("\n".join([HEAD, *map(str, sorted(self.lines.values(), key=str)), ""]))

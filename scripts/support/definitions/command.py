@@ -1,12 +1,12 @@
 """The command `scripts/wrong-definitions`."""
 import argparse
 import random
-import threading
-from concurrent.futures import ThreadPoolExecutor
+import re
 
 from support import record, toolchain
 from support.definitions.book import BadRecord, Book, mutants_of
-from support.definitions.trying import try_one
+from support.definitions.citing import Sources
+from support.definitions.trying import Trying
 from support.proving import say
 
 USAGE = """Makes definitions wrong by rule, and shows which of them no proof, law or example notices.
@@ -14,21 +14,27 @@ USAGE = """Makes definitions wrong by rule, and shows which of them no proof, la
 The rules, for each definition in crates/NAME/specs: a case made true, made false, or made what the next case says; a
 conjunct dropped; one assignment of a record's update left out; a number one more; a field that says something made to
 say nothing. A wrong definition is noticed if a crate that sees it is not proved any more, with its proofs as they are.
-Without names it tries those of all crates. It begins with what `rt check` kept, so prove the crates first
-(`scripts/prove`). The last line is `N noticed, M unnoticed, K no definitions`; the status is 1 if one is unnoticed that
-crates/NAME/same-definitions does not list with its reason, and 2 if nothing could be tried."""
+Several share a check, if each has a lemma, a function or a clause that sees none of the others; those that such a check
+doesn't settle are tried alone. Without names it tries those of all crates. It begins with what `rt check` kept, so
+prove the crates first (`scripts/prove`). The last line is `N noticed, M unnoticed, K no definitions, U unsettled`; the
+status is 1 if one is unnoticed that crates/NAME/same-definitions does not list with its reason, and 2 if nothing could
+be tried."""
 
 
 def words_of(given):
     parser = argparse.ArgumentParser(prog="scripts/wrong-definitions", description=USAGE,
                                      formatter_class=argparse.RawDescriptionHelpFormatter)
     parser.add_argument("names", nargs="*", metavar="NAME", help="a crate")
-    parser.add_argument("--only", default="", metavar="WORD", help="those whose name has this word: file, definition or rule")
+    parser.add_argument("--only", default="", metavar="PATTERN",
+                        help="those in whose name this is found: file, definition and rule")
     parser.add_argument("--sample", type=int, default=0, metavar="N", help="N of them, chosen by the seed")
     parser.add_argument("--seed", default="0", metavar="WORD", help="what chooses the sample")
     parser.add_argument("--first", default="nvme_premises,nvme_theorem_runs", metavar="NAMES",
                         help="the crates above that are asked first")
-    parser.add_argument("--jobs", type=int, default=1, metavar="N", help="try N at once")
+    parser.add_argument("--jobs", type=int, default=1, metavar="N", help="N checks at once")
+    parser.add_argument("--quick", action="store_true", help="batches alone: what they don't settle stays unsettled")
+    parser.add_argument("--again", type=int, default=0, metavar="N",
+                        help="N recorded ones alone, each by what noticed it, and no others")
     parser.add_argument("--list", action="store_true", help="print them, and try none")
     return parser.parse_args(given)
 
@@ -36,49 +42,86 @@ def words_of(given):
 class Run:
     """One run: the records, and how many were noticed."""
 
-    def __init__(self, root, crates, books, first):
-        self.root, self.crates, self.books, self.first = root, crates, books, first
-        self.counts = {"noticed": 0, "unnoticed": 0, "unread": 0}
-        self.open, self.lock = [], threading.Lock()
+    def __init__(self, rt, crates, sources, words):
+        self.rt, self.crates, self.sources, self.words = rt, crates, sources, words
+        self.counts = {"noticed": 0, "unnoticed": 0, "unread": 0, "unsettled": 0}
+        self.open, self.seconds = [], 0.0
 
-    def try_mutant(self, mutant):
-        outcome = try_one(self.root, self.crates, self.crates[mutant.crate], mutant.path, mutant.text, self.first)
-        with self.lock:
-            book = self.books[mutant.crate]
-            book.take(mutant, outcome)
-            self.counts[outcome.kind] += 1
-            reason = book.same.get(mutant.label)
-            if outcome.kind == "unnoticed" and not reason:
-                self.open.append(mutant)
-            say(f"{mutant.crate} {mutant.label}: {outcome.kind} {outcome.crate} {reason or outcome.words}")
+    def try_crate(self, crate, book, mutants):
+        """Tries the wrong definitions of one crate, and keeps its record as it goes."""
+        above = [it for it in self.crates.values() if crate in it.below()]
+        first = [it for name in self.words.first.split(",") for it in above if it.name == name]
+        trying = Trying(self.rt, self.sources, crate, mutants, above, self.words.jobs)
+        try:
+            for mutant, outcome in trying.settle(first, self.words.quick):
+                self.take(book, mutant, outcome)
+        finally:
+            book.write()
+            trying.close()
+        self.seconds += trying.seconds
+        say(f"{crate.name}: {len(mutants)} tried, {trying.seconds:.0f} processor seconds, "
+            f"{trying.seconds / max(len(mutants), 1):.1f} each")
+
+    def try_again(self, book, crate, mutants):
+        """Tries recorded ones alone, each by what noticed it."""
+        trying = Trying(self.rt, self.sources, crate, mutants, [])
+        for it in mutants:
+            line = book.lines[it.label]
+            outcome = trying.asking(self.crates[line.crate]).try_again(it, book.item_of(line))
+            kind = outcome.kind if outcome else "unsettled"
+            self.counts[kind] += 1
+            say(f"{crate.name} {it.label}: {kind}{'' if kind == 'noticed' else ', its record is FALSE'}")
+            self.open += [] if kind == "noticed" else [it]
+        trying.close()
+
+    def take(self, book, mutant, outcome):
+        book.take(mutant, outcome)
+        book.write()
+        self.counts[outcome.kind] += 1
+        reason = book.same.get(mutant.label)
+        if outcome.kind == "unnoticed" and not reason:
+            self.open.append(mutant)
+        by = f"{outcome.crate} {outcome.item.name if outcome.item else ''}".strip()
+        say(f"{mutant.crate} {mutant.label}: {outcome.kind} {by}: {reason or outcome.words}")
+
+
+def read_all(root, words):
+    """The toolchain, the crates, what their sources name, and the records of those that are asked for."""
+    rt = toolchain.load(root)
+    crates = toolchain.crates_of(rt, root)
+    unknown = [it for it in words.names if it not in crates]
+    if unknown:
+        raise BadRecord(f"crates.txt has no crate {unknown[0]}")
+    sources = Sources(crates)
+    digests = record.Digests(toolchain.logic())
+    books = {it: Book(crates[it], crates, digests, sources) for it in words.names or crates}
+    return rt, crates, sources, books
 
 
 def main(root, given):
     words = words_of(given)
     try:
-        rt = toolchain.load(root)
-        crates = toolchain.crates_of(rt, root)
-        unknown = [it for it in words.names if it not in crates]
-        if unknown:
-            say(f"wrong-definitions: crates.txt has no crate {unknown[0]}")
-            return 2
-        digests = record.Digests(toolchain.logic())
-        names = words.names or [*crates]
-        books = {it: Book(crates[it], crates, digests) for it in names}
+        rt, crates, sources, books = read_all(root, words)
     except (toolchain.NoToolchain, BadRecord) as error:
         say(f"wrong-definitions: {error}")
         return 2
-    found = [it for name in names for it in mutants_of(crates[name]) if words.only in it.label]
+    found = [it for name in books for it in mutants_of(crates[name], sources) if re.search(words.only, it.label)]
     lacking = [it for it in found if not books[it.crate].is_recorded(it)]
     say(f"{len(found)} wrong definitions, {len(found) - len(lacking)} of them recorded as noticed")
-    chosen = random.Random(words.seed).sample(lacking, min(words.sample, len(lacking))) if words.sample else lacking
+    known = [it for it in found if it not in lacking]
+    some, count = (known, words.again) if words.again else (lacking, words.sample)
+    chosen = random.Random(words.seed).sample(some, min(count, len(some))) if count else some
     if words.list:
         print(*(f"{it.crate} {it.label}" for it in chosen), sep="\n")
         return 0
-    run = Run(root, crates, books, words.first.split(","))
-    with ThreadPoolExecutor(words.jobs) as workers:
-        list(workers.map(run.try_mutant, chosen))
+    run = Run(rt, crates, sources, words)
+    for name, book in books.items():
+        mutants = [it for it in chosen if it.crate == name]
+        if mutants and words.again:
+            run.try_again(book, crates[name], mutants)
+        elif mutants:
+            run.try_crate(crates[name], book, mutants)
     for it in run.open:
         say(f"unnoticed: {it.crate} {it.label}")
-    say("{noticed} noticed, {unnoticed} unnoticed, {unread} no definitions".format(**run.counts))
+    say("{noticed} noticed, {unnoticed} unnoticed, {unread} no definitions, {unsettled} unsettled".format(**run.counts))
     return 1 if run.open else 0

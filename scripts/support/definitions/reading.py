@@ -29,8 +29,8 @@ class Definition:
 
 
 def items_of(text):
-    """The file's top-level items: each from a line that is not indented up to the next one."""
-    starts = [it.start() for it in re.finditer(r"^(?=[^\s-])", text, re.M)]
+    """The file's top-level items: each from a line that is not indented, and closes no bracket, up to the next one."""
+    starts = [it.start() for it in re.finditer(r"^(?=[^\s)}\]-])", text, re.M)]
     for start, end in zip(starts, [*starts[1:], len(text)]):
         comment = re.search(r"\n--", text[start:end])
         yield start, start + comment.start() if comment else end

@@ -13,10 +13,12 @@ SAYS = re.compile(r"[≡≢≤<→⊎↔]|^\s*(?:Is|Has|May|\w+s [a-z])[\w ]*")
 
 @dataclass(frozen=True)
 class Wrong:
-    """One wrong definition: the definition, the rule, and the file's whole text with it."""
+    """One wrong definition: the definition, the rule, and the file's whole text with it; `bare` is that text before
+    the import of what it needs."""
     name: str
     rule: str
     text: str
+    bare: str
 
 
 def names_in(text):
@@ -108,8 +110,8 @@ def of_cases(text, definition):
 def with_words(text):
     """The text, where `true` and `false` are imported if they are used."""
     words = [it for it in ("true", "false") if re.search(rf"[ (]{it}\b", text.split("\n\n", 1)[-1])]
-    head = re.search(r"^use Rattle\.std\.specs\.Prelude\.\{(.*)\}", text, re.M)
-    lacking = [it for it in words if not head or it not in re.split(r", ", head[1])]
+    head = re.search(r"^use Rattle\.std\.specs\.Prelude\.\{([^}]*?),?\s*\}", text, re.M)
+    lacking = [it for it in words if not head or it not in re.split(r",\s*", head[1].strip())]
     if not lacking:
         return text
     if head:
@@ -126,4 +128,4 @@ def wrong_definitions(text):
         for rule, new in found:
             if new not in seen:
                 seen.add(new)
-                yield Wrong(definition.name, rule, with_words(new))
+                yield Wrong(definition.name, rule, with_words(new), new)

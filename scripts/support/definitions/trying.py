@@ -1,90 +1,156 @@
-"""Tries a wrong definition: its own crate, and then each crate above, until one notices it."""
-import re
-import shutil
-import tempfile
-from dataclasses import dataclass
-from pathlib import Path
+"""Tries wrong definitions: in batches over their own crate and the crates above, then in whole checks.
 
-from support.trial import NOTE, linked, run
+A batch is one check of one copy. A definition counts as noticed only if an item is refused that sees no other wrong
+one of the copy. What no batch settles is tried in a whole check of its crate, and then of each crate above, several at
+once as long as these are proved, and in halves, down to one alone, if not.
+"""
+from concurrent.futures import ThreadPoolExecutor
 
-ERROR = re.compile(r"(?:note: )?(?:\./)?((?:src|specs|proofs)/\S+?):(\d+):\d+: (?:error: )?(.*)")
+from support.definitions.batches import Witnesses, batches_of
+from support.definitions.places import LONG, Place, unfinished
+from support.definitions.refusals import Outcome, Reading
+from support.proving import say
 
-
-@dataclass(frozen=True)
-class Outcome:
-    """What came of a wrong definition: `noticed`, `unnoticed`, or `unread` where it is no definition at all."""
-    kind: str
-    crate: str
-    words: str
+# The most wrong definitions that share a check, how many witnesses of each are asked, and how often in one crate.
+MOST, FEW, ROUNDS = 16, 3, 2
 
 
-def linked_crate(crate, to):
-    """A copy of a crate with what is kept of it, made by links where they can be."""
-    folder = Path(crate.folder)
-    to.mkdir(parents=True)
-    for part in folder.iterdir():
-        if part.name == "out":
-            linked(part, to / "out")
-        elif part.is_dir():
-            shutil.copytree(part, to / part.name)
-        else:
-            shutil.copy2(part, to / part.name)
+class Asking:
+    """One crate that is asked about the wrong definitions of one crate."""
+
+    def __init__(self, place, sources, mutants):
+        self.place, self.sources, self.name = place, sources, place.asker.name
+        self.witnesses = Witnesses(sources, self.name, [*dict.fromkeys(it.item for it in mutants)])
+        self.tried = {}
+
+    def batches(self, mutants):
+        return batches_of(mutants, self.witnesses, self.tried, MOST)
+
+    def mark(self, mutant, items):
+        self.tried[mutant] = self.tried.get(mutant, frozenset()) | set(items)
+
+    def try_batch(self, batch):
+        """Tries a batch; gives what came of some of them."""
+        only, shown = self.witnesses.asked(batch, self.tried, FEW)
+        said = self.place.check(batch, only)
+        read = Reading(said, self.sources, self.name, batch)
+        say(f"  {self.name}: {len(read.outcomes)} of {len(batch)} settled in {said.seconds:.0f} processor seconds")
+        if read.is_lost:
+            return self.try_rest(batch, said, only, shown)
+        for it in batch:
+            if it not in read.outcomes:
+                self.mark(it, [one for one in shown[it] if read.tells(one)])
+        return read.outcomes
+
+    def try_rest(self, batch, said, only, shown):
+        """After a check that came to nothing: those whose functions it had ended with, or each half."""
+        slow = set(unfinished(said, only))
+        rest = [it for it in batch if not any(name in slow for one in shown[it] for name in self.witnesses.asks[one])]
+        for it in batch:
+            if it not in rest and (rest or len(batch) == 1):
+                self.mark(it, shown[it])
+        if rest and len(rest) < len(batch):
+            return self.try_batch(rest)
+        if len(batch) == 1:
+            return {}
+        half = len(batch) // 2
+        return {**self.try_batch(batch[:half]), **self.try_batch(batch[half:])}
+
+    def try_again(self, mutant, item):
+        """Tries one alone by an item that noticed it; gives what came of it."""
+        only = list(self.witnesses.asks.get(item, ())[:1])
+        said = self.place.check([mutant], only, LONG)
+        return Reading(said, self.sources, self.name, [mutant]).outcomes.get(mutant)
+
+    def functions(self, mutants):
+        """All functions that see one of these."""
+        bits = 0
+        for it in mutants:
+            bits |= self.witnesses.bit[it.item]
+        return [*dict.fromkeys(name for it in self.witnesses.all if it.bits & bits for name in it.asks[:1])]
+
+    def try_group(self, group):
+        """Tries several at once in a whole check of their own crate, or of all in a crate above that sees them; gives
+        what came of each, and nothing for those with which it is proved."""
+        only = [] if self.place.asker is self.place.wrong else self.functions(group)
+        if not only and self.place.asker is not self.place.wrong:
+            return {}
+        said = self.place.check(group, only, LONG)
+        say(f"  {self.name}: {len(group)} in {said.seconds:.0f} processor seconds, status {said.status}")
+        if said.status == 0:
+            return {}
+        read = Reading(said, self.sources, self.name, group)
+        left = [it for it in group if it not in read.outcomes]
+        if len(group) == 1:
+            return read.outcomes or {group[0]: self.by_words(said, read)}
+        half = (len(left) + 1) // 2
+        parts = [it for it in (left[:half], left[half:]) if it]
+        return {**read.outcomes, **{one: it for part in parts for one, it in self.try_group(part).items()}}
+
+    def by_words(self, said, read):
+        """What came of one that is alone, where no item is named that sees it."""
+        words = " ".join(next((it for it in said.lines if "error" in it), "not proved").split())[:160]
+        if said.status != 1 or read.is_lost and not read.refused:
+            return Outcome("unsettled", self.name, None, f"its check ended with status {said.status}: {words}")
+        kind = "unread" if any(it.kind == "specs" for it in read.refused) else "noticed"
+        return Outcome(kind, self.name, None, words)
 
 
-class Laboratory:
-    """A copy of the repository, with what is kept of it, in which one definition is wrong."""
+class Trying:
+    """All tries of the wrong definitions of one crate."""
 
-    def __init__(self, root, crates, crate):
-        self.crates = crates
-        self.above = [it for it in crates.values() if crate in it.below()]
-        self.room = Path(tempfile.mkdtemp(prefix="wrong-definitions-"))
-        for name in ("crates.txt", "HANDLES"):
-            shutil.copy2(Path(root, name), self.room / name)
-        (self.room / "crates").mkdir()
-        for it in crates.values():
-            linked_crate(it, self.room / "crates" / it.name)
+    def __init__(self, rt, sources, wrong, mutants, above, jobs=1):
+        self.rt, self.sources, self.wrong, self.mutants, self.jobs = rt, sources, wrong, mutants, jobs
+        self.above, self.askings, self.spent = above, {}, 0.0
+
+    def asking(self, asker):
+        if asker.name not in self.askings:
+            self.askings[asker.name] = Asking(Place(self.rt, asker, self.wrong), self.sources, self.mutants)
+        return self.askings[asker.name]
 
     def close(self):
-        shutil.rmtree(self.room, ignore_errors=True)
+        for it in self.askings.values():
+            it.place.close()
 
-    def check(self, name):
-        """One check of a crate there, and of what is between it and the wrong definition."""
-        return run(["rt", "check", "--jobs", "1"], self.room / "crates" / name)
+    @property
+    def seconds(self):
+        return sum(it.place.seconds for it in self.askings.values())
 
+    def settle(self, first, is_quick=False):
+        """Tries all; gives each with what came of it. `first` are the crates above that are asked in batches; a quick
+        run ends there, and gives the rest as unsettled."""
+        left = list(self.mutants)
+        for asker in [self.wrong, *first]:
+            asking = self.asking(asker)
+            for _ in range(ROUNDS):
+                for one, outcome in self.in_batches(asking, left):
+                    left.remove(one)
+                    yield one, outcome
+        if is_quick:
+            yield from ((it, Outcome("unsettled", "", None, "no batch settles it")) for it in left)
+            return
+        for asker in [self.wrong, *first, *(it for it in self.above if it not in first)]:
+            asking = self.asking(asker)
+            for group in self.groups(left):
+                for one, outcome in asking.try_group(group).items():
+                    left.remove(one)
+                    yield one, outcome
+        yield from ((it, Outcome("unnoticed", "", None, "by no proof, law or example")) for it in left)
 
-def first_words(said):
-    """The first goal that stayed open, or the first error."""
-    for line in said.lines:
-        note = NOTE.match(line)
-        if note:
-            return f"{note[4]}: {note[3]}"
-        error = ERROR.match(line)
-        if error:
-            return f"{error[1]}: {error[3]}"
-    return next((it for it in reversed(said.lines) if it.strip()), "no words")
+    def groups(self, mutants):
+        """Groups of which none sees another's definition."""
+        found = []
+        for one in mutants:
+            sees = self.sources.basis(one.item)[1] if one.item else set()
+            room = next((it for it in found if len(it) < MOST and one.item and not any(
+                other.item in sees or one.item in self.sources.basis(other.item)[1] for other in it)), None)
+            if room is None:
+                found.append([one])
+            else:
+                room.append(one)
+        return found
 
-
-def is_unread(said, path):
-    """Whether the definition, or one that cites it, can't be read any more."""
-    return any(it and it[1].startswith("specs/") for it in map(ERROR.match, said.lines))
-
-
-def order_of(laboratory, crate, first):
-    """The crates above in the order in which they are asked: the named ones first, then the lowest."""
-    names = [it.name for it in laboratory.above]
-    return [crate.name, *(it for it in first if it in names), *(it for it in names if it not in first)]
-
-
-def try_one(root, crates, crate, path, text, first):
-    """What comes of a wrong text of a file of a crate's specs/."""
-    laboratory = Laboratory(root, crates, crate)
-    try:
-        (laboratory.room / "crates" / crate.name / path).write_text(text)
-        for name in order_of(laboratory, crate, first):
-            said = laboratory.check(name)
-            if said.status != 0:
-                kind = "unread" if is_unread(said, path) else "noticed"
-                return Outcome(kind, name, " ".join(first_words(said).split())[:200])
-        return Outcome("unnoticed", "", "by no proof, law or example")
-    finally:
-        laboratory.close()
+    def in_batches(self, asking, mutants):
+        with ThreadPoolExecutor(self.jobs) as workers:
+            for found in workers.map(asking.try_batch, asking.batches(mutants)):
+                yield from found.items()

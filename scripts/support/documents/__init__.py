@@ -1,1 +1,1 @@
-"""What checks the repository's documents against its files."""
+"""Checks of the repository's documents against its files."""

@@ -18,7 +18,7 @@ TAKING_CALLS = ("nvmesim_open", "nvmesim_open_lent", "nvmesim_read_configuration
 
 @dataclass
 class Row:
-    """What a function has: whether that takes memory, how often it has each name, and the line of the list."""
+    """A function's row: whether it takes memory, the count of each name in it, and the line of the list."""
     is_taking: bool
     counts: "Counter[str]"
     line: int
@@ -33,7 +33,7 @@ class Takers:
 
 @dataclass
 class Lists:
-    """Both lists, and what is wrong with them. A row is known by its file and its function."""
+    """Both lists, and their faults. A row is identified by its file and its function."""
     known: Set[str] = field(default_factory=set)
     rows: Dict[Tuple[str, str], Row] = field(default_factory=dict)
     wrong: List[Finding] = field(default_factory=list)
@@ -59,7 +59,7 @@ class Lists:
         if kind not in ("takes", "holds") or not names or not why.strip() or not path:
             self.wrong.append(Finding(HERE, n, "no row: takes|holds FUNCTION NAME .. -- why"))
         if kind == "takes" and function.startswith("nvmesim_") and function not in TAKING_CALLS:
-            self.wrong.append(Finding(HERE, n, f"{function} is an event or a look, and may take no memory"))
+            self.wrong.append(Finding(HERE, n, f"{function} is an event or a query, and may take no memory"))
         key = (f"crates/{path}", "" if function == "-" else function)
         if key in self.rows:
             self.wrong.append(Finding(HERE, n, f"{function} is here twice"))
@@ -67,7 +67,7 @@ class Lists:
 
 
 def counted(words: List[str]) -> "Counter[str]":
-    """How often each name is listed: NAME is once, NAME*3 three times."""
+    """The count of each listed name: NAME is once, NAME*3 three times."""
     counts: "Counter[str]" = Counter()
     for word in words:
         name, _, count = word.partition("*")
@@ -76,7 +76,7 @@ def counted(words: List[str]) -> "Counter[str]":
 
 
 def lists() -> Lists:
-    """Both lists as they are written."""
+    """Reads both lists."""
     found, path = Lists(), ""
     for line in OUTSIDE.read_text(encoding="utf-8").splitlines():
         if line.startswith("    "):

@@ -1,4 +1,4 @@
-"""docs/PROVED.md lists each source that calls the system, of which no contract speaks, with its lines."""
+"""docs/PROVED.md lists each source that makes system calls, which no contract covers, with its number of lines."""
 import re
 from pathlib import Path
 from typing import Dict, Iterator, List, Tuple
@@ -15,7 +15,7 @@ SYSTEM = ("env", "fs", "net", "os", "process", "rt", "thread")
 
 
 def calls_the_system(source: Source) -> bool:
-    """Whether a source names the system: by an import, by a path or as the runtime that `main` is given."""
+    """Whether a source names the operating system: by an import, by a path or as the runtime parameter of `main`."""
     named = any(it.is_name("HostRuntime") for it in source.code)
     paths = zip(source.code, source.code[1:], source.code[2:])
     return named or any(one.is_name("std", "core") and sign.is_sign("::") and it.is_name(*SYSTEM) for one, sign, it in paths) \

@@ -1,19 +1,22 @@
-"""Comments of the clients', scripts' and measurements' sources, in pieces: docstrings, and comments on lines that follow
-one another."""
+"""Comments of the sources of crates, clients, scripts and measurements, in pieces: docstrings, and comments on lines that
+follow one another."""
 import io
 import re
 import tokenize
 from pathlib import Path
 from typing import Iterator, List, Tuple
 
+from support.documents.texts import CRATE_PARTS, crates
+
 FOLDERS = ("clients", "scripts", "bench", ".ci")
 TOP_SCRIPTS = ("nvmesim", "nvmelive", "nvmetcp")
-# What builds make, and sources that have the words themselves or are not rewritten yet.
+# What builds make, and sources that have the words themselves.
 MADE = {"out", "target", "build", "__pycache__"}
 EXEMPT = ("scripts/support/documents/wording.py", "scripts/support/documents/selftest.py",
           "scripts/support/documents/spellings.py")
 # A comment line by its language. The text before it is code.
-LEADS = {"c": re.compile(r"^\s*(?://[/!]?|/\*+|\*(?!/))(?:\s(.*?))?(?:\*/)?$"), "sh": re.compile(r"^\s*#(?!!)(?:\s(.*))?$")}
+LEADS = {"c": re.compile(r"^\s*(?://[/!]?|/\*+|\*(?!/))(?:\s(.*?))?(?:\*/)?$"), "sh": re.compile(r"^\s*#(?!!)(?:\s(.*))?$"),
+         "rt": re.compile(r"^\s*//[/!]?(?:\s(.*))?$"), "antt": re.compile(r"^\s*--(?:\s(.*))?$")}
 # A comment quotes texts of the programs, and docstrings have names of parameters.
 QUOTED = re.compile(r'"[^"\n]*"')
 NAMED = re.compile(r"^\s*\w+:", re.M)
@@ -21,7 +24,8 @@ NAMED = re.compile(r"^\s*\w+:", re.M)
 
 def sources(top: Path) -> Iterator[str]:
     """The paths of the sources that are checked."""
-    found = (it for folder in FOLDERS for it in sorted((top / folder).rglob("*")) if it.is_file())
+    folders = (*FOLDERS, *(f"crates/{crate}/{part}" for crate in crates(top) for part in CRATE_PARTS))
+    found = (it for folder in folders for it in sorted((top / folder).rglob("*")) if it.is_file())
     for path in (*found, *(top / it for it in TOP_SCRIPTS if (top / it).is_file())):
         name = str(path.relative_to(top))
         if not MADE & set(path.parts[len(top.parts):]) and name not in EXEMPT:
@@ -29,8 +33,10 @@ def sources(top: Path) -> Iterator[str]:
 
 
 def language(path: str, text: str) -> str:
-    """`py`, `c` (Rust too) or `sh`; an empty text for other files."""
+    """`py`, `c` (Rust too), `sh`, `rt` or `antt`; an empty string for other files."""
     first = text.split("\n", 1)[0]
+    if path.endswith((".rt", ".antt")):
+        return path.rsplit(".", 1)[1]
     if path.endswith(".py") or first.startswith("#!") and "python3" in first:
         return "py"
     if path.endswith((".rs", ".c", ".h")):

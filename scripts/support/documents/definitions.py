@@ -8,6 +8,8 @@ from support.documents.texts import OTHERS, crates
 
 HEAD = re.compile(r"(?:abbrev|unfoldable)(?: pub)? (\w+)|(?:pub )?(?:record|data) (\w+)|(?:pub )?([\w-]+) :")
 USE = re.compile(r"(?:ghost )?(?:pub )?use Rattle\.(\w+)\.specs\.([\w.]+?)(?:\.\{(.*)\})?(?: as (\w+))?;?$")
+# The lines of an import: before its names, the names, and after them.
+IMPORT = re.compile(r"^((?:ghost )?(?:pub )?use [^{\n]*\{)([^}]*)(\}.*)$", re.M)
 TYPE = re.compile(r"(?:pub(?:\([a-z]+\))? )?(?:struct|enum|trait) (\w+)")
 NAME = re.compile(r"(?<![\w.'])([A-Za-z_]\w*)(?:\.([A-Za-z_]\w*))?")
 LABEL = re.compile(r"(?m)^\s*pub \w+ :|\b\w+ = (?!=)")
@@ -27,7 +29,7 @@ class Definition:
 
 @dataclass
 class Module:
-    """A file of definitions: them in order, and what its imports call which."""
+    """A file of definitions: these in order, and the names of its imports."""
     name: str
     definitions: Dict[str, Definition] = field(default_factory=dict)
     imports: Dict[str, Key] = field(default_factory=dict)
@@ -35,12 +37,17 @@ class Module:
 
 
 def place_of(crate: str, path: str) -> Tuple[str, Optional[str]]:
-    """The file that an import names, and the type, where it is one of the code."""
+    """The file that an import names, and the type, if it is one of the code."""
     words = path.split(".")
     if words[0] in ("declared", "contracts"):
         words = [it for it in words[1:] if it not in ("TheVariants", "TheInside")]
         return f"crates/{crate}/src/{'/'.join(words[:-1])}", words[-1]
     return f"crates/{crate}/specs/{'/'.join(words)}", None
+
+
+def with_short_imports(text: str) -> str:
+    """A text with each import on one line, and an empty line for each of its other lines."""
+    return IMPORT.sub(lambda it: it[1] + " ".join(it[2].split()) + it[3] + "\n" * it[2].count("\n"), text)
 
 
 def take_import(module: Module, line: str) -> None:
@@ -61,7 +68,7 @@ def take_import(module: Module, line: str) -> None:
 def read_specs(name: str, text: str) -> Module:
     """A file of specs: its definitions, each from its head to the next blank line."""
     module, block, at = Module(name), [], 0
-    for n, line in enumerate([*text.split("\n"), ""]):
+    for n, line in enumerate([*with_short_imports(text).split("\n"), ""]):
         take_import(module, line)
         if line.startswith(("--", "use ", "pub use ", "pub mod ")):
             continue
@@ -106,7 +113,7 @@ def read_code(name: str, text: str) -> Module:
 
 
 class Library:
-    """All modules of the crates, and what is where."""
+    """All modules of the crates, and their definitions."""
 
     def __init__(self, top: Path):
         self.modules: Dict[str, Module] = {}
@@ -146,7 +153,7 @@ class Library:
         return sorted(self.types.get(name, []), key=lambda it: [not it[0].startswith(one) for one in near])
 
     def parts(self, definition: Definition) -> Iterator[Definition]:
-        """What a definition is made of, by the names in its text."""
+        """The definitions that a definition uses, by the names in its text."""
         module = self.modules[definition.key[0]]
         is_code = not module.name.partition("/specs/")[1]
         for name, behind in NAME.findall(LABEL.sub("", definition.text)):
@@ -163,7 +170,7 @@ class Library:
                 yield found
 
     def cone(self, begin: List[Definition]) -> Dict[Key, Definition]:
-        """The definitions and all that they are made of, each after what it is made of."""
+        """The definitions and all that they use, each after those that it uses."""
         found: Dict[Key, Definition] = {}
         seen = set()
 

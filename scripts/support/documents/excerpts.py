@@ -1,4 +1,4 @@
-"""Excerpts of code in documents: each names its file, and is what is there."""
+"""Excerpts of code in documents: each names its file, and is equal to a part of it."""
 import re
 from pathlib import Path
 from typing import Iterator, List, Tuple
@@ -12,7 +12,7 @@ ELISION = ".."
 
 
 def check(top: Path, document: Document) -> Iterator[Finding]:
-    """What is wrong about the code that a document shows."""
+    """Faults of the code in a document."""
     for fence in document.fences:
         if fence.files is not None:
             for line, what in faults_of(top, fence):
@@ -29,12 +29,12 @@ def holds(fence: Fence, line: int) -> bool:
 
 
 def faults_of(top: Path, fence: Fence) -> Iterator[Tuple[int, str]]:
-    """The lines of a marked fence where it is not what its files have. Each part of it, between blank lines, is in
+    """The lines of a marked fence if it is not what its files have. Each part of it, between blank lines, is in
     one of the files; the parts of one file in its order."""
     sources = {}
     for name in fence.files or []:
         if not (top / name).is_file():
-            yield fence.line - 1, f"an excerpt of {name}, which is not there"
+            yield fence.line - 1, f"an excerpt of {name}, which is missing"
             return
         sources[name] = lines_of(name, (top / name).read_text(encoding="utf-8"))
     begins = dict.fromkeys(sources, 0)

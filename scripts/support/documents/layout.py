@@ -27,17 +27,17 @@ def check_texts(top: Path) -> Iterator[Finding]:
 
 
 def check_prose(document: Document) -> Iterator[Finding]:
-    """Lines that are no rows of tables and no marks have 120 columns at most."""
+    """Lines have at most 120 columns, except for rows of tables and marks."""
     for n, line in document.prose:
         if len(line) > COLUMNS and not line.startswith(("|", "<!--")):
-            yield Finding(document.path, n, f"{len(line)} columns, where {COLUMNS} are the most")
+            yield Finding(document.path, n, f"{len(line)} columns; at most {COLUMNS} are allowed")
 
 
 def check_front(document: Document) -> Iterator[Finding]:
     """README has at most `MOST_LINES` lines, and shows the hosts and a timeline."""
     lines = document.text.rstrip("\n").split("\n")
     if len(lines) > MOST_LINES:
-        yield Finding(document.path, MOST_LINES + 1, f"{len(lines)} lines, where {MOST_LINES} are the most")
+        yield Finding(document.path, MOST_LINES + 1, f"{len(lines)} lines; at most {MOST_LINES} are allowed")
     targets = [target for _, target in document.links]
     for it in PICTURES:
         if it not in targets:
@@ -61,4 +61,4 @@ def check_tables(document: Document) -> Iterator[Finding]:
             yield Finding(document.path, n, f"{cells_of(line)} cells in the row of a table of {cells_of(head[0])}")
         longest = max(len(cell.split()) for cell in CELL.split(line.strip().strip("|")))
         if document.path == "README.md" and longest > MOST_WORDS:
-            yield Finding(document.path, n, f"a cell of {longest} words, where {MOST_WORDS} are the most")
+            yield Finding(document.path, n, f"a cell of {longest} words; at most {MOST_WORDS} are allowed")

@@ -1,4 +1,4 @@
-"""A link whose text is a name, as [`Step`](crates/nvme_machine/specs/Subsystems.antt), leads to a file that has it."""
+"""A link named after a definition, as [`Step`](crates/nvme_machine/specs/Subsystems.antt), leads to its file."""
 import re
 from functools import lru_cache
 from pathlib import Path
@@ -30,7 +30,7 @@ def known(text: str, is_spec: bool) -> FrozenSet[str]:
 
 
 def check(top: Path, document: Document) -> Iterator[Finding]:
-    """The file of each such link has the name. A file that is missing is a fault of check_links."""
+    """Faults: links to files that do not define the name. `check_links` reports missing files."""
     for n, name, target in names_in(document):
         path = (top / document.path).parent / target
         if not path.is_file():

@@ -46,6 +46,6 @@ def check(top: Path, found: List[Document]) -> Iterator[Finding]:
     told = rows(next(it for it in found if it.path == TABLE))
     known = dict(calls(top))
     for name in sorted(known.keys() - told.keys()):
-        yield Finding(known[name], 1, f"{name} takes memory, and no row of {TABLE} says so")
+        yield Finding(known[name], 1, f"{name} takes memory, and no row of {TABLE} names it")
     for name in sorted(told.keys() - known.keys()):
         yield Finding(TABLE, told[name], f"no public call {name} takes memory")

@@ -54,12 +54,12 @@ def is_there(top: Path, text: str) -> bool:
 
 
 def is_made(text: str) -> bool:
-    """Whether a path is of what a build makes."""
+    """Whether a path is a build product."""
     return "out" in text.split("/")
 
 
 def check_paths(top: Path, document: Document) -> Iterator[Finding]:
-    """Each path or file that a code span begins with exists, or is one that the reader is asked to save."""
+    """Each path or file at the beginning of a code span exists, or is one that the reader is asked to save."""
     saved = SAVED.findall(document.text)
     for n, span in document.spans:
         word = span.split()[0] if span.split() else ""
@@ -71,7 +71,7 @@ def check_paths(top: Path, document: Document) -> Iterator[Finding]:
         if word in saved:
             continue
         if is_path and not is_made(word) and not is_there(top, word.removeprefix("./")):
-            yield Finding(document.path, n, f"{word} is not there")
+            yield Finding(document.path, n, f"{word} is missing")
         elif FILE.match(word) and not is_path and not PLACE.match(word) and not any(named(top, word)):
             yield Finding(document.path, n, f"no file is called {word}")
 
@@ -83,7 +83,7 @@ def named(top: Path, name: str) -> Iterator[Path]:
 
 
 def check_crates(top: Path, found: List[Document]) -> Iterator[Finding]:
-    """The architecture has each crate in a table; and no document names one that is not there."""
+    """The architecture has each crate in a table, and no document names a crate that does not exist."""
     known = crates(top)
     of_kit = {it for _, names in uses(top) for it in names}
     for document in found:
@@ -112,8 +112,7 @@ def check_modules(top: Path, found: List[Document]) -> Iterator[Finding]:
 
 
 def check_contracts(top: Path, found: List[Document]) -> Iterator[Finding]:
-    """What is proved is said crate by crate: of each crate in a section of its own, or in the words before them, which
-    name those that have no statement."""
+    """docs/PROVED.md has a section for each crate, or names it before them as one without a statement."""
     document = next((it for it in found if it.path == CONTRACTS), None)
     parts = list(document.sections()) if document else []
     whole = next(((first, end) for heading, first, end in parts if heading == SECTION), None)
@@ -178,7 +177,7 @@ def check_definitions(top: Path, document: Document) -> Iterator[Finding]:
 
 
 def check_links(top: Path, document: Document, others: List[Document]) -> Iterator[Finding]:
-    """Each relative link leads to a file, and to a heading where it names one."""
+    """Each relative link leads to a file, and to a heading if it names one."""
     anchors = {it.path: it.anchors for it in others}
     for n, target in document.links:
         if re.match(r"[a-z]+:", target):
@@ -187,7 +186,7 @@ def check_links(top: Path, document: Document, others: List[Document]) -> Iterat
         path = (top / document.path).parent / file if file else top / document.path
         name = str(Path(*path.resolve().relative_to(top.resolve()).parts)) if path.exists() else ""
         if not name:
-            yield Finding(document.path, n, f"a link to {file}, which is not there")
+            yield Finding(document.path, n, f"a link to {file}, which is missing")
         elif anchor and anchor not in anchors.get(name, []):
             yield Finding(document.path, n, f"a link to #{anchor}, which {name} has not")
 
@@ -233,7 +232,7 @@ def check_picture(top: Path) -> Iterator[Finding]:
             places[name] = place
     for name, below in uses(top):
         if name not in places:
-            yield Finding(PICTURE, 1, f"{name} is not there")
+            yield Finding(PICTURE, 1, f"{name} is missing")
             continue
         for other in below:
             if other in places and places[other] <= places[name]:

@@ -1,7 +1,7 @@
 """The lists of docs/CONTRIBUTING.md have each file of code and of definitions that names what they look for.
 
 A list begins with words such as: Search for `Compare`. The compiler and the check name most places of a new
-member, but a list that lacks one says that there is none.
+member, but a list without one claims that there is none.
 """
 import re
 from pathlib import Path
@@ -13,7 +13,7 @@ from support.documents.texts import Document, Finding
 LISTS = "docs/CONTRIBUTING.md"
 SOUGHT = re.compile(r"[Ss]earch for `(\w+)`")
 HEADING = re.compile(r"^Adding ")
-IMPORT = re.compile(r"^(?:ghost )?(?:pub )?use .*$", re.M)
+IMPORT = re.compile(r"^(?:ghost )?(?:pub )?use [^{\n]*(?:\{[^}]*\})?.*$", re.M)
 # Files that speak of a member by choice: examples, laws, tests and measurements.
 BY_CHOICE = re.compile(r"/(?:examples|laws|tests)(?:/|\.rt$)|_examples\.rt$|crates/nvme_bench/")
 

@@ -1,7 +1,7 @@
-"""What a source does when it runs, of its tokens: the names in it, in which functions they are.
+"""Parses a source's tokens into the code that runs: its names, and the functions that they are in.
 
-Contracts, ghost members and attributes do nothing then, and are left out. What can't be read is reported, so nothing is
-left out because it was written otherwise.
+Contracts, ghost members and attributes are left out. Code that can't be parsed is reported, so no spelling hides a
+name.
 """
 import re
 from dataclasses import dataclass, field
@@ -18,7 +18,7 @@ WORDS = {"as", "break", "const", "dyn", "else", "for", "fn", "if", "impl", "in",
          "return", "where", "while"}
 
 
-# Structs that hold a place on the heap without giving it back: whoever takes one apart could forget the place.
+# Structs that hold a place on the heap without giving it back: code that destructures one could forget the place.
 BARE = ("BoxPointer", "Slot")
 # What is before a name that is given here, and calls nothing.
 BINDING = ("fn", "let", "mut", "mod", "const", "static", "type", "struct", "enum", "trait", "as", "ref", "crate")
@@ -29,7 +29,7 @@ class Named:
     """A name that the code uses: how, with what is before it; in which function, of which type; and on which line.
 
     The way is `.name` of a method, `Type::name` of a path, `name!` of a macro, `name(` of a call by one name, `name()`
-    of a name that is alone, as a function does that is handed on, and `Type{` of a value that is taken apart."""
+    of a name that is alone, such as a function that is passed on, and `Type{` of a destructured value."""
     key: str
     function: str
     line: int
@@ -37,7 +37,7 @@ class Named:
 
 @dataclass(frozen=True)
 class Imported:
-    """What a `use` takes in: its path, the name that it has here, and the line."""
+    """An import: its path, its local name, and the line."""
     path: Tuple[str, ...]
     name: str
     line: int
@@ -45,7 +45,7 @@ class Imported:
 
 @dataclass
 class Source:
-    """A source, read: its code, what each name is in, and what was not understood."""
+    """A parsed source: its code, the context of each name, and what was not understood."""
     code: List[Token] = field(default_factory=list)
     derived: List[Tuple[str, int]] = field(default_factory=list)
     unread: List[Tuple[str, int]] = field(default_factory=list)
@@ -62,18 +62,18 @@ def is_at(found: List[Token], at: int, sign: str) -> bool:
     return at < len(found) and found[at].is_sign(sign)
 
 
-def behind_braces(found: List[Token], at: int) -> Optional[int]:
-    """The place after the braces here and those of a `by`, or nothing where there are none."""
+def after_braces(found: List[Token], at: int) -> Optional[int]:
+    """The place after the braces here and those of a `by`, or nothing if there are none."""
     if not is_at(found, at, "{"):
         return None
     at = closing(found, at) + 1
     if at < len(found) and found[at].is_name("by"):
-        return behind_braces(found, at + 1)
+        return after_braces(found, at + 1)
     return at
 
 
-def behind_ghost(found: List[Token], at: int) -> Optional[int]:
-    """The place after a clause or what is ghost, or nothing where it has no form of these."""
+def after_ghost(found: List[Token], at: int) -> Optional[int]:
+    """The place after a clause or what is ghost, or nothing if it has no form of these."""
     word, at = found[at].text, at + 1
     if word == "ghost" and found[at].is_name("use"):
         while at < len(found) and not found[at].is_sign(";"):
@@ -83,11 +83,11 @@ def behind_ghost(found: List[Token], at: int) -> Optional[int]:
     named = at < len(found) and found[at].is_name()
     at += named
     if word in CLAUSES:
-        return behind_braces(found, at)
+        return after_braces(found, at)
     if not named or not (is_at(found, at, ":") or is_at(found, at, "=")):
         return None
-    end = behind_braces(found, at + 1)
-    return behind_braces(found, end + 1) if end and is_at(found, end, "=") else end
+    end = after_braces(found, at + 1)
+    return after_braces(found, end + 1) if end and is_at(found, end, "=") else end
 
 
 def read(text: str) -> Source:
@@ -97,7 +97,7 @@ def read(text: str) -> Source:
         it = found[at]
         end: Optional[int] = None
         if it.is_name("ghost", *CLAUSES):
-            end = behind_ghost(found, at)
+            end = after_ghost(found, at)
             if end is None:
                 source.unread.append((f"{it.text} here is no clause and no member", it.line))
         elif it.is_sign("#") and (is_at(found, at + 1, "[") or is_at(found, at + 1, "!")):
@@ -120,7 +120,7 @@ def read(text: str) -> Source:
 
 
 def unclear(found: List[Token], is_ghost: bool) -> Iterator[Tuple[str, int]]:
-    """What the toolchain might read otherwise than this does, so that code could hide after it."""
+    """Forms that the toolchain might parse differently, so that code could hide after them."""
     for it, after in zip(found, [*found[1:], Token("sign", "", 0)]):
         if is_ghost and it.is_sign("-") and after.is_sign("-"):
             yield "two hyphens in what is ghost, which may begin a comment", it.line
@@ -177,7 +177,7 @@ def is_item(code: List[Token], at: int, word: str) -> bool:
 
 
 def of_and_for(head: List[Token]) -> Tuple[str, str]:
-    """The trait and the type that the head of an `impl` names, by their last words; no trait where there is none."""
+    """The trait and the type that the head of an `impl` names, by their last words; no trait if there is none."""
     kept = outside_angles(head)
     kept = kept[:next((n for n, it in enumerate(kept) if it.is_name("where")), len(kept))]
     place = next((n for n, it in enumerate(kept) if it.is_name("for")), None)
@@ -259,7 +259,7 @@ def parts(tree: List[Token]) -> Iterator[List[Token]]:
         yield part
 
 
-def behind_angles(code: List[Token], at: int) -> int:
+def opening_angle(code: List[Token], at: int) -> int:
     """The place of the angle bracket that opens the one that closes here."""
     depth = 0
     while at > 0:
@@ -274,7 +274,7 @@ def behind_angles(code: List[Token], at: int) -> int:
 def type_before(code: List[Token], at: int) -> str:
     """The last word of what is before the `::` here: of `Vec::<u8>::new` it is `Vec`, of `<[u8]>::len` none."""
     if code[at - 1].is_sign(">"):
-        at = behind_angles(code, at - 1)
+        at = opening_angle(code, at - 1)
         at -= is_at(code, at - 1, "::")
         return code[at - 1].text if at and is_at(code, at, "::") and code[at - 1].is_name() else "<>"
     return code[at - 1].text if at and code[at - 1].is_name() else ""

@@ -4,7 +4,7 @@ import textwrap
 from pathlib import Path
 from typing import Dict, Iterator, List, Set, Tuple
 
-from support.documents.definitions import Definition, Key, Library, take_import, Module
+from support.documents.definitions import Definition, Key, Library, take_import, Module, with_short_imports
 from support.documents.texts import Document, Finding, crates
 
 THEOREMS = "docs/THEOREMS.md"
@@ -32,11 +32,11 @@ The lists of a subsystem's and of a fleet's events come first. Those of the theo
 
 
 def law_of(top: Path, crate: str, name: str, library: Library) -> List[Definition]:
-    """The definitions that the contract of a law cites; none where the crate has no such law."""
+    """The definitions that the contract of a law cites; none if the crate has no such law."""
     path = top / "crates" / crate / "src/laws.rt"
     text = path.read_text(encoding="utf-8") if path.is_file() else ""
     module = Module(crate)
-    for line in text.split("\n"):
+    for line in with_short_imports(text).split("\n"):
         take_import(module, line)
     found = re.search(rf"pub fn {name}(?:<[^(]*>)?\(\)(.*?)\n\{{", text, re.S)
     cited = [module.imports[it] for it in ENSURES.findall(found[1] if found else "") if it in module.imports]
@@ -55,7 +55,7 @@ def theorems(top: Path, document: Document, library: Library) -> Iterator[Tuple[
 
 
 def order_of(top: Path, cone: Dict[Key, Definition], library: Library) -> List[str]:
-    """The modules of a list, each after those that its definitions are made of; crates lowest first where that is all
+    """The modules of a list, each after those that its definitions are made of; crates lowest first if that is all
     the same."""
     rank = {name: at for at, name in enumerate(crates(top))}
     below: Dict[str, Set[str]] = {key[0]: set() for key in cone}
@@ -121,7 +121,7 @@ def page(top: Path, found: List[Document], library: Library) -> str:
 
 
 def called(definition: Definition, others: List[Definition]) -> str:
-    """A definition's name, with its module where another one is called so."""
+    """A definition's name, with its module if another one is called so."""
     is_alone = {it.key for it in others if it.key[1] == definition.key[1]} == {definition.key}
     return f"`{definition.key[1]}`" + ("" if is_alone else f" of `{definition.key[0].split('/')[-1]}`")
 
@@ -135,4 +135,4 @@ def check(top: Path, found: List[Document]) -> Iterator[Finding]:
             yield Finding(THEOREMS, 1, f"{heading}: no definition is stated by {law}")
     page(top, found, library)
     for file, name in sorted(library.lost):
-        yield Finding(THEOREMS, 1, f"{name} of {file} is imported, and not found there")
+        yield Finding(THEOREMS, 1, f"{name} of {file} is imported but not found there")

@@ -1,11 +1,14 @@
-"""How large files and functions are: so large that each is read in one go, and no larger."""
+"""Limits on the size of files and functions, so that each can be read in one go, and on the width of lines."""
 import re
 from pathlib import Path
 from typing import Dict, Iterator, List, Tuple
 
 from support import source
-from support.documents.texts import Finding, crates
+from support.documents.texts import CRATE_PARTS, Finding, crates
 
+MOST_COLUMNS = 120
+# The formatter puts an attribute on one line.
+ATTRIBUTE = re.compile(r"\s*#!?\[")
 MOST_LINES = 499
 MOST_BODY = 39
 MOST_PARAMETERS = 6
@@ -23,23 +26,24 @@ LONG_BODIES: Dict[Tuple[str, str], Tuple[int, str]] = {
         (43, TABLE),
     ("crates/nvme_transcript/src/short.rt", "short::put_line"): (41, TABLE),
 }
-LENT = "what is lent stands apart, so that a contract can name it: streams, medium, window, marks"
+LENT = "each borrowed part is a parameter, so that a contract can name it: streams, medium, window, marks"
 MANY_PARAMETERS: Dict[Tuple[str, str], Tuple[int, str]] = {
     ("crates/nvme_exec/src/admission.rt", "admission::admit"): (7, LENT),
     ("crates/nvme_exec/src/carrying.rt", "carrying::carry_out"): (7, LENT),
-    ("crates/nvme_exec/src/execution.rt", "execution::execute_marking"): (7, LENT),
+    ("crates/nvme_exec/src/execution.rt", "execution::execute_into"): (7, LENT),
     ("crates/nvme_exec/src/execution.rt", "execution::perform"): (7, LENT),
-    ("crates/nvme_library/src/opening.rt", "opening::nvmesim_open"): (7, "what C hands over: lists and their lengths"),
+    ("crates/nvme_library/src/opening.rt", "opening::nvmesim_open"): (8, "what C hands over: lists and their lengths"),
     ("crates/nvme_library/src/reading.rt", "reading::nvmesim_read_configuration"):
-        (7, "what C hands over: lists and their lengths"),
+        (8, "what C hands over: lists and their lengths"),
     ("crates/nvme_library/src/opening.rt", "opening::nvmesim_open_lent"):
-        (7, "what C hands over: lists and their lengths"),
+        (8, "what C hands over: lists and their lengths"),
+    ("crates/nvme_script/src/program.rt", "program::run_over"): (7, LENT),
     ("crates/nvme_script/src/run.rt", "run::run_event"): (8, LENT),
     ("crates/nvme_script/src/run.rt", "run::run_events"): (7, LENT),
     ("crates/nvme_live/src/conversation.rt", "conversation::set_up"): (9, LENT),
     ("crates/nvme_live/src/conversation.rt", "conversation::converse"): (9, LENT),
-    ("crates/nvme_live/src/session.rt", "session::start"): (7, LENT),
-    ("crates/nvme_live/src/session.rt", "session::run_from_start"): (8, LENT),
+    ("crates/nvme_live/src/session.rt", "session::start"): (8, LENT),
+    ("crates/nvme_live/src/session.rt", "session::run_from_start"): (9, LENT),
 }
 SELF = re.compile(r"(?:&(?:'\w+ )?)?(?:mut )?self(?:: .*)?")
 NAME = re.compile(r"\bfn \w+")
@@ -73,7 +77,7 @@ def end_of_name(head: str) -> int:
 
 
 def too_large(name, size: int, most: int, known: Dict, seen: Dict) -> bool:
-    """Whether something is larger than it may be; what is known to be is noted, with its size."""
+    """Whether something is too large; records the size of a listed exception."""
     if size <= most:
         return False
     seen[name] = size
@@ -86,12 +90,20 @@ def check_functions(path: str, text: str, bodies: Dict, heads: Dict) -> Iterator
     for it in source.functions_of(text, path.split("/src/", 1)[1] if "/src/" in path else path):
         name, body = (path, it.name), it.last - it.body + 1
         if too_large(name, body, MOST_BODY, LONG_BODIES, bodies):
-            yield Finding(path, it.first + 1, f"the body of {it.name} has {body} lines, where {MOST_BODY} are the most")
+            yield Finding(path, it.first + 1, f"the body of {it.name} has {body} lines; at most {MOST_BODY} are allowed")
         head = "\n".join(line for line in lines[it.first:it.body + 1]
                          if not line.lstrip().startswith(("//", "#[")))
         count = parameters_of(head)
         if too_large(name, count, MOST_PARAMETERS, MANY_PARAMETERS, heads):
-            yield Finding(path, it.first + 1, f"{it.name} has {count} parameters, where {MOST_PARAMETERS} are the most")
+            yield Finding(path, it.first + 1, f"{it.name} has {count} parameters; at most {MOST_PARAMETERS} are allowed")
+
+
+def check_widths(top: Path) -> Iterator[Finding]:
+    """The lines of the crates' sources, definitions and proofs."""
+    for path in sorted(path for part in CRATE_PARTS for path in top.glob(f"crates/*/{part}/**/*")):
+        for n, line in enumerate(path.read_text(encoding="utf-8").split("\n") if path.is_file() else (), 1):
+            if len(line) > MOST_COLUMNS and not ATTRIBUTE.match(line):
+                yield Finding(str(path.relative_to(top)), n, f"{len(line)} columns; at most {MOST_COLUMNS} are allowed")
 
 
 def known_still(known: Dict, seen: Dict) -> Iterator[Finding]:
@@ -102,7 +114,9 @@ def known_still(known: Dict, seen: Dict) -> Iterator[Finding]:
 
 
 def check(top: Path) -> Iterator[Finding]:
-    """Files have fewer than 500 lines, functions fewer than 40, and six parameters at most."""
+    """Files have fewer than 500 lines, functions fewer than 40 lines and at most six parameters; lines at most 120
+    columns."""
+    yield from check_widths(top)
     files: Dict[str, int] = {}
     bodies: Dict[Tuple[str, str], int] = {}
     heads: Dict[Tuple[str, str], int] = {}
@@ -112,7 +126,7 @@ def check(top: Path) -> Iterator[Finding]:
         name, text = str(path.relative_to(top)), path.read_text(encoding="utf-8")
         size = text.count("\n")
         if too_large(name, size, MOST_LINES, LONG_FILES, files):
-            yield Finding(name, 1, f"{size} lines, where {MOST_LINES} are the most")
+            yield Finding(name, 1, f"{size} lines; at most {MOST_LINES} are allowed")
     for crate in crates(top):
         for path in sorted((top / "crates" / crate / "src").glob("**/*.rt")):
             yield from check_functions(str(path.relative_to(top)), path.read_text(encoding="utf-8"), bodies, heads)

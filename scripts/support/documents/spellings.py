@@ -1,4 +1,4 @@
-"""Ways to take memory, to keep it or to do something as a value goes, each of which the rules must find.
+"""Ways to take memory, to keep it or to run code when a value is dropped, each of which the rules must find.
 
 Each is written as someone would who wants it to pass: with comments between the words, by another name, by a path, by a
 macro. A rule that finds none of them that the others don't is not needed, and is told too.
@@ -22,8 +22,8 @@ ITEM = Place("crates/nvme_medium/src/file.rt", "\nimpl<F: RawFile> FileMedium<F>
 IMPORT = Place("crates/nvme_live/src/session.rt", "\nuse ")
 # Events: a store to a window, which has `self.bytes`, a vector; and two calls of the library, which are given `alloc`.
 STORE = Place("crates/nvme_mem/src/window.rt", "        if !is_inside(addr, len) {\n            return Err")
-CYCLE = Place("crates/nvme_library/src/events.rt", "    happen(alloc, sim, Event::PowerCycle)")
-LOAD = Place("crates/nvme_library/src/events.rt", "    happen(alloc, sim, Event::Store(cntlid, address, bytes))")
+CYCLE = Place("crates/nvme_library/src/events.rt", "    apply_event(alloc, sim, Event::PowerCycle)")
+LOAD = Place("crates/nvme_library/src/events.rt", "    apply_event(alloc, sim, Event::Store(cntlid, address, bytes))")
 # A function that may add to a list of a fixed size, once.
 FETCH = Place("crates/nvme_ctrl/src/fetching.rt", "self.fetched.push(")
 

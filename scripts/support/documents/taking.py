@@ -1,11 +1,10 @@
-"""What takes memory, keeps it, or happens as a value goes, is where the lists say, and nowhere else.
+"""Only the listed functions take memory, keep it, or act when a value is dropped.
 
-No contract says it: a vector carries its allocator, so a body could make it longer, or clone it, without being given
-one; a value that is forgotten takes what it has with it; a type with a `Drop` of its own could write to its medium once
-no clause can speak of that any more. So each name that the code uses is one of the repository's own, or one of another
-crate that outside.txt knows to take nothing; or memory.txt has the function with it, just as often as it is there.
-What calls a function that takes memory is in that list too, whether it is given an allocator or not. Tests are free to
-take memory.
+No contract covers this. A vector carries its allocator, so a body could extend or clone it without an allocator; a
+forgotten value leaks its memory; a type with its own `Drop` could write to its medium after every clause. So each name
+that the code uses is one of the repository's own, or one of another crate that outside.txt knows to take nothing; or
+memory.txt has the function with it, just as often as it is there. What calls a function that takes memory is in that
+list too, whether it is given an allocator or not. Tests are free to take memory.
 """
 import re
 from collections import Counter
@@ -128,7 +127,7 @@ def counted_in(path: str, source: Source, owned: Owned, given: Lists) -> Dict[st
 
 
 def compared(path: str, source: Source, owned: Owned, given: Lists) -> Iterator[Finding]:
-    """What a source has that the list has not, and the other way about."""
+    """The differences between a source and the list."""
     counts = counted_in(path, source, owned, given)
     rows = {function: row for (file, function), row in given.rows.items() if file == path}
     for function in sorted({*counts, *rows}):
@@ -169,22 +168,22 @@ def imported(path: str, source: Source, owned: Owned, given: Lists) -> Iterator[
 
 
 def endings(path: str, source: Source, owned: Owned, given: Lists) -> Iterator[Finding]:
-    """What happens as a value goes, or that it never goes."""
+    """Code that runs when a value is dropped, or that prevents a drop."""
     for of_trait, owner, line in source.impls:
         if of_trait in {it.name for it in source.uses if it.path[-1] == "Drop"} | {"Drop"}:
-            yield Finding(path, line, f"{owner} has a Drop of its own, of which no clause speaks")
+            yield Finding(path, line, f"{owner} has its own Drop, which no clause covers")
     for it in source.uses:
         is_foreign = it.path[-1] in ENDLESS and it.path[0] not in OWN
         if is_foreign or it.path[-1] == "Drop" and it.name != "Drop":
-            yield Finding(path, it.line, f"no clause speaks of what goes, or never does: {'::'.join(it.path)}")
+            yield Finding(path, it.line, f"no clause covers a drop, or a leak: {'::'.join(it.path)}")
     for named in names(source):
         owner, _, name = named.key.rpartition("::")
         if name in ENDLESS and owner not in ("", *OWN) or named.key.lstrip(".").rstrip("(") in ENDLESS - {"forget"}:
-            yield Finding(path, named.line, f"no clause speaks of what goes, or never does: {named.key}")
+            yield Finding(path, named.line, f"no clause covers a drop, or a leak: {named.key}")
 
 
 def forms(path: str, source: Source, owned: Owned, given: Lists) -> Iterator[Finding]:
-    """What the other rules could not see through: macros, functions of C, names that hide others."""
+    """Forms that the other rules can't see through: macros, functions of C, names that hide others."""
     for what, line in source.unread:
         yield Finding(path, line, what)
     for word, line in source.derived:
@@ -206,7 +205,7 @@ RULES = (endings, forms, imported, compared)
 
 
 def of_source(path: str, source: Source, owned: Owned, given: Lists) -> Iterator[Finding]:
-    """What is wrong with a source."""
+    """The faults of a source."""
     for rule in RULES[:1] if TESTS.match(path.split("/")[1]) else RULES:
         yield from rule(path, source, owned, given)
 
@@ -237,7 +236,7 @@ def check(top: Path) -> Iterator[Finding]:
         yield from of_source(path, source, owned, given)
     for (path, _), row in given.rows.items():
         if path not in found:
-            yield Finding(HERE, row.line, f"{path} is not there")
+            yield Finding(HERE, row.line, f"{path} is missing")
     for name, others in uses(top):
         for other in () if TESTS.match(name) else filter(TESTS.match, others):
             yield Finding("crates.txt", 1, f"{name} depends on {other}, which is a test and may take memory")

@@ -1,4 +1,4 @@
-"""The repository's texts, and a document of Markdown taken apart: fences, code spans, links, headings, tables."""
+"""The repository's texts, and a document of Markdown parsed: fences, code spans, links, headings, tables."""
 import re
 from dataclasses import dataclass, field
 from functools import cached_property
@@ -21,7 +21,7 @@ LINK = re.compile(r"\]\(([^()\s]+)\)")
 
 @dataclass(frozen=True)
 class Finding:
-    """Something that is wrong at a line of a text, from 1."""
+    """A fault at a line of a text, from 1."""
     path: str
     line: int
     what: str

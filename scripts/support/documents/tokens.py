@@ -1,8 +1,8 @@
 """The tokens of a source, without its comments.
 
 Texts, characters and lifetimes are tokens of their own, so a word in one is no name. A comment may be within a comment,
-and a text that is raw may have quotation marks. What the checks read of a source are these tokens: neither blanks nor
-comments, nor where a line ends, can hide a name from them.
+and a text that is raw may have quotation marks. The checks read these tokens, so blanks, comments and line breaks can't
+hide a name.
 """
 import re
 from typing import Iterator, List, NamedTuple
@@ -37,11 +37,11 @@ class Token(NamedTuple):
         return self.kind == SIGN and self.text == text
 
     def is_name(self, *names: str) -> bool:
-        """Whether it is one of these names, or any name where none is given."""
+        """Whether it is one of these names, or any name if none is given."""
         return self.kind == NAME and (not names or self.text in names)
 
 
-def behind_comment(text: str, at: int) -> int:
+def after_comment(text: str, at: int) -> int:
     """The place after the comment between stars that begins here: those within it end first."""
     depth = 0
     for found in BORDER.finditer(text, at):
@@ -57,7 +57,7 @@ def tokens(text: str) -> Iterator[Token]:
     while at < len(text):
         found = None if text.startswith("/*", at) else FORMS.match(text, at)
         form = found.lastgroup if found else "blank"
-        end = found.end() if found else behind_comment(text, at)
+        end = found.end() if found else after_comment(text, at)
         if found and form != "blank":
             yield Token(KINDS.get(form, form), found[form], line)
             line += form in LONG and text.count("\n", at, end)

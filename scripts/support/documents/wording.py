@@ -1,5 +1,5 @@
-"""Words of documents and comments that have a better form: private words, and turns of phrase that an engineer stumbles
-over.
+"""Words of documents, comments, docstrings and messages that have a better form: private words, and turns of phrase that
+an engineer stumbles over.
 
 A rule has a pattern, the better form, and a sentence that it must find. Text in code spans and fences is exempt.
 """
@@ -8,7 +8,7 @@ from dataclasses import dataclass
 from pathlib import Path
 from typing import Iterator, List, Tuple
 
-from support.documents import comments, manual
+from support.documents import comments, manual, messages
 from support.documents.texts import SPAN, Document, Finding
 
 # The texts that are checked. Add each document once it is rewritten; a manual page may be here too.
@@ -40,6 +40,9 @@ CHECKED = (
     "man/nvmesim.1",
     "man/nvmetcp.1",
 )
+# Sources that the rules for code do not hold for yet.
+DOCUMENT_RULES_ONLY = ("crates/", "scripts/support/definitions/", "scripts/support/test_definitions.py",
+                       "scripts/wrong-definitions")
 TARGET = re.compile(r"\]\([^()\s]+\)")
 
 
@@ -90,6 +93,33 @@ RULES = (
     Rule(r"\b(?:[Cc]omes?|[Cc]ame) to (?:be|stand)\b", "is now", "Then lines came to be read twice."),
 )
 
+# These hold for comments, docstrings and messages of clients, scripts and measurements, besides the rules above.
+CODE_RULES = (
+    Rule(r"\b(?:[Nn]one|nothing|nobody|[Tt]rue|[Ff]alse|0|string|text|`?\w+(?:Error|Fault|Done)`?) where\b", "if",
+         "Returns None where it has no name."),
+    Rule(r"\bwhere (?:there (?:is|are|was|were)|none\b|nothing\b|nobody\b|that (?:is|can't|can)\b)", "if; when",
+         "It waits where there is no data."),
+    Rule(r"\b[Ww]hat (?:\w+ ){0,3}(?:came|comes|becomes|became|has come|has become) (?:of|to)\b", "result; outcome",
+         "What came of an execution."),
+    Rule(r"\b[Tt]ak(?:e|es|en|ing) (?:[\w`]+ ){0,3}apart\b", "parse", "The answers, taken apart."),
+    Rule(r"\b[Cc]arr(?:y|ies|ied|ying) (?:\w+ ){1,3}out\b", "execute", "Carries the command out."),
+    Rule(r"\bempty texts?\b", "empty string", "An empty text without a reason."),
+    Rule(r"\b[Ll]ooking lines?\b", "query", "The answer of a looking line."),
+    Rule(r"\bunder way\b|\bon (?:its|their) way\b", "in progress; in flight", "A command on its way."),
+    Rule(r"(?:^|\. )The same(?: of| with| without| by| for| if|\.|;)", "name what it is", "The same of a host."),
+    Rule(r"\b[Ww]h(?:oever|omever)\b", "anyone who", "Of two, whoever preempts first continues."),
+    Rule(r"\b(?:bytes|blocks|columns|bits|one|two|year|parameters|times|[\d,]*\d|_) at (?:least|most)\b(?! (?:one|\d))",
+         "at least, at most before the number", "Bytes, one at least."),
+    Rule(r"\b[Ss]a(?:y|ys|id|ying) (?:so|more|the rest|nothing|in words)\b|\bsays (?:which|what) there (?:is|are)\b",
+         "reports; prints; lists; describes", "The option --help says the rest."),
+    Rule(r"(?:^|\. )Gives?\b", "Returns", "Gives the answer of a query."),
+    Rule(r"(?:^|\. )(?:Says?|Tells?)\b", "Reports; Prints; Describes", "Says which bits are set."),
+    Rule(r"\bas (?:a|the|its) \w+ goes\b", "when it is dropped", "It happens as a value goes."),
+    Rule(r"\b(?:admin|I/O) lanes?\b", "queue; queue pair", "The requests of the admin lane."),
+    Rule(r"\bshall\b", "must; should", "As often as its command shall."),
+    Rule(r"\bas (?:it|they) must be\b", "passed; correct", "All is as it must be."),
+)
+
 
 def without_code(text: str) -> str:
     """A text whose code spans and link targets are blank, each character in its place."""
@@ -111,24 +141,32 @@ def pieces_of(top: Path, path: str) -> Iterator[Tuple[int, str]]:
             yield n, line
 
 
-def faults_of(piece: str) -> Iterator[Tuple[int, str]]:
-    """What a piece of prose has that has a better form: the line in the piece, from 0, and what to write."""
+def faults_of(piece: str, rules: Tuple[Rule, ...] = RULES) -> Iterator[Tuple[int, str]]:
+    """The words of a piece of prose that have a better form: the line in the piece, from 0, and what to write."""
     plain = without_code(piece).replace("\n", " ")
-    for rule in RULES:
+    for rule in rules:
         for found in rule.find(plain):
             yield piece.count("\n", 0, found.start()), f"'{found[0].strip()}': write {rule.better}"
 
 
+def rules_for(path: str) -> Tuple[Rule, ...]:
+    """The rules for a source: some folders have only those of documents."""
+    return RULES if path.startswith(DOCUMENT_RULES_ONLY) else RULES + CODE_RULES
+
+
 def check(top: Path) -> Iterator[Finding]:
-    """The texts that are checked, and the comments of clients and scripts, have none of these words."""
-    documents = ((path, first, piece) for path in CHECKED for first, piece in pieces_of(top, path))
-    for path, first, piece in (*documents, *comments.pieces(top)):
-        for line, what in faults_of(piece):
+    """The checked documents, and comments, docstrings and messages of sources, have none of these words."""
+    documents = ((path, first, piece, RULES) for path in CHECKED for first, piece in pieces_of(top, path))
+    sources = ((path, first, piece, rules_for(path))
+               for path, first, piece in (*comments.pieces(top), *messages.pieces(top)))
+    for path, first, piece, rules in (*documents, *sources):
+        for line, what in faults_of(piece, rules):
             yield Finding(path, first + line, what)
 
 
 def missed() -> List[str]:
     """The rules that don't find their sentence, or that find it in a code span."""
-    found = [it for it in RULES if not any(it.find(it.sample.replace("\n", " ")))]
-    spans = [it for it in RULES if any(True for _ in faults_of(f"`{it.sample.replace('`', '')}`"))]
+    every = RULES + CODE_RULES
+    found = [it for it in every if not any(it.find(it.sample.replace("\n", " ")))]
+    spans = [it for it in every if any(True for _ in faults_of(f"`{it.sample.replace('`', '')}`", every))]
     return [f"the words of {it.sample!r}" for it in (*found, *spans)]

@@ -16,7 +16,7 @@ KINDS = ("alloc", "open", "stat", "read", "write", "pread", "pwrite", "sync", "l
 # What else it counts: the requests for memory since the last read, how often memory was given back, and how
 # often since the last read.
 SINCE_READ, FREED, FREED_SINCE_READ = OTHERS = ("since read", "freed", "freed since read")
-# How many seconds a run may take; it takes a few hundredths.
+# The timeout of a run in seconds; a run takes a few hundredths.
 WITHIN = 60
 # A line that gives the reason: it is of the program, or of a place in the script.
 REASON = re.compile(rb"(?:nvmesim: |[^\n]+:\d+:\d+: )[^\n]+\n")
@@ -24,7 +24,7 @@ SOURCE = Path(__file__).resolve().parent / "refuse.c"
 
 
 class Wrong(Exception):
-    """Something is not as it must be."""
+    """A check failed."""
 
 
 @dataclass(frozen=True)
@@ -42,7 +42,7 @@ class Plan:
 @dataclass
 class Shown:
     """What a run showed and left: its status, its streams, its image, how many calls were made to fail, and how many of
-    each kind were made, where the library was loaded and the program ended by itself."""
+    each kind were made, if the library was loaded and the program ended by itself."""
     status: int
     output: bytes
     errors: bytes
@@ -154,7 +154,7 @@ def compile_library(library: Path) -> None:
 
 
 def each(work: Callable[[Any], Any], tasks: Iterable[Any]) -> List[Any]:
-    """Does work for each task, side by side; what each came to, in order. The first that goes wrong ends it."""
+    """Runs the tasks in parallel. Returns their results in order; the first failure ends it."""
     with ThreadPoolExecutor(max_workers=os.cpu_count() or 1) as pool:
         try:
             return list(pool.map(work, tasks))
@@ -164,7 +164,7 @@ def each(work: Callable[[Any], Any], tasks: Iterable[Any]) -> List[Any]:
 
 
 def clip(bytes_shown: Optional[bytes]) -> str:
-    """Bytes for a message, cut where they are long."""
+    """Bytes for a message, cut if they are long."""
     if bytes_shown is None:
         return "none"
     return repr(bytes_shown[:300])[1:] + (f" and {len(bytes_shown) - 300} more" if len(bytes_shown) > 300 else "")
@@ -173,14 +173,14 @@ def clip(bytes_shown: Optional[bytes]) -> str:
 def difference(found: Optional[bytes], wanted: Optional[bytes]) -> str:
     """The first difference of bytes from the expected ones, for a message."""
     if found is None or wanted is None:
-        return f"{clip(found)}, and not {clip(wanted)}"
+        return f"{clip(found)}, not {clip(wanted)}"
     at = next((i for i, (a, b) in enumerate(zip(found, wanted)) if a != b), min(len(found), len(wanted)))
     start = max(0, at - 60)
     return (f"{len(found)} bytes instead of {len(wanted)}, and from byte {at} on not the same: .."
-            f"{clip(found[start:at + 60])}, and not ..{clip(wanted[start:at + 60])}")
+            f"{clip(found[start:at + 60])}, not ..{clip(wanted[start:at + 60])}")
 
 
-def tells(errors: bytes, text: bytes) -> bool:
+def is_message(errors: bytes, text: bytes) -> bool:
     """Whether standard error is a text of one line, or none, and at most a line with the reason after it."""
     if errors == text or not text:
         return errors == text
@@ -192,10 +192,10 @@ def must_be(what: str, shown: Shown, status: int, output: Optional[bytes], error
     """Whether a run ended as it must; an output or a text of errors that is None may be any. Of standard error the
     first line is compared; a second one may give the reason."""
     if shown.status != status:
-        raise Wrong(f"{what}: status {shown.status}, and not {status}; standard error has {clip(shown.errors)}")
+        raise Wrong(f"{what}: status {shown.status}, not {status}; standard error has {clip(shown.errors)}")
     if output is not None and shown.output != output:
         raise Wrong(f"{what}: not the transcript: {difference(shown.output, output)}")
-    if errors is not None and not tells(shown.errors, errors):
-        raise Wrong(f"{what}: standard error has {clip(shown.errors)}, and not {clip(errors)}")
+    if errors is not None and not is_message(shown.errors, errors):
+        raise Wrong(f"{what}: standard error has {clip(shown.errors)}, not {clip(errors)}")
     if shown.image != image:
         raise Wrong(f"{what}: not the image: {difference(shown.image, image)}")

@@ -1,8 +1,8 @@
 """Each request for memory refused in turn to a program that makes each call which takes memory.
 
-Its calls say themselves whether all is as it was where they are refused: a medium that is handed back, events that have
-not happened, and a run that continues after the replies that it added. An image is opened without a request of the
-program's own; there the system has no memory.
+The program itself checks that a refused call changes nothing: it returns the medium, its events have not happened, and
+its run continues after the replies that it added. An image is opened without a request of the program's own; there the
+system has no memory.
 """
 import os
 import shutil
@@ -33,7 +33,7 @@ def run(bench: Bench, top: Path, refused: Plan) -> Shown:
 
 
 def judge(names: List[str], refused: Plan, shown: Shown) -> Dict[str, str]:
-    """What each call said, of which at most one may not be done."""
+    """The report of each call, of which at most one may be refused."""
     what = f"memory refused to the calls ({refused})"
     told = dict(line.split(": ", 1) for line in shown.output.decode().splitlines() if ": " in line)
     if shown.status != 0 or list(told) != names or any(it not in SAID for it in told.values()):
@@ -61,7 +61,7 @@ def try_calls(bench: Bench, top: Path) -> str:
     for name, count in counts.items():
         if not count:
             raise Wrong(f"no request of {name} was refused")
-    return "each request of a call refused: " + ", ".join(f"{it} {n}" for it, n in counts.items()) + ": as they must be"
+    return "each request of a call refused: " + ", ".join(f"{it} {n}" for it, n in counts.items()) + ": passed"
 
 
 CHECKS: Dict[str, Check] = {"each": try_calls}

@@ -10,13 +10,13 @@ from support.faults import (calls, commands, cuts, device, files, killed, locks,
                             session, steady, transcript)
 from support.faults.bench import Bench, Check, Wrong
 
-USAGE = """Tries what a user of storage fears on the built program.
+USAGE = """Tests the built program under faults that a storage user fears.
 
 Each request for memory, each call on the image, each read of the script and each write of the transcript fails in
-turn; a million events take as much memory as none; the program is killed at any moment; images are cut, removed or not
-files, and are on file systems that are full or read-only; scripts are cut. The expected result is computed from what docs/USING.md promises. The status is 1 at the
-first thing that is wrong, and 2 where nothing could be tried. A small library is compiled for it, by $CC, `cc` or the
-toolchain's compiler."""
+turn; a million events take as much memory as none; the program is killed at any moment; images are truncated, removed
+or not regular files, or on file systems that are full or read-only; scripts are cut. The expected result is computed
+from what docs/USING.md promises. The status is 1 at the first thing that is wrong, and 2 if nothing could be tried. A
+small library is compiled for it, by $CC, `cc` or the toolchain's compiler."""
 
 GROUPS: Dict[str, Dict[str, Check]] = {
     "memory": memory.CHECKS, "steady": steady.CHECKS, "session": session.CHECKS,
@@ -62,7 +62,7 @@ def words_of(given: List[str]) -> argparse.Namespace:
     parser.add_argument("program", metavar="PROGRAM", help="a built nvmesim, such as `./nvmesim --where` prints")
     parser.add_argument("groups", nargs="*", metavar="GROUP", help=f"one of {', '.join(GROUPS)}; else all")
     parser.add_argument("--self-test", action="store_true",
-                        help="make the program do wrong, in twelve ways: each check that can see one must find it, and "
+                        help="plant twelve faults in the program: each check that can see one must find it, and "
                              "each must find one")
     return parser.parse_args(given)
 
@@ -106,7 +106,7 @@ def self_test(folder: Path, program: Path, top: Path, names: List[str]) -> int:
         if (group, name) not in seen:
             print(f"faults: {group} {name}: no planted fault tries it", file=sys.stderr)
             missed += 1
-    print(f"faults: self-test: {missed} not as they must be" if missed else
+    print(f"faults: self-test: {missed} failed" if missed else
           f"faults: self-test: each planted fault was found, and each of {len(seen)} checks found one")
     return 1 if missed else 0
 

@@ -7,8 +7,8 @@ from support.faults.model import pattern, plan
 
 SETUP = "controller 1 host 0xa1{}\nnamespace 1 blocks 16 shared\nattached 1 1\nstart\n"
 NEW = "ab" * 1536
-# A command on three blocks, the calls that fail in turn, and its answer where the first, the second .. of them does;
-# the last is that where none does. Of a Compare whose first block differs the others are not read.
+# A command on three blocks, the calls that fail in turn, and its answer if the first, the second .. of them does;
+# the last is that without a failure. Of a Compare whose first block differs the others are not read.
 CASES: Tuple[Tuple[str, str, Tuple[str, ...]], ...] = (
     ("read 1 1 0 3", "pread", ("2:81 0", "2:81 0", "2:81 0", "0:00 0")),
     ("compare 1 1 0 3 hex:{}", "pread", ("2:81 0", "2:81 0", "2:81 0", "0:00 0")),
@@ -90,7 +90,7 @@ def try_raw(bench: Bench, top: Path) -> str:
         must_be(what, shown, 0, None, b"", before[:4096] + memory + before[5632:])
         if executed(shown.output) != ["0:00 0", "0:00 0", read, "0:00 0"]:
             raise Wrong(f"{what}: the executions posted {executed(shown.output)}")
-    return "host memory after a Read that failed: 4 runs, as it must be"
+    return "host memory after a Read that failed: 4 runs: passed"
 
 
 def try_commands(bench: Bench, top: Path) -> str:
@@ -98,7 +98,7 @@ def try_commands(bench: Bench, top: Path) -> str:
     del top
     before = pattern(5, 16, 100)
     runs = sum(try_command(bench, before, *case) for case in CASES)
-    return f"commands on three blocks, each call failing: {runs} runs, as they must be"
+    return f"commands on three blocks, each call failing: {runs} runs: passed"
 
 
 CHECKS: Dict[str, Check] = {"blocks": try_commands, "raw": try_raw}

@@ -17,7 +17,7 @@ EVENT = re.compile(rf"(up|ring|poll) {NUMBER}|(fetch|execute) {NUMBER} {NUMBER}|
 
 
 def events_in(text: str) -> Optional[int]:
-    """How many events a cut script has; None where its last line is not understood."""
+    """The number of events of a cut script; None if its last line is not understood."""
     is_started, events = False, 0
     for line in text.split("\n"):
         words = " ".join(line.split())
@@ -30,7 +30,7 @@ def events_in(text: str) -> Optional[int]:
     return events
 
 
-def image_behind(before: bytes, lines: bytes) -> bytes:
+def image_after(before: bytes, lines: bytes) -> bytes:
     """The image after these lines: the example's first execution writes `Hello` to block 0, and its fourth fills
     blocks 0 and 1 with zeros."""
     executed = sum(line.startswith(b"execute") for line in lines.splitlines())
@@ -51,7 +51,7 @@ def try_cut(bench: Bench, script: bytes, transcript: bytes, before: bytes, at: i
         must_be(what, shown, 1, b"", f"nvmesim: line {line}: not understood\n".encode(), before)
         return False
     lines = b"".join(transcript.splitlines(True)[:events])
-    must_be(what, shown, 0, lines, b"", image_behind(before, lines))
+    must_be(what, shown, 0, lines, b"", image_after(before, lines))
     return True
 
 
@@ -64,11 +64,11 @@ def try_lengths(bench: Bench, top: Path) -> str:
         must_be(f"{LONGEST} bytes of #", shown, 0, b"", b"", before)
         shown = bench.run(b"#" * (LONGEST + 1), before, by_stdin=by_stdin)
         must_be(f"{LONGEST + 1} bytes of #", shown, 1, b"", b"nvmesim: script too long\n", before)
-    return "scripts of the greatest length, and of a byte more: as they must be"
+    return "scripts of the greatest length, and of a byte more: passed"
 
 
 def try_endless(bench: Bench, top: Path) -> str:
-    """A script without end, of which no more is taken than says that it is too long."""
+    """A script without end, of which only a byte too many is read."""
     del top
     room = bench.room()
     (room / "image").write_bytes(b"\7" * 600)
@@ -76,12 +76,12 @@ def try_endless(bench: Bench, top: Path) -> str:
         started = bench.start(room, ["image"], stdin=zeros, stdout=subprocess.PIPE, stderr=subprocess.PIPE)
         shown = bench.finish(room, started)
     must_be("a script without end", shown, 1, b"", b"nvmesim: script too long\n", b"\7" * 600)
-    return "a script without end: as it must be"
+    return "a script without end: passed"
 
 
 def try_cuts_of(bench: Bench, script: bytes, transcript: bytes) -> Tuple[int, int]:
     """A script cut after each of its bytes: how often that is a script, and how often it is refused."""
-    before = bytes(64 * 512) + b"behind"
+    before = bytes(64 * 512) + b"after"
 
     def work(at: int) -> bool:
         return try_cut(bench, script, transcript, before, at)
@@ -97,7 +97,7 @@ def try_cuts(bench: Bench, top: Path) -> str:
     data, program = top / "crates/nvme_examples/data", top / "crates/nvmesim"
     counts = [try_cuts_of(bench, script.read_bytes(), transcript.read_bytes()) for script, transcript in
               ((data / "first-steps.nvme", data / "first-steps.out"), (program / "stdin", program / "stdout"))]
-    return "; ".join(f"{what} cut after each byte: {good} scripts and {refused} refused, as they must be"
+    return "; ".join(f"{what} cut after each byte: {good} scripts and {refused} refused: passed"
                      for what, (good, refused) in zip(("the first example", "the program's own script"), counts))
 
 

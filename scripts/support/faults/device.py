@@ -1,8 +1,8 @@
 """Each call on the image failing in turn: with an error, with nothing moved, with a part moved, and from one call on.
 
-What a script must come to is computed, call by call: a call that fails is reported by its own command, 2:80 or 2:81,
-and by no other line but those of commands that read a block whose write was lost; the exit status is 0; the image has
-what those events leave; and no other call is made of it. A Read that continues after its fault shows in its calls
+The expected result of a script is computed call by call: a call that fails is reported by its own command, 2:80 or
+2:81, and by no other line but those of commands that read a block whose write was lost; the exit status is 0; the image
+has what those events leave; and no other call is made of it. A Read that continues after its fault shows in its calls
 alone, since nobody sees the blocks that it reads. A call that moves fewer bytes is followed by one for the rest, and
 nobody notices.
 """
@@ -11,7 +11,7 @@ from pathlib import Path
 from typing import Dict, Iterator, List, Tuple
 
 from support.faults.bench import Bench, Check, Wrong, each, must_be
-from support.faults.model import UNNOTICED, Command, Disk, Told, pattern, plan, script_of, told_of
+from support.faults.model import UNNOTICED, Command, Disk, Told, pattern, plan, results_of, script_of
 
 BLOCKS = 40
 HOWS = {"pread": ("EIO", "EINTR", "none", "fewer"), "pwrite": ("EIO", "ENOSPC", "EINTR", "none", "torn", "fewer"),
@@ -41,7 +41,7 @@ def beyond_the_cache() -> List[Command]:
 
 def places(commands: List[Command], before: bytes, hows: dict, is_onward: bool) -> Iterator[Tuple[str, int, str, bool]]:
     """Each call that the commands make, in each way; and after the last of a kind one that must not be made."""
-    counts = told_of(commands, Disk(before)).disk.counts
+    counts = results_of(commands, Disk(before)).disk.counts
     for kind, ways in hows.items():
         for how in ways:
             last = counts[kind] + (not is_onward and how != "fewer")
@@ -53,7 +53,7 @@ def try_place(bench: Bench, commands: List[Command], before: bytes, place: Tuple
     """One run with such a call failing."""
     kind, at, how, is_onward = place
     blocks = len(before) // 512
-    told: Told = told_of(commands, Disk(before, kind, at, how, is_onward))
+    told: Told = results_of(commands, Disk(before, kind, at, how, is_onward))
     what = f"{NAMES[kind]} {at}{' and all after it' if is_onward else ''} of the image: {how}"
     shown = bench.run(script_of(commands, blocks), before, plan(kind, at, how, is_onward))
     must_be(what, shown, 0, told.transcript(), b"", told.image())
@@ -62,7 +62,7 @@ def try_place(bench: Bench, commands: List[Command], before: bytes, place: Tuple
     made = {it: shown.counts[it] for it in NAMES}
     wanted = {it: told.disk.counts[it] for it in NAMES}
     if (kind, how) not in UNNOTICED and made != wanted:
-        raise Wrong(f"{what}: these calls of the image were made: {made}, and not {wanted}")
+        raise Wrong(f"{what}: these calls of the image were made: {made}, not {wanted}")
     is_made = at <= told.disk.counts[kind]
     if bool(shown.hits) != is_made:
         raise Wrong(f"{what}: the call was {'not ' if is_made else ''}made")
@@ -75,7 +75,7 @@ def try_turns(bench: Bench, top: Path, kind: str) -> str:
     commands = commands_over(before)
     found = list(places(commands, before, {kind: HOWS[kind]}, False))
     each(lambda place: try_place(bench, commands, before, place), found)
-    return f"each {NAMES[kind]} of the image failing ({', '.join(HOWS[kind])}): {len(found)} runs, as they must be"
+    return f"each {NAMES[kind]} of the image failing ({', '.join(HOWS[kind])}): {len(found)} runs: passed"
 
 
 def try_onward(bench: Bench, top: Path) -> str:
@@ -85,7 +85,7 @@ def try_onward(bench: Bench, top: Path) -> str:
     commands = commands_over(before)
     found = list(places(commands, before, ONWARD, True))
     each(lambda place: try_place(bench, commands, before, place), found)
-    return f"the image failing from each call on: {len(found)} runs, as they must be"
+    return f"the image failing from each call on: {len(found)} runs: passed"
 
 
 def try_unkept(bench: Bench, top: Path) -> str:
@@ -94,7 +94,7 @@ def try_unkept(bench: Bench, top: Path) -> str:
     before, commands = pattern(4, 300), beyond_the_cache()
     found = [it for it in places(commands, before, {"pread": ("EIO",)}, False) if it[1] % 16 == 1 or it[1] > 250]
     each(lambda place: try_place(bench, commands, before, place), found)
-    return f"reads of more blocks than are kept failing: {len(found)} runs, as they must be"
+    return f"reads of more blocks than are kept failing: {len(found)} runs: passed"
 
 
 CHECKS: Dict[str, Check] = {**{f"{name}s": partial(try_turns, kind=kind) for kind, name in NAMES.items()},

@@ -1,4 +1,4 @@
-"""Images and scripts that are none, images that change while the program runs, and limits."""
+"""Files that can't be images or scripts, images that change while the program runs, and limits."""
 import os
 import resource
 import signal
@@ -8,7 +8,7 @@ from pathlib import Path
 from typing import Any, Callable, Dict, List, Optional, Tuple
 
 from support.faults.bench import Bench, Check, Shown, Wrong, must_be
-from support.faults.model import Command, Disk, pattern, plan, script_of, told_of
+from support.faults.model import Command, Disk, pattern, plan, results_of, script_of
 
 FAULT = b"nvmesim: file fault\n"
 NO_MEMORY = b"nvmesim: out of memory\n"
@@ -21,7 +21,7 @@ def try_sizes(bench: Bench) -> None:
     commands = [Command("write", 8, 1, b"the last block"), Command("read", 7, 2)]
     shown = bench.run(script_of(commands, 10), before)
     must_be("ten blocks on 5,000 bytes", shown, 1, b"", b"nvmesim: line 4: DoesNotFit\n", before)
-    told = told_of(commands, Disk(before))
+    told = results_of(commands, Disk(before))
     shown = bench.run(script_of(commands, 9), before)
     must_be("nine blocks on 5,000 bytes", shown, 0, told.transcript(), b"", told.image())
     if shown.image[-392:] != before[-392:]:
@@ -43,26 +43,26 @@ def run_meeting(bench: Bench, script: bytes, before: bytes, change: Callable[[Pa
 
 
 def try_shortened(bench: Bench) -> None:
-    """Someone else cuts the image in its third block: what is gone can't be read, and what is written lengthens it."""
+    """Another process truncates the image in its third block: lost blocks can't be read, and a write extends it."""
     before, cut = pattern(10, 9, 392), 1200
     commands = [Command("read", 1, 1), Command("read", 2, 1), Command("read", 1, 3), Command("compare", 5, 1, b"any"),
-                Command("write", 3, 1, b"behind the end"), Command("read", 3, 1), Command("read", 4, 1)]
+                Command("write", 3, 1, b"after the end"), Command("read", 3, 1), Command("read", 4, 1)]
     shown = run_meeting(bench, script_of(commands, 9), before, lambda image: os.truncate(image, cut))
-    block = b"behind the end".ljust(512, b"\0")
+    block = b"after the end".ljust(512, b"\0")
     answers = [(b"poll 1 1 0:00 00000000 512 " + before[512:1024].hex().encode()), b"poll 1 2 2:81 00000000",
                b"poll 1 3 2:81 00000000", b"poll 1 4 2:81 00000000", b"poll 1 5 0:00 00000000",
-               b"poll 1 6 0:00 00000000 512 " + b"behind the end".hex().encode(), b"poll 1 7 2:81 00000000"]
+               b"poll 1 6 0:00 00000000 512 " + b"after the end".hex().encode(), b"poll 1 7 2:81 00000000"]
     must_be("an image that is shortened", shown, 0, None, b"", before[:cut] + bytes(1536 - cut) + block)
     polled = [line for line in shown.output.splitlines() if line.startswith(b"poll")]
     if polled != answers:
-        raise Wrong(f"an image that is shortened: answered {polled}, and not {answers}")
+        raise Wrong(f"an image that is shortened: answered {polled}, not {answers}")
 
 
 def try_removed(bench: Bench) -> None:
-    """Someone else removes the image, or puts another in its place: the program continues with the one it opened."""
+    """Another process removes or replaces the image: the program continues with the one it opened."""
     before, other = pattern(11, 4), pattern(12, 4)
     commands = [Command("write", 1, 1, b"gone"), Command("read", 0, 2)]
-    told = told_of(commands, Disk(before))
+    told = results_of(commands, Disk(before))
 
     def replace(image: Path) -> None:
         (image.parent / "other").write_bytes(other)
@@ -93,7 +93,7 @@ def run_words(bench: Bench, room: Path, words: List[str], how: Optional[Dict[str
 
 
 def try_paths(bench: Bench) -> int:
-    """What is no regular file is no image; and what can't be opened or read is no script. Nothing changes."""
+    """An image must be a regular file, and a script must be readable. A refusal changes nothing."""
     before, script = pattern(13, 4, 9), script_of([Command("write", 0, 4, b"new")], 4)
     room = bench.room()
     (room / "script").write_bytes(script)
@@ -105,7 +105,7 @@ def try_paths(bench: Bench) -> int:
     for what, path in unread:
         must_be(f"{what} as the script", run_words(bench, room, ["image", path]), 2, b"", FAULT, before)
     os.symlink("image", room / "link")
-    told = told_of([Command("write", 0, 4, b"new")], Disk(before))
+    told = results_of([Command("write", 0, 4, b"new")], Disk(before))
     must_be("a link to an image", run_words(bench, room, ["link", "script"]), 0, told.transcript(), b"", told.image())
     return len(paths) + len(unread) + 1
 
@@ -128,7 +128,7 @@ def try_rights(bench: Bench) -> int:
         started.wait()
         (room / "image").chmod(0o666)
         shown = bench.finish(room, started)
-        told = told_of([Command("write", 0, 1, b"new")], Disk(before))
+        told = results_of([Command("write", 0, 1, b"new")], Disk(before))
         is_good = not errors
         must_be(what, shown, 0 if is_good else 2, told.transcript() if is_good else b"", errors,
                 told.image() if is_good else before)
@@ -136,9 +136,9 @@ def try_rights(bench: Bench) -> int:
 
 
 def try_opening(bench: Bench) -> int:
-    """Each opening of a file, and each question for what a file is, failing in turn."""
+    """Each open and each stat of a file failing in turn."""
     before, commands = pattern(15, 4, 9), [Command("write", 0, 4, b"new"), Command("read", 0, 1)]
-    told, runs = told_of(commands, Disk(before)), 0
+    told, runs = results_of(commands, Disk(before)), 0
     for kind, how in (("open", "EACCES"), ("open", "EROFS"), ("open", "ENOMEM"), ("open", "EINTR"), ("stat", "EIO"),
                       ("stat", "ENOMEM")):
         for at in range(1, 10):
@@ -162,7 +162,7 @@ def try_limit(bench: Bench) -> None:
     the signal stops the program at the first of them."""
     before = pattern(16, 8)
     commands = [Command("write", 1, 1, b"within"), Command("write", 3, 3, b"two of three" * 60), Command("read", 0, 8)]
-    told = told_of(commands, Disk(before, "pwrite", 3, "EFBIG"))
+    told = results_of(commands, Disk(before, "pwrite", 3, "EFBIG"))
     limit = lambda: resource.setrlimit(resource.RLIMIT_FSIZE, (2048, 2048))
     kept = signal.signal(signal.SIGXFSZ, signal.SIG_IGN)
     try:
@@ -185,11 +185,11 @@ def try_changed(bench: Bench) -> None:
 
 
 def line_of(work: Callable[[Bench], Optional[int]], what: str) -> Check:
-    """A check that says so, with the number of its runs where it is known."""
+    """Adds the result to a check's line, with the number of its runs if known."""
     def check(bench: Bench, top: Path) -> str:
         del top
         runs = work(bench)
-        return f"{what}: {'' if runs is None else f'{runs} runs, '}as {'it' if runs is None else 'they'} must be"
+        return f"{what}: {'' if runs is None else f'{runs} runs: '}passed"
     return check
 
 

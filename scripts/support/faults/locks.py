@@ -1,4 +1,4 @@
-"""The lock of an image: one program at a time has it, and nothing changes where it is refused."""
+"""The lock of an image: one program at a time has it, and nothing changes if it is refused."""
 import os
 import signal
 import subprocess
@@ -7,7 +7,7 @@ from typing import Dict
 
 from support.faults.bench import Bench, Check, Shown, Wrong, must_be
 from support.faults.files import FAULT, NO_MEMORY, run_words
-from support.faults.model import Command, Disk, pattern, plan, script_of, told_of
+from support.faults.model import Command, Disk, pattern, plan, results_of, script_of
 
 COMMANDS = [Command("write", 1, 2, b"new"), Command("read", 0, 4)]
 
@@ -24,11 +24,11 @@ def start_first(bench: Bench, room: Path) -> subprocess.Popen:
 
 
 def try_held(bench: Bench, top: Path) -> str:
-    """A program over an image that another one has is refused, and names it; when that one has ended or was killed, the
-    image can be had."""
+    """A second program over an image is refused, and names the first. When the first ends or is killed, the image is
+    free."""
     del top
     script, before = script_of(COMMANDS, 4), pattern(17, 4)
-    told = told_of(COMMANDS, Disk(before))
+    told = results_of(COMMANDS, Disk(before))
     for is_killed in (False, True):
         room = bench.room()
         (room / "script").write_bytes(script)
@@ -48,16 +48,16 @@ def try_held(bench: Bench, top: Path) -> str:
         status, left = (-signal.SIGKILL, before) if is_killed else (0, told.image())
         must_be("the first program over an image", bench.finish(room, first), status,
                 b"" if is_killed else told.transcript(), b"", left)
-        behind = told_of(COMMANDS, Disk(left))
-        must_be("a program after the first", run_second(bench, room), 0, behind.transcript(), b"", behind.image())
-    return "two programs over one image: 6 runs, as they must be"
+        after = results_of(COMMANDS, Disk(left))
+        must_be("a program after the first", run_second(bench, room), 0, after.transcript(), b"", after.image())
+    return "two programs over one image: 6 runs: passed"
 
 
 def try_refused(bench: Bench, top: Path) -> str:
-    """The system grants no lock."""
+    """The system refuses every lock."""
     del top
     before = pattern(18, 4)
-    reason = b"nvmesim: 'image' can't be locked, as an image has to be\n"
+    reason = b"nvmesim: 'image' can't be locked; an image must be\n"
     for how, status, errors in (("ENOLCK", 2, FAULT + reason), ("EOPNOTSUPP", 2, FAULT + reason),
                                 ("ENOMEM", 4, NO_MEMORY)):
         shown = bench.run(script_of(COMMANDS, 4), before, plan("lock", 1, how))
@@ -65,7 +65,7 @@ def try_refused(bench: Bench, top: Path) -> str:
         if shown.errors != errors or shown.hits != 1:
             raise Wrong(f"a lock that fails with {how}: {shown.hits} calls failed; it prints {shown.errors!r} instead of "
                         f"{errors!r}")
-    return "a lock that the system refuses: 3 runs, as they must be"
+    return "a lock that the system refuses: 3 runs: passed"
 
 
 CHECKS: Dict[str, Check] = {"held": try_held, "refused": try_refused}

@@ -8,7 +8,7 @@ from pathlib import Path
 from typing import Dict, List, Optional
 
 from support.faults.bench import Bench, Check, Shown, Wrong, must_be
-from support.faults.model import Command, Disk, pattern, plan, script_of, told_of
+from support.faults.model import Command, Disk, pattern, plan, results_of, script_of
 
 REFUSED = b"nvmesim: out of memory\n"
 # More requests than any of the runs makes.
@@ -17,7 +17,7 @@ MOST = 5000
 
 @dataclass
 class Case:
-    """A run, and what it must come to."""
+    """A run, and its expected result."""
     name: str
     script: bytes
     transcript: bytes
@@ -66,7 +66,7 @@ def cases(top: Path) -> List[Case]:
     before = pattern(1, 9, 392)
     commands = [Command("write", 1, 1, b"Hello"), Command("read", 1, 1), Command("read", 5, 3),
                 Command("compare", 5, 1, before[2560:3072]), Command("read", 1, 1), Command("zeroes", 0, 3)]
-    told = told_of(commands, Disk(before))
+    told = results_of(commands, Disk(before))
     return [Case("the stored run", (crate / "stdin").read_bytes(), (crate / "stdout").read_bytes()),
             Case("a run over an image", script_of(commands, 9), told.transcript(), before, told.image())]
 
@@ -74,13 +74,13 @@ def cases(top: Path) -> List[Case]:
 def try_turns(bench: Bench, top: Path) -> str:
     """Each request refused."""
     counted = [refuse_each(bench, case, False) for case in cases(top)]
-    return "each request for memory refused: " + ", ".join(counted) + ": as they must be"
+    return "each request for memory refused: " + ", ".join(counted) + ": passed"
 
 
 def try_onward(bench: Bench, top: Path) -> str:
     """All requests from one on refused."""
     counted = [refuse_each(bench, case, True) for case in cases(top)]
-    return "memory refused from each request on: " + ", ".join(counted) + ": as they must be"
+    return "memory refused from each request on: " + ", ".join(counted) + ": passed"
 
 
 CHECKS: Dict[str, Check] = {"turns": try_turns, "onward": try_onward}

@@ -1,4 +1,4 @@
-"""What scripts of one host answer over an image whose calls fail, as the documents promise it.
+"""A model of scripts of one host over an image whose calls fail, after the documents.
 
 A script's commands go through the driver one after the other, each in five events. The image is blocks after a cache
 of the 256 that were used last; a transfer makes one call a block that is not kept, in rising order, and stops at the
@@ -65,7 +65,7 @@ class Disk:
         return block
 
     def write(self, i: int, block: bytes) -> None:
-        """Writes a block, which is kept no longer where that fails."""
+        """Writes a block, which is kept no longer if that fails."""
         try:
             self.call("pwrite")
         except Fault:
@@ -141,7 +141,7 @@ def script_of(commands: List[Command], blocks: int) -> bytes:
 
 @dataclass
 class Told:
-    """What a script must come to: its lines, the image that it leaves, and the image after each command."""
+    """The expected result of a script: its lines, its image, and the image after each command."""
     lines: List[str]
     disk: Disk
     images: List[bytes]
@@ -154,13 +154,13 @@ class Told:
         """The image at the end."""
         return bytes(self.disk.bytes)
 
-    def image_behind(self, events: int) -> bytes:
+    def image_after(self, events: int) -> bytes:
         """The image after `events` events: the driver comes up, and the fourth of each command's five executes it."""
         return self.images[events // 5]
 
 
-def told_of(commands: List[Command], disk: Disk) -> Told:
-    """What commands come to over a disk."""
+def results_of(commands: List[Command], disk: Disk) -> Told:
+    """The results of commands over a disk."""
     lines, images = ["up 1 ok"], [bytes(disk.bytes)]
     for ticket, command in enumerate(commands, 1):
         lines += lines_of(ticket, command.answer(disk))
@@ -169,9 +169,9 @@ def told_of(commands: List[Command], disk: Disk) -> Told:
 
 
 def pattern(seed: int, blocks: int, tail: int = 0) -> bytes:
-    """Bytes of blocks, each of which says where it is and what it is of."""
+    """Bytes of blocks, each with its position and its source."""
     whole = b"".join(f"<{seed}:{i}>".encode().ljust(16, b".") * (BLOCK // 16) for i in range(blocks))
-    return whole + b"behind the blocks ".ljust(tail, b"!")[:tail]
+    return whole + b"after the blocks ".ljust(tail, b"!")[:tail]
 
 
 @dataclass(frozen=True)

@@ -13,7 +13,7 @@ from pathlib import Path
 from typing import Dict, Iterator, List, Tuple
 
 from support.faults.bench import Bench, Check, Shown, Wrong, must_be
-from support.faults.model import BLOCK, Command, Disk, Told, pattern, script_of, told_of
+from support.faults.model import BLOCK, Command, Disk, Told, pattern, results_of, script_of
 
 SEED, RUNS = 20, 200
 WIDE, WRITES = 64, 1000
@@ -27,7 +27,7 @@ class Case:
         chance = random.Random(SEED)
         self.commands = [self.command(i, chance) for i in range(WRITES)]
         self.script = script_of(self.commands, WIDE)
-        self.told: Told = told_of(self.commands, Disk(self.before))
+        self.told: Told = results_of(self.commands, Disk(self.before))
         self.transcript = self.told.transcript()
         # How many blocks are written when the n-th command is done.
         self.done = [0]
@@ -60,7 +60,7 @@ def prefixes(before: bytes, image: bytes, writes: List[Tuple[int, bytes]]) -> It
 def judge(what: str, case: Case, shown: Shown) -> int:
     """Whether a run that was killed left what it must; how many blocks were written."""
     if not case.transcript.startswith(shown.output):
-        raise Wrong(f"{what}: what was printed is no beginning of the transcript")
+        raise Wrong(f"{what}: the output is not a beginning of the transcript")
     image, tail = shown.image, len(case.before) // BLOCK * BLOCK
     if len(image) != len(case.before) or image[tail:] != case.before[tail:]:
         raise Wrong(f"{what}: the image has another length, or other bytes after its last block")
@@ -102,13 +102,13 @@ def at_random(bench: Bench, case: Case) -> str:
         whole.append(taken)
     usual = statistics.median(whole)
     moments = random.Random(SEED)
-    ends = {"before the first block": 0, "among them": 0, "behind the last": 0}
+    ends = {"before the first block": 0, "among them": 0, "after the last": 0}
     for number in range(1, RUNS + 1):
         seconds = moments.uniform(0.0005, 1.05 * usual)
         shown, _ = one_run(bench, case, seconds)
         written = judge(f"killed after {seconds:.4f} seconds (run {number} of seed {SEED})", case, shown)
         total = len(case.told.disk.writes)
-        ends["before the first block" if not written else "behind the last" if written == total else "among them"] += 1
+        ends["before the first block" if not written else "after the last" if written == total else "among them"] += 1
     if not ends["among them"]:
         raise Wrong(f"killed at random moments: no run was killed among its writes: {ends}")
     return ", ".join(f"{count} {where}" for where, count in ends.items())
@@ -117,7 +117,7 @@ def at_random(bench: Bench, case: Case) -> str:
 def try_moments(bench: Bench, top: Path) -> str:
     """Kills at random moments."""
     del top
-    return f"killed at {RUNS} random moments (seed {SEED}): {at_random(bench, Case())}, as they must be"
+    return f"killed at {RUNS} random moments (seed {SEED}): {at_random(bench, Case())}: passed"
 
 
 CHECKS: Dict[str, Check] = {"random": try_moments}

@@ -1,14 +1,14 @@
 """File systems of a run's own: one that can only be read, and one without room.
 
-They are mounted where the machine allows it, in a namespace that nobody else sees and that ends with the run. If it
-does not, calls fail as they would there. What is printed says which it was.
+They are mounted if the machine allows it, in a namespace that nobody else sees and that ends with the run. If it does
+not, calls fail as they would there. The output reports which it was.
 """
 import subprocess
 from pathlib import Path
 from typing import Dict, List, Optional, Sequence, Tuple
 
 from support.faults.bench import WITHIN, Bench, Check, Shown, must_be
-from support.faults.model import Command, Disk, pattern, plan, script_of, told_of
+from support.faults.model import Command, Disk, pattern, plan, results_of, script_of
 
 FAULT = b"nvmesim: file fault\n"
 # How one comes to mounts of one's own: as anybody who is given a namespace of users too, and as root.
@@ -35,7 +35,7 @@ def read_if_any(file: Path) -> Optional[bytes]:
 
 
 def run_mounted(bench: Bench, room: Path, mounting: str, words: Sequence[str]) -> Optional[Shown]:
-    """A run in a folder whose `disk` is mounted so; None where the machine does not let it be mounted."""
+    """A run in a folder whose `disk` is mounted so; None if the machine does not let it be mounted."""
     orders = [f"{name}={value}" for name, value in bench.orders(room, None, "disk/image").items()]
     for way in WAYS:
         command = ["unshare", *way, "sh", "-c", mounting + RUN, "sh", *orders, str(bench.program), *words]
@@ -55,7 +55,7 @@ def try_read_only(bench: Bench, top: Path) -> str:
     del top
     before, commands = pattern(15, 4, 9), [Command("write", 0, 4, b"new"), Command("read", 0, 1)]
     script, what = script_of(commands, 4), "a file system that can only be read"
-    in_memory = told_of(commands, Disk(bytes(4 * 512))).transcript()
+    in_memory = results_of(commands, Disk(bytes(4 * 512))).transcript()
     for words, status, transcript, errors in ((["disk/image", "disk/script"], 2, b"", FAULT),
                                               (["-", "disk/script"], 0, in_memory, b"")):
         room = bench.room()
@@ -65,9 +65,9 @@ def try_read_only(bench: Bench, top: Path) -> str:
         shown = run_mounted(bench, room, READ_ONLY, words)
         if shown is None:
             must_be(what, bench.run(script, before, plan("open", 1, "EROFS")), 2, b"", FAULT, before)
-            return f"{what}, which can't be mounted here: its opening fails with EROFS, and all is as it must be"
+            return f"{what}, which can't be mounted here: its opening fails with EROFS, and nothing changes"
         must_be(what, shown, status, transcript, errors, before)
-    return f"{what}, mounted: as it must be"
+    return f"{what}, mounted: passed"
 
 
 def try_full(bench: Bench, top: Path) -> str:
@@ -79,11 +79,11 @@ def try_full(bench: Bench, top: Path) -> str:
     commands.append(Command("read", 0, 64))
     (room / "script").write_bytes(script_of(commands, 128))
     # The script takes a page; the others are the image's.
-    told = told_of(commands, Disk(bytes(65536), "pwrite", 4, "ENOSPC", True))
+    told = results_of(commands, Disk(bytes(65536), "pwrite", 4, "ENOSPC", True))
     shown = run_mounted(bench, room, FULL, ["disk/image", "disk/script"])
-    how = ", mounted: as it must be"
+    how = ", mounted: passed"
     if shown is None:
-        how = ", which can't be mounted here: its writes fail with ENOSPC, and all is as it must be"
+        how = ", which can't be mounted here: its writes fail with ENOSPC, and nothing changes"
         shown = bench.run(script_of(commands, 128), bytes(65536), plan("pwrite", 4, "ENOSPC", True))
     must_be(what, shown, 0, told.transcript(), b"", told.image())
     return what + how

@@ -3,8 +3,8 @@
 // FAULTS_PLAN says which: KIND:N:HOW, the N-th call of a kind, from 1, or KIND:N+:HOW, that one and all after it.
 // KIND is alloc (every request for memory), open, stat, read, write (to standard output alone), pread, pwrite, sync or
 // lock.
-// HOW is the number of an errno; `none`, which moves nothing and is no error; `fewer`, a third of the bytes and one at
-// least; `torn`, half of the bytes and then EIO; or `kill`, which ends the program by SIGKILL before the call.
+// HOW is the number of an errno; `none`, which moves nothing and is no error; `fewer`, a third of the bytes and at
+// least one; `torn`, half of the bytes and then EIO; or `kill`, which ends the program by SIGKILL before the call.
 // FAULTS_TOLD names a file that gets a byte for each call that was made to fail. FAULTS_COUNTED names one that gets,
 // when the program ends by itself, how many calls of each kind it made, as numbers of eight bytes in their order, and
 // then how many requests for memory it made since its last read, how often it gave memory back, and how often since its
@@ -301,7 +301,7 @@ int flock(int fd, int how) {
     return lies("unlocked") ? 0 : (int)syscall(SYS_flock, fd, how);
 }
 
-// What the program calls where its C library has other names for the same.
+// What the program calls if its C library has other names for the same.
 ssize_t pread64(int, void *, size_t, off_t) __attribute__((alias("pread")));
 ssize_t pwrite64(int, const void *, size_t, off_t) __attribute__((alias("pwrite")));
 int openat64(int, const char *, int, ...) __attribute__((alias("openat")));

@@ -36,7 +36,7 @@ def try_script(bench: Bench, top: Path) -> str:
     del top
     case = Case()
     reads = sum(try_reads(bench, case, how, by) for how in ("EIO", "EINTR", "fewer") for by in (False, True))
-    return f"each read of the script failing: {reads} runs, as they must be"
+    return f"each read of the script failing: {reads} runs: passed"
 
 
 CHECKS: Dict[str, Check] = {"reads": try_script}

@@ -42,8 +42,8 @@ start
 
 def round_of_lines(first: int) -> str:
     """Every kind of line, with the queries between the events."""
-    before, between, behind = round_of_events(first).partition("acquire 2 1 2 1")
-    return before + LOOKS.format(first) + between + behind + REFUSED
+    before, between, after = round_of_events(first).partition("acquire 2 1 2 1")
+    return before + LOOKS.format(first) + between + after + REFUSED
 
 
 def all_looks(top: Path) -> List[str]:
@@ -86,9 +86,9 @@ def try_lines(bench: Bench, top: Path) -> str:
         for first in (BLOCKS * it % ALL_BLOCKS for it in range(SESSIONS)):
             few, many = counted(bench, FEW, first, image), counted(bench, rounds, first, image)
             if few != many:
-                raise Wrong(f"{what}: {rounds} rounds have {many}, where {FEW} have {few}")
+                raise Wrong(f"{what}: {rounds} rounds have {many}, but {FEW} have {few}")
         told.append(f"{what} {few['alloc']} for {SESSIONS} times {rounds} rounds")
-    return f"requests for memory of sessions: {', '.join(told)}: as they must be"
+    return f"requests for memory of sessions: {', '.join(told)}: passed"
 
 
 CHECKS: Dict[str, Check] = {"lines": try_lines}

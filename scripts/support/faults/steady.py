@@ -1,4 +1,4 @@
-"""Events take no memory and give none back: a million lines of every kind of event as little as none.
+"""Events neither take nor free memory: a million lines of every kind of event as little as none.
 
 What is taken and given back is counted, over zeros in memory and over an image, whose cache takes some for each block
 that is new to it. A longer text takes more before it is whole, since its room is doubled; nothing else may take more.
@@ -96,7 +96,7 @@ def must_be_as_few(what: str, few: Dict[str, int], many: Dict[str, int], rounds:
     """A run of many rounds takes as much after its text as one of a few, and gives as much back."""
     for name in (SINCE_READ, FREED_SINCE_READ):
         if many[name] != few[name]:
-            raise Wrong(f"{what}, {rounds} rounds: {many[name]} {name}, where a run of {FEW} rounds has {few[name]}")
+            raise Wrong(f"{what}, {rounds} rounds: {many[name]} {name}, but a run of {FEW} rounds has {few[name]}")
     more = many["alloc"] - few["alloc"]
     if not 0 < more <= (rounds // FEW).bit_length():
         raise Wrong(f"{what}: {more} requests more to read the text of {rounds} rounds")
@@ -120,7 +120,7 @@ def try_rounds(bench: Bench, top: Path) -> str:
             lines += rounds * each
             first = (first + BLOCKS) % ALL_BLOCKS
         told.append(f"{what} {few[SINCE_READ]} for {lines} lines, {nothing} for none")
-    return f"requests for memory after the text: {', '.join(told)}: as they must be"
+    return f"requests for memory after the text: {', '.join(told)}: passed"
 
 
 CHECKS: Dict[str, Check] = {"rounds": try_rounds}

@@ -9,8 +9,8 @@ import subprocess
 from pathlib import Path
 from typing import Dict, List
 
-from support.faults.bench import WITHIN, Bench, Check, Shown, Wrong, each, must_be, tells
-from support.faults.model import Command, Disk, Told, flushes_of, pattern, plan, script_of, told_of
+from support.faults.bench import WITHIN, Bench, Check, Shown, Wrong, each, is_message, must_be
+from support.faults.model import Command, Disk, Told, flushes_of, pattern, plan, results_of, script_of
 
 BLOCKS = 48
 FAULT = b"nvmesim: file fault\n"
@@ -27,19 +27,19 @@ def commands() -> List[Command]:
 
 
 class Case:
-    """The script, the image before it, what it comes to, and at which events its transcript is written."""
+    """The script, the image before it, the expected result, and the events at which its transcript is written."""
 
     def __init__(self) -> None:
         self.before = pattern(6, BLOCKS, 77)
         self.script = script_of(commands(), BLOCKS)
-        self.told: Told = told_of(commands(), Disk(self.before))
+        self.told: Told = results_of(commands(), Disk(self.before))
         self.transcript = self.told.transcript()
         self.flushes = flushes_of(self.told.lines)
 
     def image_at(self, write: int) -> bytes:
-        """The image where the write of the transcript with this number, from 1, fails."""
+        """The image if the write of the transcript with this number, from 1, fails."""
         event = self.flushes[write - 1].event
-        return self.told.image() if event is None else self.told.image_behind(event)
+        return self.told.image() if event is None else self.told.image_after(event)
 
     def written_before(self, write: int) -> bytes:
         """What of the transcript is written before the write with this number."""
@@ -64,7 +64,7 @@ def try_writes(bench: Bench, case: Case, how: str, is_onward: bool) -> int:
         else:
             must_be(what, shown, 2, None, FAULT, case.image_at(at))
         if not case.transcript.startswith(shown.output):
-            raise Wrong(f"{what}: what was printed is no beginning of the transcript")
+            raise Wrong(f"{what}: the output is not a beginning of the transcript")
         if is_onward and at <= calls and shown.output != case.written_before(at):
             raise Wrong(f"{what}: not what was written before it was printed")
         if bool(shown.hits) != (at <= calls):
@@ -113,11 +113,11 @@ def try_head(bench: Bench, case: Case) -> None:
     errors = started.stderr.read()
     status = started.wait(timeout=WITHIN)
     started.stderr.close()
-    if head.stdout != b"up 1 ok\n" or status != 2 or not tells(errors, FAULT):
+    if head.stdout != b"up 1 ok\n" or status != 2 or not is_message(errors, FAULT):
         raise Wrong(f"head -n 1 has {head.stdout!r}, and the program ended with status {status} and {errors!r}")
     # A write of a long line that the reader leaves in its midst is made in part, and its rest goes through the buffer:
     # so the write that fails may come after any event from the first write on.
-    images = {case.told.image_behind(event) for event in range(case.flushes[0].event, len(case.told.lines) + 1)}
+    images = {case.told.image_after(event) for event in range(case.flushes[0].event, len(case.told.lines) + 1)}
     if (room / "image").read_bytes() not in images:
         raise Wrong("head -n 1: the image is not what the events up to one after a write of the transcript leave")
 
@@ -128,21 +128,21 @@ def try_transcript(bench: Bench, top: Path) -> str:
     case = Case()
     writes = sum(try_writes(bench, case, how, False) for how in ("EIO", "ENOSPC", "none", "EINTR", "fewer"))
     writes += try_writes(bench, case, "EPIPE", True)
-    return f"each write of the transcript failing: {writes} runs, as they must be"
+    return f"each write of the transcript failing: {writes} runs: passed"
 
 
 def try_gone(bench: Bench, top: Path) -> str:
     """A reader that is gone before the program starts, and a device that is full."""
     del top
     try_readers(bench, Case())
-    return "a transcript without a reader, and to a full device: as they must be"
+    return "a transcript without a reader, and to a full device: passed"
 
 
 def try_leaving(bench: Bench, top: Path) -> str:
     """A reader that goes away."""
     del top
     try_head(bench, Case())
-    return "a transcript to head -n 1: as it must be"
+    return "a transcript to head -n 1: passed"
 
 
 CHECKS: Dict[str, Check] = {"writes": try_transcript, "gone": try_gone, "leaving": try_leaving}

@@ -8,7 +8,7 @@ from pathlib import Path
 from support import proving, toolchain
 
 # The interface's number, as in nvmesim.h: that of the shared object's name.
-VERSION = "2"
+VERSION = "3"
 CRATE = "nvme_library"
 MOST_TOLD = 4000
 PKGCONFIG = """prefix=${{pcfiledir}}/../..

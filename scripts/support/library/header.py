@@ -1,5 +1,4 @@
-"""Whether nvmesim.h says what the crate nvme_library has: its exports, their parameters, its structs and its
-numbers."""
+"""Compares nvmesim.h with the crate nvme_library: exports, their parameters, structs and numbers."""
 import re
 
 # What a parameter or a result of an export is in C.
@@ -15,20 +14,26 @@ TYPES = {
     "&mut [Controller]": ["nvmesim_controller *", "size_t"], "&mut [Namespace]": ["nvmesim_namespace *", "size_t"],
     "&mut [Attached]": ["nvmesim_attached *", "size_t"], "&Event": ["const nvmesim_event *"],
     "&Answer": ["const nvmesim_answer *"], "Written": ["nvmesim_written"], "Read": ["nvmesim_read"],
+    "HostView": ["nvmesim_host_view"], "&HostView": ["const nvmesim_host_view *"], "&Change": ["const nvmesim_change *"],
+    "&RawNotices": ["const nvmesim_notices *"], "&mut RawNotices": ["nvmesim_notices *"], "&mut [u8; 64]": ["uint8_t *"],
+    "[Notice; 64]": ["nvmesim_notice[64]"], "[u32; 8]": ["uint32_t[8]"],
 }
 # The structs that C sees whole, by their names there.
 STRUCTS = {"Answer": "nvmesim_answer", "Controller": "nvmesim_controller", "Namespace": "nvmesim_namespace",
            "Attached": "nvmesim_attached", "Queue": "nvmesim_queue", "Command": "nvmesim_command",
            "Needed": "nvmesim_needed", "Hold": "nvmesim_hold", "Registrant": "nvmesim_registered", "Event": "nvmesim_event",
-           "Written": "nvmesim_written", "Read": "nvmesim_read"}
+           "Written": "nvmesim_written", "Read": "nvmesim_read", "HostView": "nvmesim_host_view",
+           "Change": "nvmesim_change", "Notice": "nvmesim_notice", "RawNotices": "nvmesim_notices"}
+# Structs of another crate that C holds.
+OTHERS = ("nvme_notices/src/notice.rt", "nvme_notices/src/raw.rt")
 EXPORT = re.compile(r'#\[unsafe\(no_mangle\)\]\s*pub extern "C" fn (\w+)\(([^)]*)\)(?: -> (\w+))?')
 NUMBER = re.compile(r"^pub const (\w+): u32 = (\d+);", re.M)
 
 
 def sources(top):
-    """The text of the crate."""
-    folder = top / "crates" / "nvme_library" / "src"
-    return "\n".join(it.read_text(encoding="utf-8") for it in sorted(folder.glob("*.rt")))
+    """The text of the crate, and of the structs of others."""
+    files = sorted((top / "crates" / "nvme_library" / "src").glob("*.rt")) + [top / "crates" / it for it in OTHERS]
+    return "\n".join(it.read_text(encoding="utf-8") for it in files)
 
 
 def without_comments(text):
@@ -78,7 +83,7 @@ def header_numbers(header):
 
 
 def differences(top, header):
-    """What the header says otherwise than the crate, line by line."""
+    """The differences between the header and the crate, line by line."""
     text = sources(top)
     pairs = [("exports", exports(text), declarations(header)), ("numbers", numbers(text), header_numbers(header))]
     pairs += [(it, dict(rattle_fields(text, it)), dict(c_fields(header, STRUCTS[it]))) for it in STRUCTS]

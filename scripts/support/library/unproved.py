@@ -26,9 +26,12 @@ VALUES = {"Global": "alloc", "&mut Handle": "&mut sim", "u8": "n as u8", "u16": 
           "&[Namespace]": "&namespaces", "&[Attached]": "&attached",
           "&mut [Controller]": "&mut controllers", "&mut [Namespace]": "&mut namespaces",
           "&mut [Attached]": "&mut attached", "&Event": "&event", "&Answer": "&answer",
+          "&Change": "&change", "&HostView": "&view", "&RawNotices": "&notices", "&mut RawNotices": "&mut notices",
+          "&mut [u8; 64]": "&mut page",
           "LentBytes": "LentBytes { at: ptr::null_mut(), len: n }"}
 MAIN = """
 use nvme_lent::LentBytes;
+use nvme_notices::{{Notice, RawNotices}};
 use std::process::ExitCode;
 use std::rt::Env;
 use std::{{env, io, ptr}};
@@ -43,6 +46,11 @@ fn main(rt: HostRuntime) -> io::Result<ExitCode> {{
     let mut attached = [Attached {{ nsid: n as u32, cntlid: n as u16 }}];
     let event = Event {{ at: n as u64, kind: n as u32, value: n as u32, cntlid: n as u16, qid: n as u16 }};
     let answer = Answer {{ value: n as u32, what: n as u32, sct: n as u8, sc: n as u8, rule: n as u8 }};
+    let change = Change {{ nsid: n as u32, action: n as u32, issuer: n as u16 }};
+    let view = HostView {{ what: n as u32, rtype: n as u8, is_registrant: n == 3 }};
+    let notice = Notice {{ count: n as u64, nsid: n as u32, kind: n as u8 }};
+    let mut notices = RawNotices {{ count: n as u64, places: [notice; 64], masks: [n as u32; 8], kept: n as u32 }};
+    let mut page = [0u8; 64];
 {calls}
     Ok(ExitCode::from(0))
 }}
@@ -115,7 +123,7 @@ def inlined(crates: Path) -> Set[Tuple[str, str]]:
 
 
 def with_inlining(module: str, wanted: Set[Tuple[str, str]]) -> str:
-    """The module with these functions inlined, which it does not say by itself: each call would be one."""
+    """The module with these functions marked as inlined: without the mark each would be a call."""
 
     def definition(found: "re.Match[str]") -> str:
         *path, name = re.sub("::<[^>]*>", "", found.group(2)).split("::")

@@ -1,1 +1,1 @@
-"""Runs of the built program, and what must come of them."""
+"""Runs of the built program, with their expected results."""

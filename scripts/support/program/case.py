@@ -1,4 +1,4 @@
-"""A run of the program: what it is given, and what must come of it."""
+"""A run of the program: its input, and its expected result."""
 import os
 import resource
 import shutil
@@ -9,8 +9,10 @@ from dataclasses import dataclass, field
 from pathlib import Path
 from typing import Callable, Iterator, Mapping, Optional, Sequence, Union
 
-# How many seconds a run may take; it takes a few hundredths.
+# The timeout of a run in seconds; a run takes a few hundredths.
 WITHIN = 60
+# A file of more bytes than this is large: its holes are not read.
+LARGE = 16 << 20
 # One controller with a shared namespace of 64 blocks: the first four lines of many scripts.
 SETUP = "controller 1 host 0xa1\nnamespace 1 blocks 64 shared\nattached 1 1\nstart\n"
 
@@ -22,25 +24,25 @@ def carried(*requests: str) -> str:
 
 
 def answered(*answers: str) -> str:
-    """What such a script prints, where each request is executed; of each answer what is after its ticket."""
+    """What the script of `carried` prints if each request is executed. An answer is given from after its ticket on."""
     lines = (f"placed 1 {ticket}\nrung 1\nfetch 1 1 took\nexecute 1 0 posted {it.split()[0]} 0\npoll 1 {ticket} {it}\n"
              for ticket, it in enumerate(answers, 1))
     return "up 1 ok\n" + "".join(lines)
 
 
-# A Write of a block, and a Read of it; and what they print.
+# A Write and a Read of a block, and what they print.
 HELLO = carried("write 1 1 0 1 hex:48656c6c6f", "read 1 1 0 1")
 HELLO_SHOWN = answered("0:00 00000000", "0:00 00000000 512 48656c6c6f")
 
-# A standard stream that is opened in the folder of a run: its descriptor.
+# Opens a standard stream in the folder of a run, and returns its descriptor.
 Opened = Callable[[Path], int]
 
 
 @dataclass(frozen=True)
 class Case:
-    """A run in a folder of its own with these files: the words of the command line, standard input, and what must come
-    of it: the status, all that is on standard output and standard error, and the files of the folder, which are as
-    they were where `left` does not say otherwise."""
+    """A run in a folder of its own with these files: the words of the command line, standard input, and the expected
+    result: the status, standard output, standard error, and the files of the folder. Files that `left` does not list
+    must be unchanged."""
     name: str
     words: Sequence[str] = ()
     given: Union[str, Opened] = ""
@@ -54,9 +56,9 @@ class Case:
     # Preparations in the folder before the run, and actions during it.
     before: Optional[Callable[[Path], None]] = None
     beside: Optional[Callable[[Path], None]] = None
-    # Whether a file `image` must still take no room on the disk, and have the time of its last change.
+    # Whether the file `image` must still take no room on the disk, and have its old modification time.
     is_left_alone: Optional[bool] = None
-    # How many bytes a file may have that the program writes.
+    # The most bytes of a file that the program writes.
     limit: Optional[int] = None
 
 
@@ -71,13 +73,13 @@ class Shown:
 
 
 def is_left_alone(image: Path) -> bool:
-    """Whether a file takes no room on the disk, and was changed last at the time 0."""
+    """Whether a file takes no room on the disk, and its modification time is 0."""
     about = image.stat()
     return about.st_mtime == 0 and about.st_blocks == 0
 
 
 def limiting(limit: Optional[int]) -> Optional[Callable[[], None]]:
-    """Prepares the program's start, so that its writes fail past the limit and no signal stops it."""
+    """Returns what to run before the program: writes past the limit then fail, and no signal stops it."""
     def set_limit() -> None:
         signal.signal(signal.SIGXFSZ, signal.SIG_IGN)
         resource.setrlimit(resource.RLIMIT_FSIZE, (limit, limit))
@@ -103,6 +105,31 @@ def run(case: Case, program: Path, room: Path) -> Shown:
     return shown
 
 
+def sparse(blocks: int, written: Mapping[int, bytes]) -> bytes:
+    """The form in which large files are compared: the length, and the blocks that are not zeros."""
+    return repr((512 * blocks, sorted(written.items()))).encode()
+
+
+def content_of(path: Path) -> bytes:
+    """The content of a file, or the `sparse` form of a large one, whose holes are not read."""
+    size = path.stat().st_size
+    if size <= LARGE:
+        return path.read_bytes()
+    written, at = {}, 0
+    with open(path, "rb") as file:
+        while True:
+            try:
+                at = os.lseek(file.fileno(), at, os.SEEK_DATA)
+            except OSError:
+                return sparse(size // 512, written)
+            end = os.lseek(file.fileno(), at, os.SEEK_HOLE)
+            for place in range(at - at % 512, end, 512):
+                block = os.pread(file.fileno(), 512, place)
+                if block.strip(b"\0"):
+                    written[place // 512] = block
+            at = end
+
+
 def gather(case: Case, started: subprocess.Popen, room: Path) -> Shown:
     """Waits for a run, and gathers what it showed and left."""
     try:
@@ -112,29 +139,29 @@ def gather(case: Case, started: subprocess.Popen, room: Path) -> Shown:
         started.kill()
         output, errors = started.communicate()
         errors += f"and it did not end within {WITHIN} seconds".encode()
-    files = {it.name: it.read_bytes() for it in room.iterdir() if it.is_file()}
+    files = {it.name: content_of(it) for it in room.iterdir() if it.is_file()}
     alone = None if case.is_left_alone is None else is_left_alone(room / "image")
     return Shown(started.returncode, (output or b"").decode("latin-1"), errors.decode("latin-1"), files, alone)
 
 
 def clip(value: object) -> str:
-    """A value for a message, cut where it is long."""
+    """A value for a message, shortened if it is long."""
     text = repr(value)
     return text if len(text) <= 400 else f"{text[:300]} .. {text[-80:]}"
 
 
 def faults(case: Case, shown: Shown) -> Iterator[str]:
-    """What of a run is not as it must be."""
+    """The differences between a run and the expected one."""
     wanted = Shown(case.status, case.output, case.errors, {**case.files, **case.left}, case.is_left_alone)
     for what, found, right in (("status", shown.status, wanted.status), ("output", shown.output, wanted.output),
                                ("standard error", shown.errors, wanted.errors), ("files", shown.files, wanted.files),
                                ("the image is left alone", shown.is_left_alone, wanted.is_left_alone)):
         if found != right:
-            yield f"{what}: {clip(found)}, and not {clip(right)}"
+            yield f"{what}: {clip(found)}, not {clip(right)}"
 
 
 def tried(case: Case, program: Path, folder: Path) -> Shown:
-    """Runs a case in a folder that is made for it below this one, and removed after it."""
+    """Runs a case in a new folder inside `folder`, and removes it afterwards."""
     room = folder / "room"
     room.mkdir()
     try:

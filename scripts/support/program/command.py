@@ -11,11 +11,11 @@ from typing import Dict, Iterator, List, Sequence
 from support.program import files, images, lines, plain, setups, streams
 from support.program.case import Case, faults, tried
 
-USAGE = """Runs the built program on words, streams and files, and compares all that it shows and leaves.
+USAGE = """Runs the built program on words, streams and files, and compares its output and its files.
 
-Each case is a run of the program in a folder of its own: its status, its transcript, each byte on standard error, and
-the files of the folder. The expected result is what docs/USING.md says, written out beside the case. It takes a second.
-The status is 1 where something is wrong, and 2 where nothing could be tried."""
+Each case runs the program in its own folder, and compares the status, the transcript, standard error and the files of
+the folder. The expected result is written next to the case, after docs/USING.md. It takes a second. The status is 1 if
+something is wrong, and 2 if nothing could be tried."""
 
 GROUPS: Dict[str, Sequence[Case]] = {
     "plain": plain.CASES, "lines": lines.CASES, "setups": setups.CASES, "files": files.CASES, "images": images.CASES,
@@ -28,9 +28,9 @@ def words_of(given: List[str]) -> argparse.Namespace:
     parser = argparse.ArgumentParser(prog="scripts/program", description=USAGE,
                                      formatter_class=argparse.RawDescriptionHelpFormatter)
     parser.add_argument("program", metavar="PROGRAM", nargs="?",
-                        help="a built nvmesim; else the one that ./nvmesim builds is taken")
+                        help="a built nvmesim; by default the one that ./nvmesim builds")
     parser.add_argument("--self-test", action="store_true",
-                        help="spoil each thing that each case wants, one by one: it must be found")
+                        help="change each expectation of each case in turn, which must be noticed")
     return parser.parse_args(given)
 
 
@@ -57,7 +57,7 @@ def try_spoiled(case: Case, program: Path, folder: Path) -> List[str]:
 
 
 def built(top: Path) -> Path:
-    """The program that ./nvmesim runs, where that can be built."""
+    """The program that ./nvmesim runs, if that can be built."""
     asked = subprocess.run([str(top / "nvmesim"), "--where"], stdout=subprocess.PIPE, text=True, check=False)
     return Path(asked.stdout.strip() or os.devnull)
 
@@ -69,12 +69,12 @@ def main(top: Path, given: List[str]) -> int:
     if not program.is_file():
         print(f"program: there is no {program}", file=sys.stderr)
         return 2
-    attempt, good = (try_spoiled, "found where it is spoiled") if words.self_test else (try_case, "as it must be")
+    attempt, good = (try_spoiled, "found in a spoiled program") if words.self_test else (try_case, "passed")
     count = failed = 0
     with tempfile.TemporaryDirectory() as folder:
         for group, case in ((group, case) for group, cases in GROUPS.items() for case in cases):
             wrong = attempt(case, program, Path(folder))
             count, failed = count + 1, failed + bool(wrong)
             print(f"{group}: {case.name}: {'; '.join(wrong) or good}", flush=True)
-    print(f"program: {count - failed} cases are {good}, and {failed} are not")
+    print(f"program: {count - failed} cases {good}, {failed} failed")
     return 1 if failed or not count else 0

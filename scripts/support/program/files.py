@@ -1,27 +1,28 @@
 """The words of the command line, and the files that they name."""
 from support.program.case import HELLO, HELLO_SHOWN, SETUP, Case
 
-USAGE = "usage: nvmesim [IMAGE [SCRIPT]]"
+USAGE = "usage: nvmesim [--any-size] [IMAGE [SCRIPT]]"
 MANY = "is one too many"
-OPTION = "begins as an option does, and there is none"
+OPTION = "is not an option"
 ABSENT = "No such file or directory (os error 2)"
 
 # Words that are refused, the number of the one that is at fault, and why.
 BAD_WORDS = (
     ("a b c", 3, MANY), ("--help", 1, OPTION), ("-h", 1, OPTION), ("-x", 1, OPTION), ("--", 1, OPTION),
     ("-- a", 1, OPTION), ("- -x", 2, OPTION), ("- --help", 2, OPTION), ("- - --", 3, OPTION),
-    ("no-such-image --help", 2, OPTION),
+    ("no-such-image --help", 2, OPTION), ("--any-size --any-size", 2, OPTION), ("- --any-size", 2, OPTION),
+    ("--any-size a b c", 4, MANY), ("--any-size -x", 2, OPTION), ("--any-sizes", 1, OPTION),
 )
 
 # Files that are refused, and why: those of the image before those of the script.
 BAD_FILES = (
     (("no-such-image",), f"'no-such-image' can't be opened as the image, for reading and writing: {ABSENT}"),
-    (("/dev/zero",), "'/dev/zero' is no regular file, as an image has to be"),
-    (("/dev/null", "no-such-script"), "'/dev/null' is no regular file, as an image has to be"),
+    (("/dev/zero",), "'/dev/zero' is no regular file; an image must be one"),
+    (("/dev/null", "no-such-script"), "'/dev/null' is no regular file; an image must be one"),
     (("no-such-image", "no-such-script"),
      f"'no-such-image' can't be opened as the image, for reading and writing: {ABSENT}"),
     (("",), f"'' can't be opened as the image, for reading and writing: {ABSENT}"),
-    ((".",), "'.' is no regular file, as an image has to be"),
+    ((".",), "'.' is no regular file; an image must be one"),
     (("-", "no-such-script"), f"'no-such-script' can't be opened as the script, for reading: {ABSENT}"),
     (("-", ""), f"'' can't be opened as the script, for reading: {ABSENT}"),
     (("-", "."), ". can't be read"),
@@ -56,9 +57,9 @@ CASES = (
                 "memory: ./nvmesim - two.nvme\n"),
     Case("an image that is taken for a script", ("-", "taken-for-script"),
          files={"taken-for-script": bytes(1024)}, status=1,
-         errors="nvmesim: line 1: not understood\nnvmesim: 'taken-for-script' begins with a byte 00h, as images do and "
-                f"scripts don't; {USAGE}\n"),
-    Case("a script that is called -, and is not there", ("-", "-"), SETUP, status=2,
+         errors="nvmesim: line 1: not understood\nnvmesim: 'taken-for-script' begins with a byte 00h, so it is no "
+                f"script; {USAGE}\n"),
+    Case("a script that is called -, and is missing", ("-", "-"), SETUP, status=2,
          errors=f"nvmesim: file fault\nnvmesim: '-' can't be opened as the script, for reading: {ABSENT}\n"),
     Case("a line of a script in a file", ("-", "some.nvme"), files={"some.nvme": b"start\npol 1\n"}, status=1,
          errors="nvmesim: line 2: not understood\nsome.nvme:2:1: there is no line 'pol'; did you mean 'poll'?\n"),
@@ -69,5 +70,5 @@ CASES = (
     Case("a script of a byte more than the greatest length, in a file", ("-", "too-long"),
          files={"too-long": b"#" * 4194305}, status=1,
          errors="nvmesim: script too long\nnvmesim: too-long has more than 4194304 bytes; an image is the first word: "
-                "nvmesim [IMAGE [SCRIPT]]\n"),
+                "nvmesim [--any-size] [IMAGE [SCRIPT]]\n"),
 )

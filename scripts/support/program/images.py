@@ -1,8 +1,9 @@
-"""Images: what a run leaves of them, and what becomes of one that someone else cuts."""
+"""Images: their content after a run, and images that another process truncates."""
 import os
 from pathlib import Path
+from typing import Callable
 
-from support.program.case import HELLO, HELLO_SHOWN, SETUP, Case, answered, carried
+from support.program.case import HELLO, HELLO_SHOWN, SETUP, Case, answered, carried, sparse
 
 # A Write is executed, and the last line lacks a word.
 CUT_SHORT = SETUP + "up 1\nwrite 1 1 0 1 hex:01\nring 1\nfetch 1 1\nexecute 1 0\nread 1 1 0"
@@ -32,8 +33,8 @@ def hello_over(blocks: int) -> str:
 
 # An image of 72 blocks that differ.
 MARKED = b"\1" + b"\7" * 36862 + b"\x09"
-DOES_NOT_FIT = ("DoesNotFit", "namespace 2 ends behind the 72 blocks of the medium, where the namespaces lie one after "
-                "the other")
+DOES_NOT_FIT = ("DoesNotFit", "namespace 2 ends after the 72 blocks of the medium, on which namespaces follow "
+                "one another")
 
 
 def refused(blocks: int, fault: str, reason: str) -> Case:
@@ -71,8 +72,38 @@ def cut_and_tell(room: Path) -> None:
         pipe.write(carried("read 1 1 0 1", "read 1 1 64 1"))
 
 
+def make_large(blocks: int) -> Callable[[Path], None]:
+    """An image of this many blocks, which takes no space."""
+    def make(room: Path) -> None:
+        with open(room / "image", "wb") as image:
+            image.truncate(512 * blocks)
+    return make
+
+
+def large(blocks: int) -> Case:
+    """A namespace of any size: its last block is written and read, the block after it is out of range."""
+    requests = (f"write 1 1 {blocks - 1} 1 hex:48", f"read 1 1 {blocks - 1} 1", f"read 1 1 {blocks - 1} 2",
+                f"read 1 1 {blocks} 1")
+    outside = "0:80 00000000"
+    output = answered(DONE, f"{DONE} 512 48", outside, outside).replace("posted 0:80 0", "posted 0:80 9")
+    return Case(f"a namespace of {blocks} blocks", ("--any-size", "image"),
+                carried(*requests).replace("blocks 64", f"blocks {blocks}"), before=make_large(blocks), output=output,
+                left={"image": sparse(blocks, {blocks - 1: b"H" + bytes(511)})})
+
+
 DONE = "0:00 00000000"
 CASES = (
+    large(65537),
+    large(1 << 31),
+    large((1 << 32) + 1),
+    Case("a large namespace without an option", ("image",), hello_over(65537), before=make_large(65537), status=1,
+         left={"image": sparse(65537, {})},
+         errors="nvmesim: line 4: BadSize\nstandard input:2:1: namespace 1 has 65537 blocks; at most 65536 are "
+                "allowed\n"),
+    Case("a namespace that is larger than its image", ("--any-size", "image"), hello_over(65537),
+         before=make_large(65536), status=1, left={"image": sparse(65536, {})},
+         errors="nvmesim: line 4: DoesNotFit\nstandard input:2:1: namespace 1 ends after the 65536 blocks of the "
+                "medium, on which namespaces follow one another\n"),
     Case("an image after an empty script", ("image",), files={"image": KEPT}),
     Case("an image after a script without events", ("image",), SETUP, {"image": KEPT}),
     Case("an image after a script whose last line lacks a word", ("image",), CUT_SHORT, {"image": KEPT}, 1,
@@ -80,17 +111,17 @@ CASES = (
     Case("an image after a subsystem without controllers", ("image",), "start\nup 1\n", {"image": MARKED},
          output="nocontroller 1\n"),
     refused(0, "BadSize", "namespace 2 has no blocks"),
-    refused(65537, "BadSize", "namespace 2 has 65537 blocks, and 65536 is the most"),
+    refused(65537, "BadSize", "namespace 2 has 65537 blocks; at most 65536 are allowed"),
     refused(9, *DOES_NOT_FIT),
     Case("ten blocks on 5,000 bytes", ("image",), last_block(10), {"image": TAIL}, 1,
-         errors="nvmesim: line 4: DoesNotFit\nstandard input:2:1: namespace 1 ends behind the 9 blocks of the medium, "
-                "where the namespaces lie one after the other\n"),
+         errors="nvmesim: line 4: DoesNotFit\nstandard input:2:1: namespace 1 ends after the 9 blocks of the medium, "
+                "on which namespaces follow one another\n"),
     Case("nine blocks on 5,000 bytes", ("image",), last_block(9), {"image": TAIL},
          output="up 1 ok\nplaced 1 1\nrung 1\nfetch 1 1 took\nexecute 1 0 posted 0:00 0\n",
          left={"image": TAIL[:4096] + b"\x5a" * 512 + TAIL[4608:]}),
     Case("the first script with ten blocks on 5,000 bytes", ("image",), hello_over(10), {"image": TAIL}, 1,
-         errors="nvmesim: line 4: DoesNotFit\nstandard input:2:1: namespace 1 ends behind the 9 blocks of the medium, "
-                "where the namespaces lie one after the other\n"),
+         errors="nvmesim: line 4: DoesNotFit\nstandard input:2:1: namespace 1 ends after the 9 blocks of the medium, "
+                "on which namespaces follow one another\n"),
     Case("the first script with nine blocks on 5,000 bytes", ("image",), hello_over(9), {"image": TAIL},
          output=HELLO_SHOWN, left={"image": b"Hello" + bytes(507) + TAIL[512:]}),
     Case("a block that is written in place", ("image",), HELLO, {"image": bytes(32768)}, output=HELLO_SHOWN,

@@ -10,5 +10,5 @@ CASES = (
     Case("a script of the greatest length", given="#" * 4194304),
     Case("a script of a byte more", given="#" * 4194305, status=1,
          errors="nvmesim: script too long\nnvmesim: standard input has more than 4194304 bytes; an image is the first "
-                "word: nvmesim [IMAGE [SCRIPT]]\n"),
+                "word: nvmesim [--any-size] [IMAGE [SCRIPT]]\n"),
 )
