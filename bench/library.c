@@ -55,8 +55,8 @@ static void up(int count) {
         controllers[i] = (nvmesim_controller){0x101u + (unsigned)i, 0, (uint16_t)(i + 1)};
         attached[i] = (nvmesim_attached){1, (uint16_t)(i + 1)};
     }
-    must(nvmesim_open(&sim, NVMESIM_VERSION, controllers, (size_t)count, namespaces, 1, attached, (size_t)count, blocks,
-                      sizeof blocks) == NVMESIM_OK, "not opened");
+    must(nvmesim_open(&sim, NVMESIM_VERSION, NVMESIM_ANY_SIZE, controllers, (size_t)count, namespaces, 1, attached,
+                      (size_t)count, blocks, sizeof blocks) == NVMESIM_OK, "not opened");
     cntlid = (uint16_t)count;
     tail = 0;
     nvmesim_write32(&sim, cntlid, 0x24, 0x001f0007);
