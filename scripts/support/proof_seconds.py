@@ -3,7 +3,7 @@
 # Measured on four cores; those of crates that were split since are shares of what was measured. What is not here is
 # estimated by its lines.
 SECONDS = {
-    "nvme_wire": 84, "nvme_spec": 120, "nvme_medium": 115, "nvme_lent": 25, "nvme_resv": 57, "nvme_ns": 75,
+    "nvme_wire": 84, "nvme_spec": 120, "nvme_medium": 115, "nvme_brought": 25, "nvme_lent": 30, "nvme_resv": 57, "nvme_ns": 75,
     "nvme_policy": 28, "nvme_mem": 18, "nvme_prp": 36, "nvme_ring": 21, "nvme_regs": 19, "nvme_machine": 42,
     "nvme_driver": 116, "nvme_exec": 72, "nvme_admin": 91, "nvme_ctrl": 60, "nvme_subsys": 60, "nvme_event": 12,
     "nvme_mailbox": 40, "nvme_refinement": 34, "nvme_fleet": 200, "script_text": 90, "nvme_transcript": 93,

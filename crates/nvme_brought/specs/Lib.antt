@@ -1,0 +1,4 @@
+pub mod Brought
+pub mod Places
+pub mod Whole
+pub mod CallLaws
