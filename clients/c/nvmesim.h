@@ -12,7 +12,8 @@
  *  - No call from a signal handler, nor in the forked child of a process with threads.
  *  - No pointer is NULL, even with a count of 0. Each is aligned, and valid for as many values as the count, or the
  *    call, says. What a call writes through a pointer overlaps none of its other arguments. A bool is false or true.
- *  - Borrowed bytes (nvmesim_open_lent) are left alone until nvmesim_close, or until the opening is refused.
+ *  - Borrowed bytes (nvmesim_open_lent) are left alone until nvmesim_close, or until the opening is refused; those of a
+ *    room (nvmesim_execute_over) until the call returns.
  *  - malloc, realloc and free work as specified.
  *
  * All other misuse has an answer: a struct that is not open, an address outside the memory, any command.
@@ -74,7 +75,8 @@ enum {
     NVMESIM_BAD_LINE = 35,      /* a line is not a line of a script, or is not allowed at its place */
     NVMESIM_HAS_EVENT = 36,     /* a line of the text is an event, which a configuration can't have */
     NVMESIM_EMPTY = 37,         /* the configuration has no controller */
-    NVMESIM_TOO_LONG = 38       /* the text has more than 4,194,304 bytes */
+    NVMESIM_TOO_LONG = 38,      /* the text has more than 4,194,304 bytes */
+    NVMESIM_IN_MEMORY = 39      /* the blocks are in memory, so none are brought */
 };
 
 /* Which event it is, of a nvmesim_event. */
@@ -122,6 +124,17 @@ typedef struct nvmesim_bytes {
     uint8_t *at;
     size_t count;
 } nvmesim_bytes;
+
+/* A disk that only the program accesses. */
+typedef struct nvmesim_disk {
+    uint64_t blocks; /* of 512 bytes each */
+} nvmesim_disk;
+
+/* The result of nvmesim_execute_over. */
+typedef struct nvmesim_executed_over {
+    uint64_t at_hand;      /* the number of blocks at the front of the room that the disk has, or has to get */
+    nvmesim_answer answer; /* the result of the event */
+} nvmesim_executed_over;
 
 /* A queue, as its controller has it. Fields that do not belong to the answer are 0, here and below. */
 typedef struct nvmesim_queue {
@@ -268,6 +281,13 @@ uint32_t nvmesim_open_lent(nvmesim *sim, uint32_t version, uint64_t max_blocks, 
                            size_t controller_count, const nvmesim_namespace *namespaces, size_t namespace_count,
                            const nvmesim_attached *attached, size_t attached_count, nvmesim_bytes bytes);
 
+/* Opens a subsystem over a disk that only the program accesses: nvmesim_execute_over brings its blocks. Without them
+ * none is at hand: each read, write and flush of the disk fails in nvmesim_execute, nvmesim_submit, nvmesim_read_blocks
+ * and nvmesim_look. NVMESIM_OK; or the refusals of nvmesim_open, and then nothing has changed. */
+uint32_t nvmesim_open_brought(nvmesim *sim, uint32_t version, uint64_t max_blocks, const nvmesim_controller *controllers,
+                              size_t controller_count, const nvmesim_namespace *namespaces, size_t namespace_count,
+                              const nvmesim_attached *attached, size_t attached_count, nvmesim_disk disk);
+
 /* Closes it, if it is open, and frees its memory. Borrowed bytes are yours again, as the commands left them. */
 void nvmesim_close(nvmesim *sim);
 
@@ -288,6 +308,18 @@ nvmesim_answer nvmesim_fetch(nvmesim *sim, uint16_t cntlid, uint16_t qid);
 /* A controller executes the i-th, from 0, of the commands that it has fetched and not executed: POSTED, with the
  * status; NO_SUCH, CQ_FULL; or NO_CONTROLLER, CLOSED. */
 nvmesim_answer nvmesim_execute(nvmesim *sim, uint16_t cntlid, size_t i);
+
+/* Executes a command like nvmesim_execute, over blocks of the disk of nvmesim_open_brought. The room is for the blocks of
+ * the disk from `first`, 512 bytes each; the first `brought` of them have what the disk has. The command can read these,
+ * write these and the next ones that the room is long enough for, and flush if `flushes`; each other call of the disk fails. The
+ * room is borrowed for the call, and has then what the command wrote: put its first at_hand blocks to the disk if the
+ * command writes. The answers of nvmesim_execute; or OUTSIDE if the disk does not have all blocks that are brought,
+ * IN_MEMORY if there is no disk, and then nothing has changed, the room included. So a disk in use looks like this:
+ *  1. Bring what nvmesim_needs returns: the blocks for NEEDS_READ, none for the others, in a room for all of them.
+ *  2. Bring a block only as the last command has left it. Fewer can be brought if the disk fails.
+ *  3. nvmesim_execute_over. Then the result is that of nvmesim_execute over all blocks of the disk in memory. */
+nvmesim_executed_over nvmesim_execute_over(nvmesim *sim, nvmesim_bytes room, uint16_t cntlid, size_t i, uint64_t first,
+                                           uint64_t brought, bool flushes);
 
 /* One command from its entry (64 bytes) to its completion queue entry (16 bytes), if the order of events does not
  * matter: store at the tail of the submission queue, as the doorbell last had it, tail doorbell, fetch, execute,

@@ -42,4 +42,7 @@ void up(nvmesim *sim, uint16_t cntlid);
 /* Tests what fetched commands need. */
 void needs(void);
 
+/* Tests commands over brought blocks. */
+void brought(void);
+
 #endif

@@ -440,6 +440,7 @@ int main(int count, char **words) {
     no_turn();
     looks();
     needs();
+    brought();
     reservations();
     names();
     texts();

@@ -1,3 +1,4 @@
+pub mod Bringing
 pub mod Bytes
 pub mod CallLaws
 pub mod Lent

@@ -1,4 +1,5 @@
-//! Media for a library that C programs call: over bytes of the C program, or over blocks that the library allocates.
+//! Media for a library that C programs call: over bytes of the C program, over blocks that the library allocates, or
+//! over blocks that the program brings.
 #![tactic(auto)]
 
 mod bytes;
@@ -8,6 +9,6 @@ mod lent;
 mod returned;
 
 pub use bytes::LentBytes;
-pub use either::OwnOrLent;
+pub use either::{NotBrought, OwnOrLent};
 pub use lent::LentMedium;
 pub use returned::ReturnedBytes;

@@ -31,9 +31,9 @@ use Rattle.nvme_spec.specs.Rules.{judgement_by}
 use Rattle.nvme_spec.specs.Transfers.{addresses, with_scattered}
 use Rattle.nvme_spec.specs.World.{host_of, is_attached, namespace_of, opening_world}
 use Rattle.nvme_spec.proofs.Openings.{opening_is_laid_out}
-use Rattle.nvme_lent.specs.OwnOrLent.{bytes_of, step_of}
+use Rattle.nvme_lent.specs.OwnOrLent.{bytes_of, step_of, IsInMemory}
 use Rattle.nvme_lent.specs.declared.either.OwnOrLent.{OwnOrLent}
-use Rattle.nvme_lent.specs.declared.either.OwnOrLent.TheVariants.{Own, Lent}
+use Rattle.nvme_lent.specs.declared.either.OwnOrLent.TheVariants.{Own, Lent, Brought}
 use Rattle.nvme_lent.proofs.CallLaws.{bytes_follow}
 use Rattle.nvme_machine.specs.declared.event.Event.TheVariants.{Execute}
 use Rattle.nvme_machine.specs.Bare.{seen_with}
@@ -103,12 +103,13 @@ flush-calls : event_calls flushing (Execute 1 0) ≡ Flushes (Ok tt) ∷ []
 unfolding computing
 flush-calls = refl
 
-flush-step : (m : OwnOrLent) → step_of m (Flushes (Ok tt)) m
-flush-step (Own m) = (refl, refl)
-flush-step (Lent m) = (refl, refl)
+flush-step : (m : OwnOrLent) → IsInMemory m → step_of m (Flushes (Ok tt)) m
+flush-step (Own m) memory = (refl, refl)
+flush-step (Lent m) memory = (refl, refl)
+flush-step (Brought m) memory = absurd memory
 
-executes : (m : OwnOrLent) → Executing 1 0 (over flushing m) is_done (over (after flushing) m)
-executes m = record {
+executes : (m : OwnOrLent) → IsInMemory m → Executing 1 0 (over flushing m) is_done (over (after flushing) m)
+executes m memory = record {
   marks = no_marks;
   marked = refl;
   executes = subst (λ seen. Step true flushing (Execute 1 0) seen (after flushing)) flush-seen
@@ -120,7 +121,7 @@ executes m = record {
         (subst (λ cs. AreCallsOfStep true flushing (Execute 1 0) (fault_free_step flushing (Execute 1 0)).seen
         (after flushing) cs) flush-calls
         (its-calls flushing flushing-laid));
-    made = (m, flush-step m, refl);
+    made = (m, flush-step m memory, refl);
   };
 }
 
@@ -128,11 +129,12 @@ is-flush : IsFlushAt flushing 1 0
 unfolding computing
 is-flush = record { controller = _; command = a_flush; at = refl; found = refl; io = refl; is = refl }
 
-flush-leaves : (m other : OwnOrLent) → Executing 1 0 (over flushing m) is_done (over (after flushing) other)
-    → bytes_of other ≡ bytes_of m
-flush-leaves m other h =
+flush-leaves : (m other : OwnOrLent) → IsInMemory m
+    → Executing 1 0 (over flushing m) is_done (over (after flushing) other) → bytes_of other ≡ bytes_of m
+flush-leaves m other memory h =
     let one = flushed_is_one_flush true flushing (after flushing) 1 0 _ h.calls.calls h.calls.are is-flush refl in
-    let made = bytes_follow m other (Flushes (Ok tt) ∷ []) (subst (λ cs. Calls step_of m cs other) one h.calls.made) in
+    let made = bytes_follow m other (Flushes (Ok tt) ∷ []) memory
+    (subst (λ cs. Calls step_of m cs other) one h.calls.made) in
     made.2 ∙ made.1.1
 
 quiet : (writing.device.failures ≡ 0) × ((after writing).device.failures ≡ 0)
@@ -143,9 +145,9 @@ quiet = (refl, refl, refl)
 pub executing_makes_its_calls : ExecutingMakesItsCalls
 executing_makes_its_calls = record {
   flushes = executes;
-  no_write = λ m other differ h. differ (flush-leaves m other h);
-  writes = λ m other is h. bytes_stay_the_content 1 0 (over writing m)
-      (over (after writing) other) is_done h writing-laid quiet.0 quiet.1 is ∙ quiet.2;
+  no_write = λ m other memory differ h. differ (flush-leaves m other memory h);
+  writes = λ m other memory is h. bytes_stay_the_content 1 0 (over writing m)
+      (over (after writing) other) is_done memory h writing-laid quiet.0 quiet.1 is ∙ quiet.2;
 }
 
 -- A power cycle.
@@ -158,14 +160,17 @@ cycling_makes_no_call = record {
 
 -- Reads of blocks.
 
-read-step : (m : OwnOrLent) → bytes_of m ≡ flushing.device.content → step_of m (Reads 0 (Ok (replicate 512 1))) m
+read-step : (m : OwnOrLent) → IsInMemory m → bytes_of m ≡ flushing.device.content
+    → step_of m (Reads 0 (Ok (replicate 512 1))) m
 unfolding flushing
-read-step (Own m) is = (ap (λ bytes. Ok (slice_range bytes 0 512)) (sym is), refl)
-read-step (Lent m) is = (ap (λ bytes. Ok (slice_range bytes 0 512)) (sym is), refl)
+read-step (Own m) memory is = (ap (λ bytes. Ok (slice_range bytes 0 512)) (sym is), refl)
+read-step (Lent m) memory is = (ap (λ bytes. Ok (slice_range bytes 0 512)) (sym is), refl)
+read-step (Brought m) memory is = absurd memory
 
-looks : (m : OwnOrLent) → bytes_of m ≡ flushing.device.content → LooksAtFirst m (replicate 512 1) m
+looks : (m : OwnOrLent) → IsInMemory m → bytes_of m ≡ flushing.device.content
+    → LooksAtFirst m (replicate 512 1) m
 unfolding computing
-looks m is = record {
+looks m memory is = record {
   looks = record {
     read = λ told. refl;
     content = λ told. refl;
@@ -176,7 +181,7 @@ looks m is = record {
   calls = record {
     passed = 1;
     ends = refl;
-    made = (m, read-step m is, refl);
+    made = (m, read-step m memory is, refl);
     read = λ told. refl;
     behind = refl;
     long = refl;
@@ -197,8 +202,8 @@ unfolding first_byte
 looks_make_their_reads = record {
   reads = looks;
   no_other_bytes = λ m other h. two-is-one (ap first_byte (looked-bytes m other h));
-  no_write = λ m other differ h. differ (ap bytes_of (looks_leave_the_medium 1 0 1 (over flushing m)
-      (over flushing other) (replicate 512 7) (replicate 512 1) (Some (Ok tt)) h));
+  no_write = λ m other memory differ h. differ (ap bytes_of (looks_leave_the_medium 1 0 1 (over flushing m)
+      (over flushing other) (replicate 512 7) (replicate 512 1) (Some (Ok tt)) memory h));
 }
   where
     two-is-one : ◌≡◌ {A = ℕ} 2 1 → ⊥

@@ -27,7 +27,7 @@ use Rattle.nvme_spec.specs.declared.medium.MediumFault.{MediumFault}
 use Rattle.nvme_spec.specs.FaultFreeCalls.{content_step}
 use Rattle.nvme_spec.specs.MediumCalls.{MediumAnswer, MediumCall, Calls, passing, course, reads_from}
 use Rattle.nvme_lent.specs.CallLaws.{AreReads}
-use Rattle.nvme_lent.specs.OwnOrLent.{bytes_of, step_of, extent_of}
+use Rattle.nvme_lent.specs.OwnOrLent.{bytes_of, step_of, extent_of, IsInMemory}
 use Rattle.nvme_lent.specs.declared.either.OwnOrLent.{OwnOrLent}
 use Rattle.nvme_lent.proofs.CallLaws.{lent_bytes_stay, bytes_follow, reads_leave}
 use Rattle.nvme_machine.specs.declared.bare.BareExecuted.TheVariants.{Posted, NoSuch, CqFull}
@@ -64,21 +64,21 @@ pub executions_stay_in_place : ExecutionsStayInPlace
 executions_stay_in_place cntlid i old new seen h = lent_bytes_stay old.medium new.medium h.calls.calls h.calls.made
 
 pub executions_reach_the_bytes : ExecutionsReachTheBytes
-executions_reach_the_bytes cntlid i old new seen h = (
+executions_reach_the_bytes cntlid i old new seen memory h = (
   h.marks,
   record {
     calls = h.calls.calls;
     are = h.calls.are;
-    made = bytes_follow old.medium new.medium h.calls.calls h.calls.made;
+    made = bytes_follow old.medium new.medium h.calls.calls memory h.calls.made;
   },
 )
 
 pub bytes_stay_the_content : BytesStayTheContent
-bytes_stay_the_content cntlid i old new seen h laid before after is =
+bytes_stay_the_content cntlid i old new seen memory h laid before after is =
     let calls = h.calls.calls in
     let made : Calls content_step old.state.device.content calls (bytes_of new.medium) =
     subst (λ c. Calls content_step c calls (bytes_of new.medium)) is
-    (bytes_follow old.medium new.medium calls h.calls.made) in
+    (bytes_follow old.medium new.medium calls memory h.calls.made) in
     (run_calls_are_computed old.state new.state (Execute cntlid i ∷ []) (seen_with h.marks seen ∷ []) calls
     (bytes_of new.medium) laid
     (new.state, calls, [], h.calls.are, (refl, refl), sym (append-nil calls)) made (after ∙ sym before)
@@ -138,16 +138,16 @@ course-reads first left n (Err fault) = are-reads-both (passing (reads_from firs
 
 looked : (content : List ℕ) (place : Option ℕ) (count : ℕ) (buffer left : List ℕ) (old new : OwnOrLent)
     (result : Option (Result (Unit {0}) MediumFault))
-    → LooksBy step_of true content place count buffer left old result new → new ≡ old
-looked content None count buffer left old new result h = h.2
-looked content (Some first) count buffer left old new None h = absurd h
-looked content (Some first) count buffer left old new (Some answer) h =
-    reads_leave old new (course (reads_from first left) h.passed answer)
+    → IsInMemory old → LooksBy step_of true content place count buffer left old result new → new ≡ old
+looked content None count buffer left old new result memory h = h.2
+looked content (Some first) count buffer left old new None memory h = absurd h
+looked content (Some first) count buffer left old new (Some answer) memory h =
+    reads_leave old new (course (reads_from first left) h.passed answer) memory
     (course-reads first left h.passed answer) h.made
 
 pub power_cycles_leave_the_medium : PowerCyclesLeaveTheMedium
 power_cycles_leave_the_medium old new seen h = h.2
 
 pub looks_leave_the_medium : LooksLeaveTheMedium
-looks_leave_the_medium nsid slba count old new buffer left result h =
-    looked _ _ count buffer left old.medium new.medium result h.calls
+looks_leave_the_medium nsid slba count old new buffer left result memory h =
+    looked _ _ count buffer left old.medium new.medium result memory h.calls

@@ -1,6 +1,5 @@
 -- For `examples.rt`: openings, and events on a closed handle, by computing.
-use Rattle.std.proofs.Common.{◌≡◌, ℕ, [], refl, sym, ap, ◌∙◌, Option, None, Some, replicate}
-use Rattle.nvme_spec.specs.declared.config.ConfigFault.{ConfigFault}
+use Rattle.std.proofs.Common.{◌≡◌, refl, sym, ap, ◌∙◌, None, Some}
 use Rattle.nvme_spec.specs.declared.config.ConfigFault.TheVariants.{BadId, DoesNotFit}
 use Rattle.nvme_spec.specs.Configuration.{config_fault, first_config_fault}
 use Rattle.std.proofs.lemmas.Option.{none-some}
@@ -27,13 +26,14 @@ unfolding config_fault
 hostless = refl
 
 pub one_block_opens : OneBlockOpens
-one_block_opens m is = record { accepted = accepted; state = refl; bytes = is; over = refl }
+one_block_opens m memory is =
+    record { on = record { accepted = accepted; state = refl; bytes = is }; memory = memory; over = refl }
 
 pub no_block_does_not_open : NoBlockDoesNotOpen
-no_block_does_not_open lent new h = none-some _ (sym h.accepted ∙ too-large)
+no_block_does_not_open lent new h = none-some _ (sym h.on.accepted ∙ too-large)
 
 pub hostless_does_not_open : HostlessDoesNotOpen
-hostless_does_not_open lent new h = none-some _ (sym h.accepted ∙ hostless)
+hostless_does_not_open lent new h = none-some _ (sym h.on.accepted ∙ hostless)
 
 pub copy_is_not_lent : CopyIsNotLent
 copy_is_not_lent c bytes new copy is h = none-some _ (sym (ap lent_of is) ∙ h.over)

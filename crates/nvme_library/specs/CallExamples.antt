@@ -1,7 +1,7 @@
 -- Statements of worked examples: which calls of the medium an execution, a power cycle and a read of blocks make.
 use Rattle.std.specs.Prelude.{◌≡◌, ◌≢◌, [], ◌∷◌, List, Ok, Some, ℕ, replicate}
 use Rattle.nvme_spec.specs.Statuses as status
-use Rattle.nvme_lent.specs.OwnOrLent.{bytes_of}
+use Rattle.nvme_lent.specs.OwnOrLent.{bytes_of, IsInMemory}
 use Rattle.nvme_lent.specs.declared.either.OwnOrLent.{OwnOrLent}
 use Rattle.nvme_machine.specs.declared.bare.BareExecuted.TheVariants.{Posted}
 use Rattle.nvme_machine.specs.declared.bare.BareSeen.{BareSeen}
@@ -28,13 +28,13 @@ after s = (fault_free_step s (Execute 1 0)).left
 abbrev pub is_done : BareSeen
 is_done = Executed (Posted (record { status = status.successful_completion; dw0 = 0; rule = 0 }))
 
--- The Flush is executed over any medium, and leaves it unchanged; no execution of it ends with another medium. The
--- Write leaves its bytes.
+-- The Flush is executed over any medium in memory, and leaves it unchanged; no execution of it ends with another
+-- medium. The Write leaves its bytes.
 pub record ExecutingMakesItsCalls : Type 0 where
-  pub flushes : (m : OwnOrLent) → Executing 1 0 (over flushing m) is_done (over (after flushing) m)
-  pub no_write : (m other : OwnOrLent) → bytes_of other ≢ bytes_of m
+  pub flushes : (m : OwnOrLent) → IsInMemory m → Executing 1 0 (over flushing m) is_done (over (after flushing) m)
+  pub no_write : (m other : OwnOrLent) → IsInMemory m → bytes_of other ≢ bytes_of m
       → Executing 1 0 (over flushing m) is_done (over (after flushing) other) → ⊥
-  pub writes : (m other : OwnOrLent) → bytes_of m ≡ writing.device.content
+  pub writes : (m other : OwnOrLent) → IsInMemory m → bytes_of m ≡ writing.device.content
       → Executing 1 0 (over writing m) is_done (over (after writing) other) → bytes_of other ≡ replicate 1024 0
 
 -- A power cycle leaves the medium unchanged: a step to another medium is not one.
@@ -43,12 +43,13 @@ pub record CyclingMakesNoCall : Type 0 where
   pub no_write : (s : Inside) → (other : OwnOrLent) → bytes_of other ≢ bytes_of s.medium
       → Cycling s Cycled (over (after_power_cycle s.state) other) → ⊥
 
--- A read of the first of two blocks gives its bytes, and no others, and leaves the medium unchanged.
+-- A read of the first of two blocks in memory gives its bytes, and no others, and leaves the medium unchanged.
 abbrev pub LooksAtFirst : OwnOrLent → List ℕ → OwnOrLent → Type 0
 LooksAtFirst m left other =
     LooksAt 1 0 1 (over flushing m) (replicate 512 7) left (Some (Ok tt)) (over flushing other)
 
 pub record LooksMakeTheirReads : Type 0 where
-  pub reads : (m : OwnOrLent) → bytes_of m ≡ flushing.device.content → LooksAtFirst m (replicate 512 1) m
+  pub reads : (m : OwnOrLent) → IsInMemory m → bytes_of m ≡ flushing.device.content → LooksAtFirst m (replicate 512 1) m
   pub no_other_bytes : (m other : OwnOrLent) → LooksAtFirst m (replicate 512 2) other → ⊥
-  pub no_write : (m other : OwnOrLent) → bytes_of other ≢ bytes_of m → LooksAtFirst m (replicate 512 1) other → ⊥
+  pub no_write : (m other : OwnOrLent) → IsInMemory m → bytes_of other ≢ bytes_of m
+      → LooksAtFirst m (replicate 512 1) other → ⊥

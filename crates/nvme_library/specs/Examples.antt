@@ -2,7 +2,7 @@
 use Rattle.std.specs.Prelude.{◌≡◌, ℕ, [], ◌∷◌, replicate, false, Option, None, Some}
 use Rattle.nvme_spec.specs.Configuration.{Configuration, script_capacity}
 use Rattle.nvme_medium.specs.declared.memory.MemMedium.{MemMedium}
-use Rattle.nvme_lent.specs.OwnOrLent.{bytes_of, lent_of}
+use Rattle.nvme_lent.specs.OwnOrLent.{bytes_of, lent_of, IsInMemory}
 use Rattle.nvme_lent.specs.declared.bytes.LentBytes.{LentBytes}
 use Rattle.nvme_lent.specs.declared.either.OwnOrLent.{OwnOrLent}
 use Rattle.nvme_lent.specs.declared.either.OwnOrLent.TheVariants.{Own}
@@ -22,10 +22,10 @@ one_block host = record {
   attached = [];
 }
 
--- The controller of host 5 opens over any medium of one block.
+-- The controller of host 5 opens over any medium of one block in memory.
 abbrev pub OneBlockOpens : Type 0
 OneBlockOpens =
-    (m : OwnOrLent) → bytes_of m ≡ replicate 512 7
+    (m : OwnOrLent) → IsInMemory m → bytes_of m ≡ replicate 512 7
     → OpensOver (one_block 5) (replicate 512 7) (script_capacity 1) (lent_of m)
     (over (opening (one_block 5) (record { content = replicate 512 7; failures = 0 })) m)
 

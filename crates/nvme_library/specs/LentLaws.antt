@@ -5,7 +5,7 @@ use Rattle.nvme_spec.specs.declared.outcome.Marks.{Marks}
 use Rattle.nvme_spec.specs.FaultFreeCalls.{content_step}
 use Rattle.nvme_spec.specs.MediumCalls.{MakesCalls}
 use Rattle.nvme_spec.specs.Layout.{IsLaidOut}
-use Rattle.nvme_lent.specs.OwnOrLent.{bytes_of, extent_of}
+use Rattle.nvme_lent.specs.OwnOrLent.{bytes_of, extent_of, IsInMemory}
 use Rattle.nvme_machine.specs.declared.bare.BareSeen.{BareSeen}
 use Rattle.nvme_machine.specs.Bare.{seen_with}
 use Rattle.nvme_machine.specs.EventCalls.{CallingAt}
@@ -28,28 +28,28 @@ TurnsStayInPlace =
     (k qid : ℕ) → (turn : Turn) → (entry : List ℕ) → (old new : Inside) → (answer : Answer) → (before left : List ℕ)
     → TakesTurn k qid turn entry old answer before left new → extent_of new.medium ≡ extent_of old.medium
 
--- The blocks after an execution are what the calls of its command leave.
+-- Blocks in memory are after an execution what the calls of its command leave.
 abbrev pub ExecutionsReachTheBytes : Type 0
 ExecutionsReachTheBytes =
-    (cntlid i : ℕ) → (old new : Inside) → (seen : BareSeen) → Executing cntlid i old seen new
+    (cntlid i : ℕ) → (old new : Inside) → (seen : BareSeen) → IsInMemory old.medium → Executing cntlid i old seen new
     → (marks : Marks) × MakesCalls content_step
     (CallingAt (controller_at old.state cntlid) true old.state cntlid i (seen_with marks seen) new.state)
     (bytes_of old.medium) (bytes_of new.medium)
 
--- If the blocks have the content of the state, and no call has failed, they have it after an execution too.
+-- If blocks in memory have the content of the state, and no call has failed, they have it after an execution too.
 abbrev pub BytesStayTheContent : Type 0
 BytesStayTheContent =
-    (cntlid i : ℕ) → (old new : Inside) → (seen : BareSeen) → Executing cntlid i old seen new
+    (cntlid i : ℕ) → (old new : Inside) → (seen : BareSeen) → IsInMemory old.medium → Executing cntlid i old seen new
     → IsLaidOut old.state.world old.state.device.content → old.state.device.failures ≡ 0
     → new.state.device.failures ≡ 0 → bytes_of old.medium ≡ old.state.device.content
     → bytes_of new.medium ≡ new.state.device.content
 
--- A power cycle, and a read of blocks, leave the medium unchanged.
+-- A power cycle, and a read of blocks in memory, leave the medium unchanged.
 abbrev pub PowerCyclesLeaveTheMedium : Type 0
 PowerCyclesLeaveTheMedium = (old new : Inside) → (seen : BareSeen) → Cycling old seen new → new.medium ≡ old.medium
 
 abbrev pub LooksLeaveTheMedium : Type 0
 LooksLeaveTheMedium =
     (nsid slba count : ℕ) → (old new : Inside) → (buffer left : List ℕ)
-    → (result : Option (Result (Unit {0}) MediumFault)) → LooksAt nsid slba count old buffer left result new
-    → new.medium ≡ old.medium
+    → (result : Option (Result (Unit {0}) MediumFault)) → IsInMemory old.medium
+    → LooksAt nsid slba count old buffer left result new → new.medium ≡ old.medium

@@ -1,6 +1,7 @@
 pub mod Access
 pub mod Answers
 pub mod CallExamples
+pub mod DiskLaws
 pub mod Events
 pub mod Examples
 pub mod Given
@@ -12,6 +13,7 @@ pub mod LookingLines
 pub mod Needs
 pub mod Noticing
 pub mod Opening
+pub mod Over
 pub mod Queues
 pub mod Reading
 pub mod Submitting

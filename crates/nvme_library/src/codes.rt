@@ -67,6 +67,8 @@ pub const HAS_EVENT: u32 = 36;
 pub const EMPTY: u32 = 37;
 /// The text is longer than a script may be.
 pub const TOO_LONG: u32 = 38;
+/// The blocks of the subsystem are in memory, so that none are brought.
+pub const IN_MEMORY: u32 = 39;
 
 /// A host stores bytes in its memory.
 pub const EVENT_STORE: u32 = 1;

@@ -2,12 +2,14 @@
 
 ghost use Rattle.std.specs.Prelude.{◌≡◌, Some, None, is_some, IfSome, IfNone};
 ghost use Rattle.std.proofs.Props.{props};
+ghost use Rattle.nvme_lent.specs.Bytes.{as_lent};
 ghost use Rattle.nvme_lent.specs.OwnOrLent.{lent_of};
 ghost use Rattle.nvme_library.specs.Whole.{AreWhole, HoldsWhole};
 
 use crate::held::Held;
 use crate::slot::Slot;
 use box_pointer::BoxPointer;
+use nvme_brought::Room;
 use nvme_lent::{OwnOrLent, ReturnedBytes};
 use std::alloc::Global;
 use std::mem;
@@ -88,5 +90,13 @@ impl Handle {
         ensures returned { self.new.returned.bytes ≡ lent_of medium }
     {
         self.returned = medium.into_returned();
+    }
+
+    /// Returns the bytes of a room to C.
+    pub(crate) fn give_back_room(&mut self, room: Room)
+        ensures kept { self.new.slot ≡ self.old.slot }
+        ensures returned { self.new.returned.bytes ≡ Some (as_lent room.buffer) }
+    {
+        self.returned = ReturnedBytes::of(room.into_buffer());
     }
 }

@@ -1,7 +1,8 @@
 //! What a handle owns: a subsystem, and a list for the marks of its executions.
 
-ghost use Rattle.std.specs.Prelude.{◌≡◌, ◌%◌, ◌/◌, true, length, None, Some, IfNone, IfSome};
+ghost use Rattle.std.specs.Prelude.{◌≡◌, ◌%◌, ◌/◌, true, length, None, Some, IfNone, IfSome, IfOk, IfErr, OnErr};
 ghost use Rattle.nvme_spec.specs.World.{namespace_of};
+ghost use Rattle.nvme_lent.specs.Bringing.{IsRefused};
 ghost use Rattle.nvme_lent.specs.OwnOrLent.{bytes_of, step_of};
 ghost use Rattle.nvme_machine.specs.Bare.{seen_of};
 ghost use Rattle.nvme_machine.specs.EventCalls.{ExecutesNothing};
@@ -9,9 +10,11 @@ ghost use Rattle.nvme_machine.specs.Needs.{need_at};
 ghost use Rattle.nvme_machine.specs.Subsystems.{Step, controller_at};
 ghost use Rattle.nvme_subsys.specs.Looking.{Looks, LooksBy, block_in};
 ghost use Rattle.nvme_library.specs.Events.{Executing};
+ghost use Rattle.nvme_library.specs.Over.{ExecutingOver};
 
+use nvme_brought::Room;
 use nvme_ctrl::Controller;
-use nvme_lent::OwnOrLent;
+use nvme_lent::{NotBrought, OwnOrLent};
 use nvme_machine::BareSeen;
 use nvme_medium::MediumFault;
 use nvme_ns::Spaces;
@@ -71,6 +74,28 @@ impl Held {
         self.marks.nsid = 0;
         self.marks.hosts.clear();
         seen
+    }
+
+    /// A controller executes a command over the blocks of a room, which is returned as the command has left it. If the
+    /// medium does not take the room, nothing has changed.
+    pub(crate) fn execute_over(
+        &mut self,
+        cntlid: u16,
+        i: usize,
+        room: Room,
+    ) -> Result<(BareSeen, Room), NotBrought>
+        ensures executed { IfOk result (λ done. ExecutingOver cntlid i room self.old done.0 done.1 self.new) }
+        ensures refused { IfErr result (λ why. IsRefused room self.old.medium why) }
+        ensures unchanged { OnErr result (self.new ≡ self.old) }
+    {
+        let _ = self
+            .subsystem
+            .change_medium(|medium: &mut OwnOrLent| medium.bring(room))?;
+        let seen = self.execute(cntlid, i);
+        let left = self
+            .subsystem
+            .change_medium(|medium: &mut OwnOrLent| medium.take_room());
+        Ok((seen, left))
     }
 
     /// The controller with an identifier, if there is one.

@@ -3,11 +3,12 @@
 ghost use Rattle.std.specs.Prelude.{◌≡◌, None, Some, IfOk, IfErr};
 ghost use Rattle.nvme_spec.specs.Configuration.{capacity};
 ghost use Rattle.nvme_spec.specs.declared.config.ConfigFault.TheVariants.{NoMemory};
-ghost use Rattle.nvme_lent.specs.OwnOrLent.{bytes_of, blocks_of, lent_of};
+ghost use Rattle.nvme_lent.specs.OwnOrLent.{bytes_of, blocks_of, failures_of};
 ghost use Rattle.nvme_library.specs.Given.{configuration_of};
 ghost use Rattle.nvme_library.specs.Opening.{
   Opens,
-  OpensOver,
+  OpensDisk,
+  OpensOn,
   IsFault,
   fault_number,
   returned_by,
@@ -19,6 +20,7 @@ use crate::codes;
 use crate::configuration::{Attached, Controller, Namespace, config_of};
 use crate::handle::Handle;
 use crate::held::Held;
+use nvme_brought::{BroughtMedium, Disk};
 use nvme_lent::{LentBytes, LentMedium, OwnOrLent};
 use nvme_medium::MemMedium;
 use nvme_spec::ConfigFault;
@@ -103,6 +105,40 @@ pub extern "C" fn nvmesim_open_lent(
     }
 }
 
+/// Opens a subsystem over a disk that only C accesses: C brings the blocks for each command (`nvmesim_execute_over`).
+/// None is at hand until then.
+///
+/// Returns what `nvmesim_open` does.
+#[unsafe(no_mangle)]
+pub extern "C" fn nvmesim_open_brought(
+    alloc: Global,
+    sim: &mut Handle,
+    version: u32,
+    max_blocks: u64,
+    controllers: &[Controller],
+    namespaces: &[Namespace],
+    attached: &[Attached],
+    disk: Disk,
+) -> u32
+    ensures { OpensDisk version sim.old.slot.value max_blocks
+        (configuration_of controllers.now namespaces.now attached.now) disk result sim.new.slot.value }
+{
+    if version != codes::VERSION {
+        return codes::BAD_VERSION;
+    }
+    if sim.is_open() {
+        return codes::ALREADY_OPEN;
+    }
+    let medium = OwnOrLent::Brought(BroughtMedium::of(disk));
+    match opened(alloc, max_blocks, controllers, namespaces, attached, medium) {
+        Ok(subsystem) => {
+            *sim = Handle::of(subsystem);
+            codes::OK
+        }
+        Err(refused) => number_of(refused.fault),
+    }
+}
+
 /// Closes a subsystem, if one is open, and frees its memory. C gets its bytes back, as the commands have left them.
 #[unsafe(no_mangle)]
 pub extern "C" fn nvmesim_close(alloc: Global, sim: &mut Handle)
@@ -132,9 +168,11 @@ fn opened(
     attached: &[Attached],
     medium: OwnOrLent,
 ) -> Result<Box<Held>, NewFault<OwnOrLent>>
+    requires unfailed { failures_of medium ≡ 0 }
     ensures opened { IfOk result
-        (λ subsystem. OpensOver (configuration_of controllers.now namespaces.now attached.now) (bytes_of medium)
-        (capacity max_blocks (blocks_of medium)) (lent_of medium) subsystem.value) }
+        (λ subsystem. OpensOn (configuration_of controllers.now namespaces.now attached.now) (bytes_of medium)
+        (capacity max_blocks (blocks_of medium)) subsystem.value) }
+    ensures over { IfOk result (λ subsystem. subsystem.value.medium ≡ medium) }
     ensures fault { IfErr result
         (λ refused. IsFault (configuration_of controllers.now namespaces.now attached.now)
         (capacity max_blocks (blocks_of medium)) refused.fault) }

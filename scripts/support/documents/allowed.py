@@ -12,8 +12,8 @@ OUTSIDE, LISTED = FOLDER / "outside.txt", FOLDER / "memory.txt"
 HERE = "scripts/support/documents/memory.txt"
 # The calls of the library for C that may take memory: those that open a subsystem, and those that put long texts
 # together. No event does.
-TAKING_CALLS = ("nvmesim_open", "nvmesim_open_lent", "nvmesim_read_configuration", "nvmesim_configuration_lines",
-                "nvmesim_look")
+TAKING_CALLS = ("nvmesim_open", "nvmesim_open_lent", "nvmesim_open_brought", "nvmesim_read_configuration",
+                "nvmesim_configuration_lines", "nvmesim_look")
 
 
 @dataclass

@@ -37,6 +37,9 @@ MANY_PARAMETERS: Dict[Tuple[str, str], Tuple[int, str]] = {
         (8, "what C hands over: lists and their lengths"),
     ("crates/nvme_library/src/opening.rt", "opening::nvmesim_open_lent"):
         (8, "what C hands over: lists and their lengths"),
+    ("crates/nvme_library/src/opening.rt", "opening::nvmesim_open_brought"):
+        (8, "what C hands over: lists and their lengths"),
+    ("crates/nvme_library/src/over.rt", "over::nvmesim_execute_over"): (8, "what C hands over: a room and its blocks"),
     ("crates/nvme_script/src/program.rt", "program::run_over"): (7, LENT),
     ("crates/nvme_script/src/run.rt", "run::run_event"): (8, LENT),
     ("crates/nvme_script/src/run.rt", "run::run_events"): (7, LENT),

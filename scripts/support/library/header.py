@@ -14,7 +14,7 @@ TYPES = {
     "&mut [Controller]": ["nvmesim_controller *", "size_t"], "&mut [Namespace]": ["nvmesim_namespace *", "size_t"],
     "&mut [Attached]": ["nvmesim_attached *", "size_t"], "&Event": ["const nvmesim_event *"],
     "&Answer": ["const nvmesim_answer *"], "Written": ["nvmesim_written"], "Read": ["nvmesim_read"],
-    "HostView": ["nvmesim_host_view"], "&HostView": ["const nvmesim_host_view *"], "&Change": ["const nvmesim_change *"],
+    "HostView": ["nvmesim_host_view"], "Disk": ["nvmesim_disk"], "ExecutedOver": ["nvmesim_executed_over"], "&HostView": ["const nvmesim_host_view *"], "&Change": ["const nvmesim_change *"],
     "&RawNotices": ["const nvmesim_notices *"], "&mut RawNotices": ["nvmesim_notices *"], "&mut [u8; 64]": ["uint8_t *"],
     "[Notice; 64]": ["nvmesim_notice[64]"], "[u32; 8]": ["uint32_t[8]"],
 }
@@ -23,9 +23,9 @@ STRUCTS = {"Answer": "nvmesim_answer", "Controller": "nvmesim_controller", "Name
            "Attached": "nvmesim_attached", "Queue": "nvmesim_queue", "Command": "nvmesim_command",
            "Needed": "nvmesim_needed", "Hold": "nvmesim_hold", "Registrant": "nvmesim_registered", "Event": "nvmesim_event",
            "Written": "nvmesim_written", "Read": "nvmesim_read", "HostView": "nvmesim_host_view",
-           "Change": "nvmesim_change", "Notice": "nvmesim_notice", "RawNotices": "nvmesim_notices"}
+           "Change": "nvmesim_change", "Disk": "nvmesim_disk", "ExecutedOver": "nvmesim_executed_over", "Notice": "nvmesim_notice", "RawNotices": "nvmesim_notices"}
 # Structs of another crate that C holds.
-OTHERS = ("nvme_notices/src/notice.rt", "nvme_notices/src/raw.rt")
+OTHERS = ("nvme_brought/src/disk.rt", "nvme_notices/src/notice.rt", "nvme_notices/src/raw.rt")
 EXPORT = re.compile(r'#\[unsafe\(no_mangle\)\]\s*pub extern "C" fn (\w+)\(([^)]*)\)(?: -> (\w+))?')
 NUMBER = re.compile(r"^pub const (\w+): u32 = (\d+);", re.M)
 
@@ -61,7 +61,9 @@ def declarations(header):
 def rattle_fields(text, name):
     """The fields of a struct of the crate, and their types in C."""
     body = re.search(rf"pub struct {name} \{{(.*?)\n\}}", text, re.S).group(1)
-    return [(field, TYPES[kind][0]) for field, kind in re.findall(r"^\s*pub (\w+): (.+),$", body, re.M)]
+    # C has no field for what only proofs read.
+    return [(field, TYPES[kind][0]) for field, kind in re.findall(r"^\s*pub (\w+): (.+),$", body, re.M)
+            if kind != "DiskContent"]
 
 
 def c_fields(header, name):

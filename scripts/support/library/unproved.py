@@ -28,8 +28,10 @@ VALUES = {"Global": "alloc", "&mut Handle": "&mut sim", "u8": "n as u8", "u16": 
           "&mut [Attached]": "&mut attached", "&Event": "&event", "&Answer": "&answer",
           "&Change": "&change", "&HostView": "&view", "&RawNotices": "&notices", "&mut RawNotices": "&mut notices",
           "&mut [u8; 64]": "&mut page",
-          "LentBytes": "LentBytes { at: ptr::null_mut(), len: n }"}
+          "LentBytes": "LentBytes { at: ptr::null_mut(), len: n }",
+          "Disk": "Disk { blocks: n as u64, content: DiskContent {} }"}
 MAIN = """
+use nvme_brought::{{Disk, DiskContent}};
 use nvme_lent::LentBytes;
 use nvme_notices::{{Notice, RawNotices}};
 use std::process::ExitCode;

@@ -1,0 +1,11 @@
+use Rattle.nvme_library.proofs.DiskLaws.{executions_are_in_memory, rooms_come_back, runs_are_in_memory}
+use Rattle.nvme_library.proofs.laws.commands_over_a_disk_are_in_memory.Goals as goal
+
+pub returns-clause-execution : goal.returns-clause-execution
+returns-clause-execution c = executions_are_in_memory
+
+pub returns-clause-room : goal.returns-clause-room
+returns-clause-room c = rooms_come_back
+
+pub returns-clause-run : goal.returns-clause-run
+returns-clause-run c = runs_are_in_memory
