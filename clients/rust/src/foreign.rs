@@ -1,6 +1,6 @@
 //! The calls of libnvmesim that take pointers, as `nvmesim.h` declares them. `raw.rs` makes them.
 
-use crate::layout::{Answer, Bytes, Change, Event, HostView, Notices, Read, Sim, Written};
+use crate::layout::{Answer, Bytes, Change, Disk, Event, ExecutedOver, HostView, Notices, Read, Sim, Written};
 use crate::{Attachment, Controller, Namespace};
 
 macro_rules! opening {
@@ -23,8 +23,18 @@ macro_rules! opening {
 extern "C" {
     opening!(nvmesim_open, bytes: *const u8, count: usize);
     opening!(nvmesim_open_lent, bytes: Bytes);
+    opening!(nvmesim_open_brought, disk: Disk);
     pub fn nvmesim_close(sim: *mut Sim);
     pub fn nvmesim_store(sim: *mut Sim, cntlid: u16, address: u64, bytes: *const u8, count: usize) -> Answer;
+    pub fn nvmesim_execute_over(
+        sim: *mut Sim,
+        room: Bytes,
+        cntlid: u16,
+        i: usize,
+        first: u64,
+        brought: u64,
+        flushes: bool,
+    ) -> ExecutedOver;
     pub fn nvmesim_submit(sim: *mut Sim, cntlid: u16, qid: u16, entry: *const u8, completion: *mut u8) -> Answer;
     pub fn nvmesim_load(sim: *mut Sim, cntlid: u16, address: u64, bytes: *mut u8, count: usize) -> u32;
     pub fn nvmesim_read_blocks(sim: *mut Sim, nsid: u32, slba: u64, bytes: *mut u8, count: usize) -> u32;

@@ -16,6 +16,17 @@ pub struct Bytes {
 }
 
 #[repr(C)]
+pub struct Disk {
+    pub blocks: u64,
+}
+
+#[repr(C)]
+pub struct ExecutedOver {
+    pub at_hand: u64,
+    pub answer: Answer,
+}
+
+#[repr(C)]
 #[derive(Default)]
 pub struct Answer {
     pub value: u32,
@@ -139,4 +150,5 @@ pub type Parts<'p> = (&'p [Controller], &'p [Namespace], &'p [Attachment]);
 pub enum Blocks<'b, 'a> {
     Copied(&'b [u8]),
     Lent(&'a mut [u8]),
+    Brought(Disk),
 }

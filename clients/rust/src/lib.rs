@@ -85,7 +85,7 @@ mod notices;
 mod raw;
 
 use layout::Answer;
-use layout::Blocks;
+use layout::{Blocks, Disk};
 pub use lines::{answer_line, event_line, read_configuration, Answered, ConfigError, ConfigFault, Event, LineError};
 pub use looks::{status_name, Command, Holder, Need, Queue, Registrant, Reservation};
 pub use notices::{Action, Change, HostView, Notices};
@@ -200,6 +200,8 @@ pub enum Refusal {
     Busy,
     /// There is no such namespace.
     NoNamespace,
+    /// The blocks are in memory, so none are brought.
+    InMemory,
 }
 
 /// The result of a fetch.
@@ -247,7 +249,19 @@ pub enum Executed {
     CqFull,
 }
 
-/// A subsystem, over blocks of its own or over bytes that live for `'a`. It is closed when it is dropped.
+/// The blocks that a program brings from its disk for one command, at the front of a room.
+#[derive(Clone, Copy, Debug, Default, PartialEq, Eq)]
+pub struct Brought {
+    /// The block of the disk that the room begins with.
+    pub first: u64,
+    /// How many blocks are in the room as the disk has them.
+    pub blocks: u64,
+    /// Whether a flush of the disk passes.
+    pub flushes: bool,
+}
+
+/// A subsystem, over blocks of its own, over bytes that live for `'a`, or over a disk of the program. It is closed when
+/// it is dropped.
 pub struct Subsystem<'a> {
     handle: Handle<'a>,
 }
@@ -256,6 +270,12 @@ impl Subsystem<'static> {
     /// Opens a subsystem over a copy of these bytes.
     pub fn open(config: &Config, bytes: &[u8]) -> Result<Self, OpenError> {
         opened(config, Blocks::Copied(bytes))
+    }
+
+    /// Opens a subsystem over a disk of `blocks` blocks, which only the program accesses: [`Subsystem::execute_over`]
+    /// brings them. Until then each read, write and flush fails.
+    pub fn open_brought(config: &Config, blocks: u64) -> Result<Self, OpenError> {
+        opened(config, Blocks::Brought(Disk { blocks }))
     }
 }
 
@@ -302,12 +322,21 @@ impl<'a> Subsystem<'a> {
 
     /// A controller executes the `i`-th of the commands that it has fetched and not executed, from 0.
     pub fn execute(&mut self, cntlid: u16, i: usize) -> Result<Executed, Refusal> {
-        let answer = self.handle.execute(cntlid, i).checked()?;
-        Ok(match answer.what {
-            POSTED => Executed::Posted(answer.completion()),
-            CQ_FULL => Executed::CqFull,
-            _ => Executed::NoSuch,
-        })
+        Ok(self.handle.execute(cntlid, i).checked()?.executed())
+    }
+
+    /// The same over blocks of the disk, which are brought in this room: what [`Subsystem::need`] returns, each as the
+    /// last command has left it. The room then has what the command wrote: its first blocks, as many as are returned,
+    /// belong on the disk. If the result is a refusal, nothing has changed.
+    pub fn execute_over(
+        &mut self,
+        cntlid: u16,
+        i: usize,
+        room: &mut [u8],
+        brought: Brought,
+    ) -> Result<(Executed, u64), Refusal> {
+        let over = self.handle.execute_over(cntlid, i, room, brought);
+        Ok((over.answer.checked()?.executed(), over.at_hand))
     }
 
     /// One command from its submission queue entry to its completion queue entry: the host stores it at the tail of the
@@ -366,6 +395,7 @@ fn refusal(number: u32) -> Refusal {
         29 => Refusal::NotReady,
         30 => Refusal::Busy,
         31 => Refusal::NoNamespace,
+        39 => Refusal::InMemory,
         _ => Refusal::MediumFault,
     }
 }
@@ -376,6 +406,14 @@ impl Answer {
             Ok(self)
         } else {
             Err(refusal(self.what))
+        }
+    }
+
+    fn executed(&self) -> Executed {
+        match self.what {
+            POSTED => Executed::Posted(self.completion()),
+            CQ_FULL => Executed::CqFull,
+            _ => Executed::NoSuch,
         }
     }
 
@@ -420,6 +458,7 @@ impl fmt::Display for Refusal {
             Refusal::NotReady => "the controller does not run",
             Refusal::Busy => "something waits at the queue",
             Refusal::NoNamespace => "there is no such namespace",
+            Refusal::InMemory => "the blocks are in memory",
         })
     }
 }

@@ -3,17 +3,12 @@
 //! Keeps what the header asks of its caller: a [`Handle`] begins closed, is neither copied nor shared, and is closed
 //! when it is dropped; references and slices are never null, and have as many values as they say.
 
-use crate::foreign::{
-    nvmesim_answer_line, nvmesim_close, nvmesim_configuration_lines, nvmesim_count_notices, nvmesim_event_line,
-    nvmesim_load, nvmesim_look, nvmesim_notice_mask, nvmesim_notice_page, nvmesim_notify, nvmesim_open,
-    nvmesim_open_lent, nvmesim_read_blocks, nvmesim_read_configuration, nvmesim_set_notice_mask, nvmesim_status_name,
-    nvmesim_store, nvmesim_submit, nvmesim_take_notice,
-};
+use crate::foreign::*;
 use crate::layout::{
-    Answer, Blocks, Bytes, Change, Command, Event, Hold, HostView, Needed, Notices, Parts, Queue, Read, Registered,
-    Sim, Written,
+    Answer, Blocks, Bytes, Change, Command, Event, ExecutedOver, Hold, HostView, Needed, Notices, Parts, Queue, Read,
+    Registered, Sim, Written,
 };
-use crate::{Attachment, Controller, Namespace};
+use crate::{Attachment, Brought, Controller, Namespace};
 #[cfg(target_arch = "x86_64")]
 use std::arch::x86_64::{_mm_prefetch, _MM_HINT_T0};
 use std::marker::PhantomData;
@@ -75,12 +70,20 @@ impl<'a> Handle<'a> {
                 handle.lent = (bytes.at, bytes.count);
                 unsafe { nvmesim_open_lent(it, version, most, c.0, c.1, n.0, n.1, a.0, a.1, bytes) }
             }
+            Blocks::Brought(disk) => unsafe {
+                nvmesim_open_brought(it, version, most, c.0, c.1, n.0, n.1, a.0, a.1, disk)
+            },
         };
         (answer, handle)
     }
 
     pub fn store(&mut self, cntlid: u16, address: u64, bytes: &[u8]) -> Answer {
         unsafe { nvmesim_store(&mut self.sim, cntlid, address, bytes.as_ptr(), bytes.len()) }
+    }
+
+    pub fn execute_over(&mut self, cntlid: u16, i: usize, room: &mut [u8], it: Brought) -> ExecutedOver {
+        let room = Bytes { at: room.as_mut_ptr(), count: room.len() };
+        unsafe { nvmesim_execute_over(&mut self.sim, room, cntlid, i, it.first, it.blocks, it.flushes) }
     }
 
     pub fn submit(&mut self, cntlid: u16, qid: u16, entry: &[u8; 64], completion: &mut [u8; 16]) -> Answer {
@@ -164,12 +167,7 @@ pub type Room<'r> = (&'r mut [Controller], &'r mut [Namespace], &'r mut [Attachm
 
 /// Reads a configuration into its parts, or the reason why it is refused. The two numbers are the limit of a namespace's
 /// blocks and the blocks of the medium.
-pub fn read_configuration(
-    text: &[u8],
-    (most, blocks): (u64, u64),
-    (cs, ns, at): Room<'_>,
-    reason: &mut [u8],
-) -> Read {
+pub fn read_configuration(text: &[u8], (most, blocks): (u64, u64), (cs, ns, at): Room<'_>, reason: &mut [u8]) -> Read {
     let (c, n, a) = ((cs.as_mut_ptr(), cs.len()), (ns.as_mut_ptr(), ns.len()), (at.as_mut_ptr(), at.len()));
     let (text, reason) = ((text.as_ptr(), text.len()), (reason.as_mut_ptr(), reason.len()));
     unsafe {
