@@ -1,4 +1,5 @@
 -- For `laws.rt`: executions over blocks that a program brings from its disk.
+use Rattle.std.specs.Prelude.{slice_range}
 use Rattle.std.proofs.Common.{
   ◌≡◌,
   ℕ,
@@ -22,7 +23,7 @@ use Rattle.std.proofs.Common.{
   arith,
 }
 use Rattle.std.proofs.lemmas.List.{length-take-le, places, same_lists}
-use Rattle.nvme_spec.specs.Blocks.{Device}
+use Rattle.nvme_spec.specs.Blocks.{Device, blocks_from}
 use Rattle.nvme_spec.specs.Bytes.{with_bytes}
 use Rattle.nvme_spec.specs.Execution.{no_marks}
 use Rattle.nvme_spec.specs.MediumCalls.{MediumCall, Calls}
@@ -45,8 +46,25 @@ use Rattle.nvme_machine.specs.declared.seen.Seen.{Seen}
 use Rattle.nvme_machine.specs.Bare.{seen_with}
 use Rattle.nvme_machine.specs.Controllers.{Controller, Reaction, after_store, wrote, has_read, after_fetch}
 use Rattle.nvme_machine.specs.EventCalls.{ExecutesNothing}
-use Rattle.nvme_machine.specs.Subsystems.{Subsystem, ReactsAs, Step, after_power_cycle, controller_at, with_controller}
-use Rattle.nvme_library.specs.DiskLaws.{IsAsOn, ExecutionsAreInMemory, RoomsComeBack, Without, Over, RunsAreInMemory}
+use Rattle.nvme_machine.specs.Subsystems.{
+  Subsystem,
+  ReactsAs,
+  ExecutesAt,
+  Step,
+  after_power_cycle,
+  controller_at,
+  numbered,
+  with_controller,
+}
+use Rattle.nvme_library.specs.DiskLaws.{
+  IsAsOn,
+  ExecutionsAreInMemory,
+  OtherBlocksAreNotInMemory,
+  RoomsComeBack,
+  Without,
+  Over,
+  RunsAreInMemory,
+}
 use Rattle.nvme_library.specs.Holding.{Inside}
 use Rattle.nvme_library.specs.Over.{ExecutingOver, over_device}
 
@@ -165,30 +183,44 @@ hides b a stays =
     (omega (arith, length-at-hand b.room, length-at-hand a.room, stays.at_hand))
     (omega (arith, length-at-hand a.room, a.within, a.disk.whole, ap (λ d. length d.content.bytes) stays.disk))
 
+-- what both laws on one execution use: the content before, the room inside it, and the state after
+record Around (room : Room) (old new : Inside) (content_before : List ℕ) (after : Subsystem) : Type 0 where
+  within : 512 * room.first + 512 * room.at_hand ≤ length old.state.device.content
+  puts : content_before ≡ with_room old.state.device.content room
+  ends : new.state ≡ after
+
+around : (cntlid i : ℕ) (room left : Room) (old new : Inside) (seen : BareSeen)
+    (e : ExecutingOver cntlid i room old seen left new) (x : Media room left old.medium e.before.medium e.after.medium
+    new.medium) → Around room old new (content_of x.b) e.after.state
+around cntlid i room left old new seen e x =
+    let was : old.state.device.content ≡ content_of x.m =
+    ap (λ (d : Device). d.content) (e.old_is ∙ ap device_of x.old_is) in record {
+      within = omega (
+        arith,
+        ap length was,
+        content_is_whole x.m,
+        x.b.within,
+        x.blocks,
+        ap (λ (r : Room). r.first) x.room_is,
+        ap (λ (r : Room). r.at_hand) x.room_is,
+      );
+      puts = x.content ∙ ap (λ c. with_room c room) (sym was);
+      ends = e.new_is ∙ ap (over_device e.after.state) (ap device_of x.new_is
+          ∙ (λ j. record { content = x.kept j; failures = x.counted j }) ∙ sym (ap device_of x.after_is)
+          ∙ sym e.after_is);
+    }
+
 pub executions_are_in_memory : ExecutionsAreInMemory
 executions_are_in_memory cntlid i room left old new seen e is =
-    let x = media cntlid i room left old new seen e in
+    let x = media cntlid i room left old new seen e in let s = around cntlid i room left old new seen e x in
     let content = old.state.device.content in
     let device : old.state.device ≡ device_of (Brought x.m) = e.old_is ∙ ap device_of x.old_is in
-    let was : content ≡ content_of x.m = ap (λ (d : Device). d.content) device in
-    let within : 512 * room.first + 512 * room.at_hand ≤ length content = omega (
-      arith,
-      ap length was,
-      content_is_whole x.m,
-      x.b.within,
-      x.blocks,
-      ap (λ (r : Room). r.first) x.room_is,
-      ap (λ (r : Room). r.at_hand) x.room_is,
-    ) in
-    let there : content_of x.b ≡ content = x.content ∙ ap (λ c. with_room c room) (sym was)
-    ∙ room-same content room within is in
+    let there : content_of x.b ≡ content = s.puts ∙ room-same content room s.within is in
     let before : e.before.state ≡ old.state = e.before_is ∙ ap (over_device old.state) (ap device_of x.before_is
-    ∙ (λ j. record { content = there j; failures = (x.failures ∙ sym (ap (λ (d : Device). d.failures) device)) j })) in
-    let after : new.state ≡ e.after.state = e.new_is ∙ ap (over_device e.after.state) (ap device_of x.new_is
-    ∙ (λ j. record { content = x.kept j; failures = x.counted j }) ∙ sym (ap device_of x.after_is)
-    ∙ sym e.after_is) in record {
+    ∙ (λ j. record { content = there j; failures = (x.failures ∙ sym (ap (λ (d : Device). d.failures) device)) j }))
+    in record {
       marks = e.executes.marks;
-      step = subst (λ s. Step true old.state (Execute cntlid i) (seen_with e.executes.marks seen) s) (sym after)
+      step = subst (λ s. Step true old.state (Execute cntlid i) (seen_with e.executes.marks seen) s) (sym s.ends)
           (subst (λ s. Step true s (Execute cntlid i) (seen_with e.executes.marks seen) e.after.state) before
           e.executes.executes);
       content = ap (λ (s : Subsystem). s.device.content) e.new_is
@@ -196,6 +228,33 @@ executions_are_in_memory cntlid i room left old new seen e is =
           ∙ ap (λ d. with_room d.content.bytes x.a.room) x.stays.disk
           ∙ sym (hides x.b x.a x.stays) ∙ ap (λ c. with_room c x.a.room) there ∙ ap (with_room content) (sym x.left_is);
     }
+
+-- bytes that were put somewhere are there
+put-there : (content xs : List ℕ) (at n : ℕ) → length xs ≡ n → at + n ≤ length content
+    → xs ≡ slice_range (with_bytes content at xs) at (at + n)
+put-there content xs at n long within = same_lists _ _ (search (rules, places)) (λ k d h. grind (arith, places))
+
+-- there is as little a controller as before the blocks were brought
+still-none : (old before : Subsystem) (device : Device) (k : ℕ)
+    → before ≡ over_device old device → controller_at old k ≡ None → controller_at before k ≡ None
+unfolding controller_at
+still-none old before device k is none = ap (λ (s : Subsystem). numbered s.controllers k) is ∙ none
+
+pub other_blocks_are_not_in_memory : OtherBlocksAreNotInMemory
+other_blocks_are_not_in_memory cntlid i room left old new seen none e is =
+    let x = media cntlid i room left old new seen e in let s = around cntlid i room left old new seen e x in
+    let content = old.state.device.content in let n = 512 * room.at_hand in
+    let nothing : e.after.state ≡ e.before.state =
+    (subst (λ its. ExecutesAt its true e.before.state cntlid i (seen_with e.executes.marks seen) e.after.state)
+    (still-none old.state e.before.state (device_of e.before.medium) cntlid e.before_is none)
+    e.executes.executes).1 in
+    let same : new.state ≡ old.state =
+    (subst (λ its. ExecutesAt its true old.state cntlid i (seen_with is.marks seen) new.state) none is.step).1 in
+    let here : content ≡ with_room content room =
+    ap (λ (s : Subsystem). s.device.content) (sym same ∙ s.ends ∙ nothing ∙ e.before_is)
+    ∙ ap (λ m. (device_of m).content) x.before_is ∙ s.puts in
+    put-there content (bytes_at_hand room) (512 * room.first) n (length-at-hand room) s.within
+    ∙ ap (λ c. blocks_from c room.first n) (sym here)
 
 -- Runs.
 

@@ -1,6 +1,6 @@
 -- Statements of `laws.rt` on a disk whose blocks a program brings: if it brings each block as the disk has it, and then
 -- stores the blocks at hand on the disk, commands are executed as over these blocks in memory.
-use Rattle.std.specs.Prelude.{◌≡◌, ℕ, ◌*◌, List, [], ◌∷◌, map, true}
+use Rattle.std.specs.Prelude.{◌≡◌, ℕ, ◌*◌, List, [], ◌∷◌, map, true, None}
 use Rattle.nvme_spec.specs.declared.outcome.Marks.{Marks}
 use Rattle.nvme_spec.specs.Blocks.{blocks_from}
 use Rattle.nvme_brought.specs.Brought.{bytes_at_hand, with_room}
@@ -13,7 +13,7 @@ use Rattle.nvme_machine.specs.declared.event.Event.TheVariants.{Execute}
 use Rattle.nvme_machine.specs.declared.seen.Seen.{Seen}
 use Rattle.nvme_machine.specs.Bare.{seen_with}
 use Rattle.nvme_machine.specs.EventCalls.{ExecutesNothing}
-use Rattle.nvme_machine.specs.Subsystems.{Step, Run}
+use Rattle.nvme_machine.specs.Subsystems.{Step, Run, controller_at}
 use Rattle.nvme_library.specs.Events.{Stepping}
 use Rattle.nvme_library.specs.Holding.{Inside}
 use Rattle.nvme_library.specs.Over.{ExecutingOver}
@@ -34,6 +34,14 @@ ExecutionsAreInMemory =
     (cntlid i : ℕ) → (room left : Room) → (old new : Inside) → (seen : BareSeen)
     → ExecutingOver cntlid i room old seen left new → IsAsOn old.state.device.content room
     → IsInMemoryStep cntlid i left old seen new
+
+-- The premise is needed: over other blocks it is no such step, even if there is no such controller, so that nothing is
+-- executed.
+abbrev pub OtherBlocksAreNotInMemory : Type 0
+OtherBlocksAreNotInMemory =
+    (cntlid i : ℕ) → (room left : Room) → (old new : Inside) → (seen : BareSeen)
+    → controller_at old.state cntlid ≡ None → ExecutingOver cntlid i room old seen left new
+    → IsInMemoryStep cntlid i left old seen new → IsAsOn old.state.device.content room
 
 -- Afterwards nothing is at hand, and the bytes of the room are where they were.
 pub record EndsWithRoom (room left : Room) (new : Inside) : Type 0 where

@@ -21,7 +21,7 @@ use Rattle.nvme_spec.specs.declared.config.ConfigFault.TheVariants.{BadId, BadSi
 use Rattle.nvme_spec.specs.Configuration.{Capacity, Configuration, capacity, config_fault}
 use Rattle.nvme_medium.specs.Memory.{whole_blocks}
 use Rattle.nvme_brought.specs.declared.disk.Disk.{Disk}
-use Rattle.nvme_lent.specs.OwnOrLent.{bytes_of, lent_of, IsInMemory, NothingIsAtHand}
+use Rattle.nvme_lent.specs.OwnOrLent.{bytes_of, failures_of, lent_of, IsInMemory, NothingIsAtHand}
 use Rattle.nvme_lent.specs.declared.bytes.LentBytes.{LentBytes}
 use Rattle.nvme_machine.specs.Subsystems.{opening}
 use Rattle.nvme_library.specs.Holding.{Inside}
@@ -50,6 +50,7 @@ pub record OpensOver (c : Configuration) (blocks : List ℕ) (size : Capacity) (
 pub record OpensWithout (c : Configuration) (blocks : List ℕ) (size : Capacity) (new : Inside) : Type 0 where
   pub on : OpensOn c blocks size new
   pub nothing : NothingIsAtHand new.medium
+  pub unfailed : failures_of new.medium ≡ 0
 
 -- the first fault of the configuration, or memory was refused
 abbrev pub IsFault : Configuration → Capacity → ConfigFault → Type 0

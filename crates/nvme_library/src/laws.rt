@@ -1,6 +1,11 @@
 //! Laws of the calls. Each law is the contract of an empty function.
 
-ghost use Rattle.nvme_library.specs.DiskLaws.{ExecutionsAreInMemory, RoomsComeBack, RunsAreInMemory};
+ghost use Rattle.nvme_library.specs.DiskLaws.{
+  ExecutionsAreInMemory,
+  OtherBlocksAreNotInMemory,
+  RoomsComeBack,
+  RunsAreInMemory,
+};
 ghost use Rattle.nvme_library.specs.LentLaws.{
   ExecutionsStayInPlace,
   TurnsStayInPlace,
@@ -30,6 +35,7 @@ pub fn cycles_and_looks_leave_the_medium()
 /// executed as over these blocks in memory, in any run. Each room comes back at its address, and nothing stays at hand.
 pub fn commands_over_a_disk_are_in_memory()
     ensures execution { ExecutionsAreInMemory }
+    ensures other_blocks { OtherBlocksAreNotInMemory }
     ensures room { RoomsComeBack }
     ensures run { RunsAreInMemory }
 {}
