@@ -1,5 +1,24 @@
 -- For `examples.rt`: calls of the medium, by computing.
-use Rattle.std.proofs.Common.{◌≡◌, ℕ, List, [], ◌∷◌, ◌++◌, None, Ok, Some, refl, sym, ap, subst, ◌∙◌, true}
+use Rattle.std.proofs.Common.{
+  ◌≡◌,
+  ℕ,
+  ◌*◌,
+  List,
+  [],
+  ◌∷◌,
+  ◌++◌,
+  take,
+  None,
+  Ok,
+  Some,
+  refl,
+  sym,
+  ap,
+  subst,
+  ◌∙◌,
+  true,
+  arith,
+}
 use Rattle.std.specs.Prelude.{replicate, slice_range}
 use Rattle.std.proofs.lemmas.List.{append-nil}
 use Rattle.nvme_wire.specs.Completion.{completion_entry}
@@ -31,7 +50,12 @@ use Rattle.nvme_spec.specs.Rules.{judgement_by}
 use Rattle.nvme_spec.specs.Transfers.{addresses, with_scattered}
 use Rattle.nvme_spec.specs.World.{host_of, is_attached, namespace_of, opening_world}
 use Rattle.nvme_spec.proofs.Openings.{opening_is_laid_out}
-use Rattle.nvme_lent.specs.OwnOrLent.{bytes_of, step_of, IsInMemory}
+use Rattle.nvme_spec.specs.Blocks.{blocks_from}
+use Rattle.nvme_spec.specs.Bytes.{with_bytes}
+use Rattle.nvme_brought.specs.Brought.{room_bytes, with_room, content_of, FlushesIf}
+use Rattle.nvme_brought.specs.declared.medium.BroughtMedium.{BroughtMedium}
+use Rattle.nvme_brought.specs.declared.room.Room.{Room}
+use Rattle.nvme_lent.specs.OwnOrLent.{bytes_of, device_of, step_of, IsInMemory}
 use Rattle.nvme_lent.specs.declared.either.OwnOrLent.{OwnOrLent}
 use Rattle.nvme_lent.specs.declared.either.OwnOrLent.TheVariants.{Own, Lent, Brought}
 use Rattle.nvme_lent.proofs.CallLaws.{bytes_follow}
@@ -50,6 +74,7 @@ use Rattle.nvme_subsys.specs.OverMedium.{over}
 use Rattle.nvme_library.specs.CallExamples.{
   CyclingMakesNoCall,
   ExecutingMakesItsCalls,
+  FlushesOverADisk,
   LooksAtFirst,
   LooksMakeTheirReads,
   after,
@@ -58,6 +83,7 @@ use Rattle.nvme_library.specs.CallExamples.{
   writing,
 }
 use Rattle.nvme_library.specs.Events.{Executing}
+use Rattle.nvme_library.specs.Over.{over_device}
 use Rattle.nvme_library.proofs.LentLaws.{bytes_stay_the_content, looks_leave_the_medium}
 
 -- all definitions that executions compute with: unfolding this one unfolds them
@@ -108,8 +134,9 @@ flush-step (Own m) memory = (refl, refl)
 flush-step (Lent m) memory = (refl, refl)
 flush-step (Brought m) memory = absurd memory
 
-executes : (m : OwnOrLent) → IsInMemory m → Executing 1 0 (over flushing m) is_done (over (after flushing) m)
-executes m memory = record {
+executes-by : (m : OwnOrLent) → step_of m (Flushes (Ok tt)) m
+    → Executing 1 0 (over flushing m) is_done (over (after flushing) m)
+executes-by m flushes = record {
   marks = no_marks;
   marked = refl;
   executes = subst (λ seen. Step true flushing (Execute 1 0) seen (after flushing)) flush-seen
@@ -121,9 +148,12 @@ executes m memory = record {
         (subst (λ cs. AreCallsOfStep true flushing (Execute 1 0) (fault_free_step flushing (Execute 1 0)).seen
         (after flushing) cs) flush-calls
         (its-calls flushing flushing-laid));
-    made = (m, flush-step m memory, refl);
+    made = (m, flushes, refl);
   };
 }
+
+executes : (m : OwnOrLent) → IsInMemory m → Executing 1 0 (over flushing m) is_done (over (after flushing) m)
+executes m memory = executes-by m (flush-step m memory)
 
 is-flush : IsFlushAt flushing 1 0
 unfolding computing
@@ -149,6 +179,60 @@ executing_makes_its_calls = record {
   writes = λ m other memory is h. bytes_stay_the_content 1 0 (over writing m)
       (over (after writing) other) is_done memory h writing-laid quiet.0 quiet.1 is ∙ quiet.2;
 }
+
+-- An execution over a room.
+
+-- a room without a block at hand puts nothing over a content
+puts-nothing : (content : List ℕ) (r : Room) → r.first ≡ 0 → r.at_hand ≡ 0 → with_room content r ≡ content
+puts-nothing content r first none = λ j. with_bytes content (512 * first j) (take (512 * none j) (room_bytes r))
+
+-- the medium with this room
+abbrev having-room : (m : BroughtMedium) (r : Room) → r.first ≡ 0 → r.at_hand ≡ 0 → BroughtMedium
+having-room m r first none = record {
+  disk = m.disk;
+  room = r;
+  failures = m.failures;
+  countable = m.countable;
+  within = omega (arith, first, none);
+}
+
+unfailed : flushing.device.failures ≡ 0
+unfolding computing
+unfailed = refl
+
+kept : (after flushing).device ≡ flushing.device
+unfolding computing
+kept = refl
+
+pub flushes_over_a_disk : FlushesOverADisk
+flushes_over_a_disk m r nothing failures is first none flushes =
+    let b : BroughtMedium = having-room m r first none in let content = flushing.device.content in
+    let same : content_of b ≡ content_of m = puts-nothing m.disk.content.bytes r first none
+    ∙ sym (puts-nothing m.disk.content.bytes m.room nothing.first nothing.at_hand) in
+    let device : flushing.device ≡ device_of (Brought m) =
+    λ j. record { content = sym is j; failures = (unfailed ∙ sym failures) j } in
+    let other : flushing.device ≡ device_of (Brought b) =
+    device ∙ (λ j. record { content = sym same j; failures = m.failures }) in (
+      record {
+        earlier = m.room;
+        before = over flushing (Brought b);
+        after = over (after flushing) (Brought b);
+        old_is = device;
+        brings = record {
+          room_is = refl;
+          earlier_is = refl;
+          content = same ∙ sym (puts-nothing (content_of m) r first none);
+          blocks = refl;
+          failures = refl;
+        };
+        before_is = ap (over_device flushing) other;
+        executes = executes-by (Brought b) (subst (λ f. FlushesIf f b (Ok tt) b) (sym flushes) (refl, refl));
+        after_is = kept ∙ other;
+        gives = record { room_is = refl; nothing = nothing; content = sym same; blocks = refl; failures = refl };
+        new_is = ap (over_device (after flushing)) (kept ∙ device);
+      },
+      (λ j. take (512 * none j) (room_bytes r)) ∙ sym (λ j. blocks_from content (first j) (512 * none j)),
+    )
 
 -- A power cycle.
 

@@ -1,6 +1,11 @@
 //! Worked examples of the definitions. Each is the contract of an empty function, proved by computing.
 
-ghost use Rattle.nvme_library.specs.CallExamples.{CyclingMakesNoCall, ExecutingMakesItsCalls, LooksMakeTheirReads};
+ghost use Rattle.nvme_library.specs.CallExamples.{
+  CyclingMakesNoCall,
+  ExecutingMakesItsCalls,
+  FlushesOverADisk,
+  LooksMakeTheirReads,
+};
 ghost use Rattle.nvme_library.specs.Examples.{
   OneBlockOpens,
   NoBlockDoesNotOpen,
@@ -19,11 +24,12 @@ pub fn one_block_is_opened()
     ensures copy { CopyIsNotLent }
 {}
 
-/// An executed Flush makes one flush, and a Write its writes; a power cycle makes no call, and a read of a block one
-/// read.
+/// An executed Flush makes one flush, over a program's disk too, and a Write its writes; a power cycle makes no call,
+/// and a read of a block one read.
 #[tactic(auto, using(crate::proofs::CallExamples::executing_makes_its_calls, crate::proofs::CallExamples::cycling_makes_no_call, crate::proofs::CallExamples::looks_make_their_reads))]
 pub fn calls_are_made()
     ensures execution { ExecutingMakesItsCalls }
+    ensures disk { FlushesOverADisk }
     ensures cycle { CyclingMakesNoCall }
     ensures look { LooksMakeTheirReads }
 {}
