@@ -284,8 +284,9 @@ uint32_t nvmesim_open_lent(nvmesim *sim, uint32_t version, uint64_t max_blocks, 
 /* Opens a subsystem over a disk that only the program accesses: nvmesim_execute_over brings its blocks. Without them
  * none is at hand: each read, write and flush of the disk fails in nvmesim_execute, nvmesim_submit, nvmesim_read_blocks
  * and nvmesim_look. NVMESIM_OK; or the refusals of nvmesim_open, and then nothing has changed. */
-uint32_t nvmesim_open_brought(nvmesim *sim, uint32_t version, uint64_t max_blocks, const nvmesim_controller *controllers,
-                              size_t controller_count, const nvmesim_namespace *namespaces, size_t namespace_count,
+uint32_t nvmesim_open_brought(nvmesim *sim, uint32_t version, uint64_t max_blocks,
+                              const nvmesim_controller *controllers, size_t controller_count,
+                              const nvmesim_namespace *namespaces, size_t namespace_count,
                               const nvmesim_attached *attached, size_t attached_count, nvmesim_disk disk);
 
 /* Closes it, if it is open, and frees its memory. Borrowed bytes are yours again, as the commands left them. */
@@ -309,15 +310,19 @@ nvmesim_answer nvmesim_fetch(nvmesim *sim, uint16_t cntlid, uint16_t qid);
  * status; NO_SUCH, CQ_FULL; or NO_CONTROLLER, CLOSED. */
 nvmesim_answer nvmesim_execute(nvmesim *sim, uint16_t cntlid, size_t i);
 
-/* Executes a command like nvmesim_execute, over blocks of the disk of nvmesim_open_brought. The room is for the blocks of
- * the disk from `first`, 512 bytes each; the first `brought` of them have what the disk has. The command can read these,
- * write these and the next ones that the room is long enough for, and flush if `flushes`; each other call of the disk fails. The
- * room is borrowed for the call, and has then what the command wrote: put its first at_hand blocks to the disk if the
- * command writes. The answers of nvmesim_execute; or OUTSIDE if the disk does not have all blocks that are brought,
- * IN_MEMORY if there is no disk, and then nothing has changed, the room included. So a disk in use looks like this:
- *  1. Bring what nvmesim_needs returns: the blocks for NEEDS_READ, none for the others, in a room for all of them.
- *  2. Bring a block only as the last command has left it. Fewer can be brought if the disk fails.
- *  3. nvmesim_execute_over. Then the result is that of nvmesim_execute over all blocks of the disk in memory. */
+/* Executes a command like nvmesim_execute, over blocks of the disk of nvmesim_open_brought. The room is for the blocks
+ * of the disk from `first`, 512 bytes each; the first `brought` of them have what the disk has. The command can read
+ * these, write these and the next ones that the room is long enough for, and flush if `flushes`; each other call of
+ * the disk fails. The room is borrowed for the call, and has then what the command wrote. The answers of
+ * nvmesim_execute; or OUTSIDE if the disk does not have all blocks that are brought, IN_MEMORY if there is no disk,
+ * and then nothing has changed, the room included. For a disk in use:
+ *  1. Bring what nvmesim_needs returns: the blocks for NEEDS_READ, none for the others, in a room for all of them. Bring
+ *     a block only as the last command has left it. Fewer can be brought if the disk fails. For NEEDS_FLUSH sync the
+ *     disk, and say by `flushes` whether that passed.
+ *  2. Call nvmesim_execute_over.
+ *  3. If the command writes (NEEDS_WRITE, NEEDS_ZERO), store the first at_hand blocks of the room on the disk, whatever
+ *     the answer is.
+ * Then the answers and the blocks are those of nvmesim_execute over the blocks of the disk in memory. */
 nvmesim_executed_over nvmesim_execute_over(nvmesim *sim, nvmesim_bytes room, uint16_t cntlid, size_t i, uint64_t first,
                                            uint64_t brought, bool flushes);
 
