@@ -41,6 +41,11 @@ abbrev pub Either : Option ℕ → Type 0
 Either None = ⊥
 Either (Some n) = (n ≡ 1) × Waits s
     n × Even n
+
+abbrev pub Both : ℕ → Type 0
+Both n =
+    (n ≡ 1)
+    × Even n
 """
 
 
@@ -55,7 +60,8 @@ class Parts(unittest.TestCase):
     def test_definitions(self):
         read = [(it.name, it.gives, it.is_record, len(it.cases)) for it in definitions_of(TEXT)]
         self.assertEqual(read, [("Waits", "", True, 2), ("may", "Bool", False, 2), ("left", "", False, 1),
-                                ("Stays", "Type 0", False, 1), ("Either", "Type 0", False, 2)])
+                                ("Stays", "Type 0", False, 1), ("Either", "Type 0", False, 2),
+                                ("Both", "Type 0", False, 1)])
 
 
 class Rules(unittest.TestCase):
@@ -76,6 +82,8 @@ class Rules(unittest.TestCase):
         self.assertEqual(changed("may", "case 1 lacks conjunct 2")[-1], "may None s = s.open && true")
         self.assertEqual(changed("Either", "case 2 lacks conjunct 1"), ["Either (Some n) = Unit {0} × Waits s"])
         self.assertEqual(changed("Either", "case 2 lacks conjunct 3"), ["    n × Unit {0}"])
+        self.assertEqual(changed("Both", "lacks conjunct 1"), ["Both n = Unit {0} × Even n"])
+        self.assertEqual(changed("Both", "lacks conjunct 2"), ["    × Unit {0}"])
 
     def test_records(self):
         self.assertEqual(changed("Waits", "field found says nothing"), ["  pub found : Unit {0}"])
@@ -230,7 +238,7 @@ class Batches(unittest.TestCase):
         # It stays unnoticed next to one that is noticed, and alone.
         trying = Trying(None, self.sources, self.crate, self.some("low", "same"), [])
         trying.askings["one"] = self.asking({"low same": goal("low")}, "low", "same")
-        found = {one.item.name: it.kind for one, it in trying.settle([])}
+        found = {one.item.name: it.kind for one, it in trying.settle([trying.wrong])}
         self.assertEqual(found, {"low": "noticed", "same": "unnoticed"})
         self.assertEqual(trying.askings["one"].place.asked, ["low same", "same", "same in full"])
 
@@ -254,7 +262,7 @@ class Batches(unittest.TestCase):
         trying = Trying(None, self.sources, self.crate, self.some("same", "side"), [])
         says = {"same side": goal("both"), "side": goal("both")}
         trying.askings["one"] = self.asking(says, "same", "side")
-        found = {one.item.name: it.kind for one, it in trying.settle([])}
+        found = {one.item.name: it.kind for one, it in trying.settle([trying.wrong])}
         self.assertEqual(found, {"side": "noticed", "same": "unnoticed"})
         asking = self.asking({"low side in full": goal("both")}, "low", "side")
         self.assertEqual(asking.try_group(self.some("low", "side")), {})

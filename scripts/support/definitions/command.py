@@ -29,8 +29,8 @@ def words_of(given):
                         help="those in whose name this is found: file, definition and rule")
     parser.add_argument("--sample", type=int, default=0, metavar="N", help="N of them, chosen by the seed")
     parser.add_argument("--seed", default="0", metavar="WORD", help="what chooses the sample")
-    parser.add_argument("--first", default="nvme_premises,nvme_theorem_runs", metavar="NAMES",
-                        help="the crates above that are asked first")
+    parser.add_argument("--first", default="own,nvme_premises,nvme_theorem_runs", metavar="NAMES",
+                        help="the crates that are asked first, in this order; `own` is that of the definition")
     parser.add_argument("--jobs", type=int, default=1, metavar="N", help="N checks at once")
     parser.add_argument("--quick", action="store_true", help="batches alone: what they don't settle stays unsettled")
     parser.add_argument("--again", type=int, default=0, metavar="N",
@@ -50,7 +50,8 @@ class Run:
     def try_crate(self, crate, book, mutants):
         """Tries the wrong definitions of one crate, and keeps its record as it goes."""
         above = [it for it in self.crates.values() if crate in it.below()]
-        first = [it for name in self.words.first.split(",") for it in above if it.name == name]
+        names = [crate.name if it == "own" else it for it in self.words.first.split(",")]
+        first = [it for name in names for it in [crate, *above] if it.name == name]
         trying = Trying(self.rt, self.sources, crate, mutants, above, self.words.jobs)
         try:
             for mutant, outcome in trying.settle(first, self.words.quick):

@@ -9,7 +9,7 @@ from support.definitions.batches import merged
 from support.trial import linked, run
 
 # The processor seconds after which a check of a batch is given up, and one of the whole crate.
-LIMIT, LONG = 60, 1500
+LIMIT, LONG = 100, 1500
 DONE = re.compile(r"^checked (\S+), \d+ of \d+", re.M)
 
 

@@ -53,7 +53,7 @@ def conjuncts(text, definition, case):
     """One conjunct dropped."""
     right = case.right(text)
     for mark, word in ((" × ", "Unit {0}"), (" && ", "true")):
-        places = split_at(right.replace("\n    × ", "\n   × ").replace("\n    && ", "\n   && "), mark)
+        places = split_at(right, mark)
         if not places or definition.gives != ("Type 0" if word != "true" else "Bool"):
             continue
         borders = [0, *places, len(right)]

@@ -4,6 +4,7 @@ A batch is one check of one copy. A definition counts as noticed only if an item
 one of the copy. What no batch settles is tried in a whole check of its crate, and then of each crate above, several at
 once as long as these are proved, and in halves, down to one alone, if not.
 """
+import random
 from concurrent.futures import ThreadPoolExecutor
 
 from support.definitions.batches import Witnesses, batches_of
@@ -12,7 +13,12 @@ from support.definitions.refusals import Outcome, Reading
 from support.proving import say
 
 # The most wrong definitions that share a check, how many witnesses of each are asked, and how often in one crate.
-MOST, FEW, ROUNDS = 16, 3, 2
+MOST, FEW, ROUNDS = 24, 2, 2
+
+
+def spread(mutants):
+    """The same ones in an order that mixes files: those of one file rarely have witnesses that see them alone."""
+    return random.Random("0").sample(mutants, len(mutants))
 
 
 class Asking:
@@ -117,10 +123,10 @@ class Trying:
         return sum(it.place.seconds for it in self.askings.values())
 
     def settle(self, first, is_quick=False):
-        """Tries all; gives each with what came of it. `first` are the crates above that are asked in batches; a quick
-        run ends there, and gives the rest as unsettled."""
-        left = list(self.mutants)
-        for asker in [self.wrong, *first]:
+        """Tries all; gives each with what came of it. `first` are the crates that are asked in batches; a quick run ends
+        there, and gives the rest as unsettled."""
+        left = spread(self.mutants)
+        for asker in first:
             asking = self.asking(asker)
             for _ in range(ROUNDS):
                 for one, outcome in self.in_batches(asking, left):
@@ -129,7 +135,7 @@ class Trying:
         if is_quick:
             yield from ((it, Outcome("unsettled", "", None, "no batch settles it")) for it in left)
             return
-        for asker in [self.wrong, *first, *(it for it in self.above if it not in first)]:
+        for asker in [*first, *(it for it in [self.wrong, *self.above] if it not in first)]:
             asking = self.asking(asker)
             for group in self.groups(left):
                 for one, outcome in asking.try_group(group).items():
