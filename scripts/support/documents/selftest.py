@@ -111,7 +111,7 @@ CHANGED = (
     ("clients/python/examples/fencing.py", "what it has fetched in any order", "its commands where there are some",
      "fencing.py:77: 'where there are': write if"),
     ("clients/c/nvmesim.h", "/* there was no command to fetch */", "/* blocks, one at least */",
-     "nvmesim.h:49: 'one at least'"),
+     "nvmesim.h:50: 'one at least'"),
     ("clients/python/nvmesim/conform/command.py", "the number of the first scene", "the scene that shall be first",
      "command.py:35: 'shall': write must"),
     (PICTURE, ">nvme_ring<", ">nvme_rings<", "nvme_rings is there twice, or is no crate"),
