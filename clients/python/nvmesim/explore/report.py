@@ -61,11 +61,14 @@ class Report:
             has_trifles: whether unimportant events distinguish outcomes too.
         """
         self.plan, self.checks, self.is_whole = plan, checks, is_whole
-        self.by, self.has_trifles = by, has_trifles
+        self.by = by
         self.looks = Looks(plan).last()
         self.found: List[Tuple[Outcome, Ways]] = ranked(found)
         self.values = [Values(plan, outcome, self.looks) for outcome, _ in self.found]
         self.blocks = list(self._block_ranges())
+        self._differing = [it for it in plan.steps if not it.line.is_request
+                           and (has_trifles or matters(plan, it)) and self._differs(it)]
+        self._is_attached_told = len({it.attached for it in self.values}) > 1
         self._table = [self._rows(it) for it in self.values]
         self.shorter: Dict[str, List[str]] = {}
         self.groups = grouped(self.found, self.values, self._key())
@@ -136,15 +139,14 @@ class Report:
     def _rows(self, values: Values) -> Dict[str, str]:
         """An outcome by names: requests, other events that matter and differ, and the last state."""
         rows = {step.name: str(values.answers[step.name]) for step in self.plan.steps if step.line.is_request}
-        for step in self.plan.steps:
-            if not step.line.is_request and (self.has_trifles or matters(self.plan, step)) and self._differs(step):
-                rows[step.name] = str(values.answers[step.name])
+        for step in self._differing:
+            rows[step.name] = str(values.answers[step.name])
         for nsid, told in values.reservations.items():
             rows[f"reservation {nsid}"] = reservation_words(told)
         for nsid, first, last in self.blocks:
             name = f"block {nsid}:{first}" if first == last else f"blocks {nsid}:{first} to {last}"
             rows[name] = data_words(values.blocks[nsid, first])
-        if len({it.attached for it in self.values}) > 1:
+        if self._is_attached_told:
             rows["attached"] = values.attached
         return rows
 
