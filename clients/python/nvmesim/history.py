@@ -225,17 +225,18 @@ def check_fits(line: ScriptLine, text: str) -> None:
     Raises:
         ProtocolError: the answer is another line's.
     """
-    words = text.split(" ")
-    if not (text == line.verb if line.is_of_all else _is_answered(line, words)):
+    if text not in answer_heads(line) and not text.startswith(tuple(f"{it} " for it in answer_heads(line))):
         raise ProtocolError(f"{text!r} does not answer the line {line.text!r}")
 
 
-def _is_answered(line: ScriptLine, words: List[str]) -> bool:
-    """Whether these words answer a line that names a controller."""
+def answer_heads(line: ScriptLine) -> List[str]:
+    """The beginnings, in whole words, of all answers to an event."""
+    if line.is_of_all:
+        return [line.verb]
     heads = ("placed", "refused") if line.is_request else _HEADS.get(line.verb, (line.verb,))
-    count = 1 if line.verb not in ("fetch", "execute") or words[0] in _MISSES else 2
-    wanted = [str(it) for it in line.numbers()[:count]]
-    return words[0] in (*heads, *_MISSES) and words[1:1 + count] == wanted
+    controller, *others = map(str, line.numbers())
+    place = f" {others[0]}" if line.verb in ("fetch", "execute") else ""
+    return [*(f"{it} {controller}{place}" for it in heads), *(f"{it} {controller}" for it in _MISSES)]
 
 
 def follow(lines: Sequence[ScriptLine], transcript: str) -> List[Event]:

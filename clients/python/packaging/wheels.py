@@ -73,7 +73,7 @@ def tables(text: str) -> Dict[str, Table]:
 def _modules() -> Iterator[Path]:
     """The files of the package."""
     for path in sorted((TOP / PACKAGE).rglob("*")):
-        if path.suffix in (".py", ".c") or path.name == "py.typed":
+        if path.suffix in (".py", ".c", ".h") or path.name == "py.typed":
             yield path
 
 

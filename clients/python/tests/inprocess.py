@@ -6,7 +6,7 @@ import io
 from pathlib import Path
 from typing import BinaryIO, Callable, Collection, Dict, List, Sequence, Tuple
 
-from nvmesim.explore import Plan, Programs, Shard
+from nvmesim.explore import Plan, Programs
 from nvmesim.explore.branches import Branch
 from nvmesim.explore.outcomes import Findings, Outcome, in_one_form
 from nvmesim.explore.plan import Order
@@ -74,10 +74,9 @@ class Copied:
         self.owner.live -= 1
 
 
-def walk_of(plan: Plan, shard: Shard = Shard(1, 1), jobs: int = 1, can_fork: bool = True,
-            is_reduced: bool = True) -> Walk:
+def walk_of(plan: Plan, jobs: int = 1, can_fork: bool = True, is_reduced: bool = True) -> Walk:
     """An exploration over stand-ins of this process."""
-    return Walk(plan, InProcess(plan, can_fork), shard.prefixes(plan), jobs, is_reduced=is_reduced)
+    return Walk(plan, InProcess(plan, can_fork), jobs, is_reduced=is_reduced)
 
 
 def orders_of(plan: Plan) -> List[Order]:

@@ -10,12 +10,10 @@ import unittest
 from typing import List, Sequence
 
 from nvmesim import ConfigurationRefused, ProgramDied, ProgramHangs, ProgramNotFound, ScriptError
-from nvmesim.explore import Plan, Shard, Walk, explore, explore_shard, programs_of
-from nvmesim.explore.dask import WorkerLacks, explore_on_dask
+from nvmesim.explore import Plan, Walk, explore, programs_of
 from nvmesim.explore.expressions import Expression
-from nvmesim.explore.outcomes import in_one_form, joined
+from nvmesim.explore.outcomes import in_one_form
 from nvmesim.explore.report import Check, Report
-from nvmesim.explore.shards import ShardError, json_lines, merge
 from nvmesim.explore.states import Looks
 
 from .inprocess import counts_of, one_by_one, one_by_one_over, orders_of, walk_of
@@ -253,30 +251,6 @@ class WalkTest(unittest.TestCase):
         self.assertEqual(in_one_form("attached controller 10 namespace 1 controller 9 namespace 2"),
                          "attached controller 9 namespace 2 controller 10 namespace 1")
 
-    def test_parts_are_disjoint_and_give_the_same_together(self) -> None:
-        for text, counts in ((RACE_TEXT, (1, 8, 100)), (SHARED, (8,)), (SMALL, (2,))):
-            plan = Plan(text)
-            whole = walk_of(plan).explore()
-            for count in counts:
-                parts = [walk_of(plan, Shard(n, count)).explore() for n in range(1, count + 1)]
-                self.assertEqual(joined(parts), whole)
-                written = [list(json_lines(plan, Shard(n, count), it)) for n, it in enumerate(parts, 1)]
-                again, found = merge(written)
-                self.assertEqual((again.text, found), (text, whole))
-                self.assertEqual(list(Report(again, found).lines()), list(Report(plan, whole).lines()))
-
-    def test_parts_that_can_not_be_joined(self) -> None:
-        plan, other = Plan(SMALL), Plan(SMALL + "poll 2\n")
-        parts = [list(json_lines(plan, Shard(n, 3), walk_of(plan, Shard(n, 3)).explore())) for n in (1, 2, 3)]
-        strange = list(json_lines(other, Shard(3, 3), walk_of(other, Shard(3, 3)).explore()))
-        for wrong in ([], parts[:2], [*parts, parts[0]], [*parts[:2], parts[2][:-1]], [*parts[:2], strange],
-                      [*parts[:2], ["no json"]], [*parts[:2], []], [*parts[:2], ["{}"]]):
-            with self.assertRaises(ShardError):
-                merge(wrong)
-        for text in ("0/1", "2/1", "1", "1/0", "a/b", "1/8 ", "-1/8"):
-            with self.assertRaises(ShardError):
-                Shard.parse(text)
-
 
 class ProgramTest(FolderCase):
     def test_the_race_over_programs(self) -> None:
@@ -284,34 +258,6 @@ class ProgramTest(FolderCase):
             with self.subTest(program):
                 found = explore(Plan(RACE_TEXT), program, jobs=4)
                 self.assertEqual(sorted(it.count for it in found.values()), [60, 66, 126])
-
-    def test_parts_as_a_cluster_runs_them(self) -> None:
-        class Cluster:
-            """Replaces a client of Dask."""
-
-            def map(self, call: object, given: Sequence[object]) -> List[object]:
-                return [call(it) for it in given]  # type: ignore[operator]
-
-            def gather(self, futures: List[object]) -> List[object]:
-                return futures
-
-        plan = Plan(SMALL)
-        found = explore_on_dask(plan, "tcp://nowhere:1", 2, str(PROGRAM), 10.0, client=Cluster())
-        self.assertEqual(found, walk_of(plan).explore())
-        self.assertEqual(joined([explore_shard(SMALL, Shard(n, 2), PROGRAM) for n in (1, 2)]), found)
-
-    def test_a_worker_without_the_package(self) -> None:
-        class Cluster:
-            """A cluster whose worker can't take a task."""
-
-            def map(self, call: object, given: Sequence[object]) -> List[object]:
-                return []
-
-            def gather(self, futures: List[object]) -> List[object]:
-                raise ModuleNotFoundError("No module named 'nvmesim'")
-
-        with self.assertRaisesRegex(WorkerLacks, "a worker of the cluster does not have this package: No module"):
-            explore_on_dask(Plan(SMALL), "tcp://nowhere:1", 2, str(PROGRAM), 10.0, client=Cluster())
 
     def test_an_error_of_a_worker_is_passed_on(self) -> None:
         for fault in (ProgramDied(4, "ring 1", "ended"), ProgramDied(None, "", ""), ProgramHangs(1.0, "ring 1", ""),

@@ -39,10 +39,16 @@ class CommandTest(FolderCase):
         for words, said in (
                 (["explore", str(RACE), "--bogus"], "unrecognized arguments: --bogus"),
                 (["explore", str(RACE), "--jobs", "x"], "invalid int value: 'x'"),
-                (["explore", str(RACE), "--jobs", "0"], "--jobs and --shards must be at least 1"),
-                (["explore", str(RACE), "--shard", "9/8"], "'9/8' is no part; use K/N, such as 1/8"),
-                (["explore"], "explore needs a SCRIPT, or --merge with files"),
-                (["explore", "--merge", str(text), "--image", str(text)], "--image belongs to the parts"),
+                (["explore", str(RACE), "--jobs", "0"], "--jobs and --memory must be at least 1"),
+                (["explore", str(RACE), "--shard", "1/8"], "--shard is gone: parts of one exploration met nearly all "
+                 "states each; --jobs N runs on several processors"),
+                (["explore", "--merge", "part1", "part2"], "--merge is gone: "),
+                (["explore", str(RACE), "--dask", "tcp://127.0.0.1:1", "--shards", "8"], "--shards is gone: "),
+                (["explore"], "explore needs a SCRIPT"),
+                (["explore", str(RACE), "--fail", "0"], "--fail 0: use K, or K-L such as 1-20, with K from 1 on"),
+                (["explore", str(RACE), "--fail", "3-2"], "--fail 3-2: K-L must be from 1 to 10,000 calls"),
+                (["explore", str(RACE), str(RACE), "--page", "a.html"], "--page shows one exploration, not several"),
+                (["explore", str(RACE), "--within", "1", "--dask", "x"], "--within excludes --dask"),
                 (["timeline", str(RACE), "--format", "png"], "a PNG file needs a name: -o FILE"),
                 (["timeline", str(RACE), "-o", "a.pdf"], "a.pdf ends with .pdf, which is no format that is written "
                  "here: .html or .svg or .png, or no ending"),
@@ -205,25 +211,8 @@ class CommandTest(FolderCase):
                 self.assertEqual(wrong, f"nvmesim: {why}: --always and --never are judged by 2 orders at least\n"
                                  if wanted == 2 else "")
 
-    def test_parts_and_their_merge(self) -> None:
-        script, count = self.folder / "small.nvme", 8 if LIVE else 2
-        script.write_text(SMALL, encoding="utf-8")
-        _, whole, _ = self.explored(str(script))
-        files: List[str] = []
-        for number in range(1, count + 1):
-            status, told, _ = self.explored(str(script), "--shard", f"{number}/{count}")
-            self.assertEqual(status, 0)
-            files.append(str(self.folder / f"{number}.jsonl"))
-            Path(files[-1]).write_text(told, encoding="utf-8")
-        self.assertEqual(self.run_command("explore", "--merge", *files)[:2], (0, whole))
-        never = "b.read1.data == 'a1'"
-        self.assertEqual(self.run_command("explore", "--never", never, "--merge", *files)[0], 1)
-        self.assertEqual(self.run_command("explore", "--merge", *files[:-1])[0], 2)
-
     def test_what_can_not_be_done(self) -> None:
-        for words in ((), (str(RACE), "--shard", "9/8"), (str(RACE), "--always", "a.nothing1"), ("absent.nvme",),
-                      (str(RACE), "--merge", "x"), (str(RACE), "--shard", "1/2", "--always", "True"),
-                      (str(RACE), "--jobs", "0")):
+        for words in ((), (str(RACE), "--always", "a.nothing1"), ("absent.nvme",), (str(RACE), "--jobs", "0")):
             with self.subTest(words):
                 status, told, wrong = self.explored(*words)
                 self.assertEqual((status, told, wrong.count("\n"), wrong[:9]), (2, "", 1, "nvmesim: "))

@@ -117,8 +117,6 @@ class FailureTest(FolderCase):
             self.assertEqual(main(["explore", str(RACE), "--program", str(LIVE), "--fail", "1"]), 2)
         self.assertEqual(wrong.getvalue(),
                          "nvmesim: there is no C compiler 'absent', so no call of the image can fail\n")
-        with contextlib.redirect_stderr(wrong):
-            self.assertEqual(main(["explore", str(RACE), "--fail", "1", "--shard", "1/2"]), 2)
 
 
 if __name__ == "__main__":

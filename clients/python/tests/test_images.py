@@ -13,12 +13,10 @@ from unittest import mock
 from nvmesim import ConfigurationRefused
 from nvmesim.errors import FileFault
 from nvmesim.__main__ import main
-from nvmesim.explore import Medium, Plan, Shard, explore
-from nvmesim.explore.dask import explore_on_dask
+from nvmesim.explore import Medium, Plan, explore
 from nvmesim.explore.medium import MediumError
 from nvmesim.explore.plan import Order
 from nvmesim.explore.report import Report
-from nvmesim.explore.shards import ShardError, json_lines, merge
 
 from .standin import World
 from .support import LIVE, PROGRAMS, FolderCase
@@ -164,55 +162,14 @@ class ImagesTest(FolderCase):
                 with open(copied, "rb") as file:
                     self.assertEqual(file.read(), self.image.read_bytes())
 
-    def test_the_command_and_its_parts(self) -> None:
+    def test_the_command(self) -> None:
         status, whole, _ = self.run_command(self.script(), "--image", str(self.image), "--never", NEVER)
         self.assertEqual(status, 0)
         self.assertIn(f"data {FOUR.hex()}", whole)
         status, without, _ = self.run_command(self.script())
         self.assertEqual(status, 0)
         self.assertNotIn("data", without)
-        files: List[str] = []
-        for number in (1, 2):
-            status, told, _ = self.run_command(self.script(), "--image", str(self.image), "--shard", f"{number}/2")
-            self.assertEqual(status, 0)
-            files.append(str(self.folder / f"{number}.jsonl"))
-            Path(files[-1]).write_text(told, encoding="utf-8")
-        self.assertEqual(self.run_command("--merge", *files, "--never", NEVER)[:2], (0, whole))
         self.assertEqual(list(self.room.iterdir()), [])
-
-    def test_parts_over_different_images_are_not_joined(self) -> None:
-        plan = Plan(READ)
-        parts = [list(json_lines(plan, Shard(n, 2), explore(plan, PROGRAMS[0], Shard(n, 2).prefixes(plan)), image))
-                 for n, image in ((1, "a"), (2, "b"))]
-        with self.assertRaisesRegex(ShardError, "different explorations"):
-            merge(parts)
-        without = [part[0].replace('"image": "a", ', "") for part in parts[:1]]
-        with self.assertRaises(ShardError):
-            merge([[*without, *parts[0][1:]], parts[0]])
-
-    def test_parts_on_a_cluster(self) -> None:
-        class Cluster:
-            """Replaces a client of Dask, whose workers see the file of this name."""
-
-            def map(self, call: object, given: List[object]) -> List[object]:
-                return [call(it) for it in given]  # type: ignore[operator]
-
-            def gather(self, futures: List[object]) -> List[object]:
-                return futures
-
-        class Elsewhere(Cluster):
-            """Workers on which another file has this name."""
-
-            def map(them, call: object, given: List[object]) -> List[object]:
-                self.image.write_bytes(bytes(512 * BLOCKS))
-                return super().map(call, given)
-
-        plan, program = Plan(READ), str(PROGRAMS[-1])
-        with Medium(self.image) as medium:
-            whole = explore(plan, program, medium=medium)
-        self.assertEqual(explore_on_dask(plan, "", 2, program, 10.0, str(self.image), Cluster()), whole)
-        with self.assertRaises(MediumError):
-            explore_on_dask(plan, "", 2, program, 10.0, str(self.image), Elsewhere())
 
     def test_what_is_no_image(self) -> None:
         with self.assertRaises(MediumError):
@@ -220,8 +177,7 @@ class ImagesTest(FolderCase):
         with self.assertRaisesRegex(FileFault, "can't read .*absent: No such file or directory"):
             Medium(self.folder / "absent")
         script, absent = self.script(), str(self.folder / "absent")
-        for words in ((script, "--image", str(self.folder)), (script, "--image", absent),
-                      ("--merge", "x", "--image", str(self.image))):
+        for words in ((script, "--image", str(self.folder)), (script, "--image", absent)):
             with self.subTest(words):
                 status, told, wrong = self.run_command(*words)
                 self.assertEqual((status, told, wrong.count("\n"), wrong[:9]), (2, "", 1, "nvmesim: "))

@@ -98,8 +98,8 @@ class InstallationTest(FolderCase):
         modules = {str(it.relative_to(PACKAGE)): it.read_bytes() for it in (PACKAGE / "nvmesim").rglob("*.py")}
         about = f"nvmesim-{nvmesim.__version__}.dist-info"
         self.assertEqual({it: files[it] for it in files if it.endswith(".py")}, modules)
-        self.assertEqual(set(files) - set(modules), {"nvmesim/py.typed", "nvmesim/explore/forking.c", *(
-            f"{about}/{it}" for it in ABOUT)})
+        sources = {str(it.relative_to(PACKAGE)) for it in (PACKAGE / "nvmesim").rglob("*.[ch]")}
+        self.assertEqual(set(files) - set(modules), {"nvmesim/py.typed", *sources, *(f"{about}/{it}" for it in ABOUT)})
         lines = [it.split(",") for it in files[f"{about}/RECORD"].decode().splitlines()]
         self.assertEqual([(path, size) for path, _, size in lines[:-1]],
                          [(path, str(len(content))) for path, content in files.items()][:-1])

@@ -238,7 +238,7 @@ class Programs:
             self.can_fork = False
             if self.fails:
                 raise NoFork(f"{words[0]} can't be forked, so no call of its image can fail")
-            self._tell(f"{words[0]} can't be forked")
+            self._tell(f"{words[0]} can't be forked: orders are run again from the start, which is slower")
         return branch
 
     def _answered(self, branch: _Program) -> List[Tuple[Branch, List[str]]]:

@@ -1,14 +1,12 @@
-"""Hands the parts of an exploration to a Dask cluster. The package's extra `dask` brings what this needs."""
+"""Hands whole explorations to a Dask cluster. Debian's `python3-distributed`, or the package's extra `dask`, has what
+this needs."""
 from __future__ import annotations
 
-from typing import Any, Callable, List, Optional
+from typing import Any, Callable, Iterator, Optional, Sequence, Tuple, Union
 
 from ..errors import NvmesimError
-from ..reading import read_with
-from . import Shard, explore_shard
-from .medium import Medium, MediumError
-from .outcomes import Findings, joined
-from .plan import Plan
+from . import Explored, Limits
+from .tasks import Task
 
 
 class DaskMissing(NvmesimError):
@@ -19,47 +17,68 @@ class WorkerLacks(NvmesimError):
     """A worker of the cluster does not find this package."""
 
 
+class WorkersDied(NvmesimError):
+    """Each worker that ran a task died."""
+
+
+class ClusterFault(NvmesimError):
+    """The cluster can't be reached, or does not do what it should."""
+
+
 def _connect(address: str) -> Any:
     try:
         from distributed import Client
     except ImportError:
-        raise DaskMissing("--dask needs Dask: pip install './clients/python[dask]'") from None
+        raise DaskMissing("--dask needs Dask: apt install python3-distributed, or pip install "
+                          "'./clients/python[dask]'") from None
     connect: Callable[[str], Any] = Client
-    return connect(address)
+    try:
+        return connect(address)
+    except (OSError, ValueError) as fault:
+        raise ClusterFault(f"no Dask scheduler answers at {address}: {fault}") from None
 
 
-def explore_on_dask(plan: Plan, address: str, shards: int, program: Optional[str], seconds: float,
-                    image: Optional[str] = None, client: Any = None) -> Findings:
-    """Explores in parts, each a task of the cluster whose scheduler has this address.
+def explore_on_dask(tasks: Sequence[Task], address: str, program: Optional[str], limits: Limits,
+                    client: Any = None) -> Iterator[Union[Explored, NvmesimError]]:
+    """Explores tasks on the cluster whose scheduler has this address: what each found, or its fault, in their order.
+
+    The scheduler runs a task again whose worker dies, up to three times by default.
 
     Args:
-        plan: the script with its parts.
+        tasks: the explorations.
         address: the scheduler, such as `tcp://host:8786`.
-        shards: the number of parts.
         program: the program `nvmelive` as the workers find it, or None for what they find themselves.
-        seconds: the time limit of each answer.
-        image: the image, which the workers find where it is here; None for zeros in memory.
-        client: a client of the cluster, if there is one.
+        limits: what each may take; its events run one after the other.
+        client: a client of the cluster, which is closed at the end; None for a new one.
 
     Raises:
-        DaskMissing, WorkerLacks: Dask is not installed here, or this package not where a worker runs.
+        DaskMissing, ClusterFault: Dask is not installed here, or there is no cluster.
+        WorkerLacks: this package is not where a worker runs.
     """
     whole = client if client is not None else _connect(address)
-    parts = [Shard(number, shards) for number in range(1, shards + 1)]
-    with Medium(image) as medium:
-        digest = medium.digest
     try:
-        futures: List[Any] = whole.map(_task, [(plan.text, it, program, seconds, image, digest) for it in parts])
-        return joined(whole.gather(futures))
+        for it in whole.map(_run, [(it, program, limits) for it in tasks], pure=False):
+            yield _result_of(it)
+    finally:
+        whole.close()
+
+
+def _result_of(future: Any) -> Union[Explored, NvmesimError]:
+    """What a task found, or its fault."""
+    try:
+        found: Explored = future.result()
+        return found
+    except NvmesimError as fault:
+        return fault
     except ImportError as fault:
         raise WorkerLacks(f"a worker of the cluster does not have this package: {fault}") from None
+    except Exception as fault:
+        if type(fault).__name__ == "KilledWorker":
+            return WorkersDied("each worker that ran it died")
+        return ClusterFault(f"the cluster reports {type(fault).__name__}: {fault}")
 
 
-def _task(given: Any) -> Findings:
-    """One part, on a worker."""
-    text, shard, program, seconds, image, digest = given
-    read_with(program)
-    with Medium(image, Plan(text).blocks) as medium:
-        if medium.digest != digest:
-            raise MediumError(f"{image} has other bytes on a worker than where the exploration began")
-        return explore_shard(text, shard, program, 1, seconds, medium)
+def _run(given: Tuple[Task, Optional[str], Limits]) -> Explored:
+    """One task, on a worker."""
+    task, program, limits = given
+    return task.explored(program, limits)

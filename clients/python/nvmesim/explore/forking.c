@@ -23,6 +23,9 @@
 #include <sys/stat.h>
 #include <unistd.h>
 
+/* What the program calls instead of the C library's functions. */
+#define INSTEAD __attribute__((visibility("default")))
+
 enum { STREAM = 0, FIRST_FILE = 3, LAST_FILE = 63, MOST_SENT = 2 };
 
 /* The process that has reported its number; a child has another. */
@@ -72,7 +75,7 @@ __attribute__((destructor)) static void send_gathered(void)
 }
 
 /* Gathers answers; before the first read there are none, and what has no room is sent at once. */
-ssize_t write(int file, const void *from, size_t size)
+INSTEAD ssize_t write(int file, const void *from, size_t size)
 {
     if (file != STDOUT_FILENO || told == 0)
         return write_as_before(file, from, size);
@@ -116,7 +119,7 @@ static int fails(int file)
     return left == 0;
 }
 
-ssize_t pread(int file, void *to, size_t size, off_t place)
+INSTEAD ssize_t pread(int file, void *to, size_t size, off_t place)
 {
     static ssize_t (*next)(int, void *, size_t, off_t);
     if (next == NULL)
@@ -124,7 +127,7 @@ ssize_t pread(int file, void *to, size_t size, off_t place)
     return fails(file) ? -1 : next(file, to, size, place);
 }
 
-ssize_t pwrite(int file, const void *from, size_t size, off_t place)
+INSTEAD ssize_t pwrite(int file, const void *from, size_t size, off_t place)
 {
     static ssize_t (*next)(int, const void *, size_t, off_t);
     if (next == NULL)
@@ -132,7 +135,7 @@ ssize_t pwrite(int file, const void *from, size_t size, off_t place)
     return fails(file) ? -1 : next(file, from, size, place);
 }
 
-int fsync(int file)
+INSTEAD int fsync(int file)
 {
     static int (*next)(int);
     if (next == NULL)
@@ -186,7 +189,7 @@ static int sent_with(struct msghdr *message, int *sent)
     return count;
 }
 
-ssize_t read(int file, void *to, size_t size)
+INSTEAD ssize_t read(int file, void *to, size_t size)
 {
     if (file != STREAM || size == 0 || !is_socket(STREAM))
         return read_as_before(file, to, size);

@@ -46,8 +46,9 @@ class Progress:
 
     def told(self, statistics: Statistics) -> str:
         """What it took so far."""
-        return (f"{statistics.states:,} states, {statistics.events:,} events run, {statistics.spared:,} spared, "
-                f"{self._seconds():.2f} seconds")
+        size = f"{statistics.most_bytes / (1 << 20):,.0f} MB"
+        rest = size if statistics.most_bytes else f"{statistics.spared:,} spared"
+        return f"{statistics.states:,} states, {statistics.events:,} events run, {rest}, {self._seconds():.2f} seconds"
 
     def _seconds(self) -> float:
         """How long it has taken."""

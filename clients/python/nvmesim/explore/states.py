@@ -146,8 +146,8 @@ class State:
         if name in _WRITING and not looks.are_blocks_seen:
             medium = _digest(medium, label.encode(), dict(raw).get(number, b""))
         seen.update(told)
-        return label, State(plan.after(self.position, choice), tuple(seen.items()), tuple(sorted(tracks.items())), raw,
-                            medium)
+        told_apart = tuple(sorted(it for it in tracks.items() if it[1] != Track()))
+        return label, State(plan.after(self.position, choice), tuple(seen.items()), told_apart, raw, medium)
 
     def _shared(self, looks: Looks, seen: Dict[str, str]) -> bytes:
         """What represents all that hosts share, if a command brings data of it."""

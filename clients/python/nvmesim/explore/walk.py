@@ -8,7 +8,7 @@ from __future__ import annotations
 
 import time
 from dataclasses import dataclass, field
-from typing import Callable, Dict, List, Optional, Sequence, Set, Tuple, Union
+from typing import Callable, Dict, List, Optional, Set, Tuple
 
 from .branches import MOST_BRANCHES, Branch, Branches
 from .gathering import gather
@@ -30,6 +30,7 @@ class Statistics:
         spared: events that were not run, since they commute with one that was run.
         lines: lines that were sent.
         most_live: the most branches that waited or ran at once.
+        most_bytes: the most memory of states, copies and counts, if that is counted.
     """
 
     states: int = 0
@@ -38,9 +39,9 @@ class Statistics:
     spared: int = 0
     lines: int = 0
     most_live: int = 0
+    most_bytes: int = 0
 
 
-Key = Union[State, Tuple[Order, State]]
 Report = Callable[[Statistics], None]
 Edge = Tuple["Node", Choice]
 
@@ -82,32 +83,29 @@ class Asked:
 
 
 class Walk:
-    """An exploration of the orders that begin with one of some prefixes.
+    """An exploration of all orders.
 
     Attributes:
         is_whole: whether it went to the end.
     """
 
-    def __init__(self, plan: Plan, branches: Branches, prefixes: Sequence[Order] = ((),), jobs: int = 1,
-                 report: Report = lambda statistics: None, is_reduced: bool = True) -> None:
+    def __init__(self, plan: Plan, branches: Branches, jobs: int = 1, report: Report = lambda statistics: None,
+                 is_reduced: bool = True) -> None:
         """Prepares it.
 
         Args:
             plan: the script with its parts.
             branches: what runs events.
-            prefixes: the beginnings of the orders that are explored, all equally long.
             jobs: the number of events that run at once.
             report: is called with the progress, now and then.
             is_reduced: whether the second order of two events that commute is spared.
         """
         self.plan, self.branches, self.jobs, self.report = plan, branches, jobs, report
         self.looks = Looks(plan)
-        self.depth = len(prefixes[0]) if prefixes else 0
-        self.allowed = {prefix[:n] for prefix in prefixes for n in range(self.depth + 1)}
         self.statistics = Statistics()
         self.is_whole = True
         self._commuting = Independence(plan) if is_reduced else None
-        self._nodes: Dict[Key, Node] = {}
+        self._nodes: Dict[State, Node] = {}
         self._positions: Set[Position] = set()
         self._waiting: List[Edge] = []
         self._running: Dict[Branch, Asked] = {}
@@ -121,8 +119,6 @@ class Walk:
             until: the time, as `time.monotonic` has it, at which it is stopped. Ctrl-C stops it too. It then returns
             the findings so far, and `is_whole` is false.
         """
-        if not self.allowed:
-            return {}
         branch = self.branches.begin()
         branch.ask(self.looks.all())
         while not (found := self.branches.wait([branch])):
@@ -147,11 +143,6 @@ class Walk:
             for branch, answers in self.branches.wait(self._running):
                 self._take(branch, self._running.pop(branch), answers)
             self.report(self.statistics)
-
-    def _choices(self, path: Order, position: Position) -> List[Choice]:
-        """The choices from a state that a path leads to."""
-        found = self.plan.choices(position)
-        return found if len(path) >= self.depth else [it for it in found if (*path, it) in self.allowed]
 
     def _begin(self, node: Node, choice: Choice) -> None:
         """Runs an event from a state, unless its result is known or pending."""
@@ -233,21 +224,19 @@ class Walk:
             self._spare(*edge, (node, choice))
 
     def _meet(self, path: Order, state: State) -> Tuple[Node, bool]:
-        """The node of a state, and whether it is new. Prefixes are distinct states, since they may continue
-        differently."""
-        key: Key = state if len(path) >= self.depth else (path, state)
-        node = self._nodes.get(key)
+        """The node of a state, and whether it is new."""
+        node = self._nodes.get(state)
         if node is not None:
             return node, False
         self.statistics.states += 1
         self._positions.add(state.position)
         self.statistics.positions = len(self._positions)
-        node = self._nodes[key] = Node(state, path)
+        node = self._nodes[state] = Node(state, path)
         return node, True
 
     def _arrive(self, node: Node, branch: Branch) -> None:
         """Lets a branch wait at a new state, whose choices come next. If too many wait, the first one ends."""
-        choices = self._choices(node.path, node.state.position)
+        choices = self.plan.choices(node.state.position)
         node.left, node.branch = len(choices), branch
         self._waiting += [(node, it) for it in reversed(choices)]
         if self.branches.live > MOST_BRANCHES:
@@ -263,7 +252,7 @@ class Walk:
         if self._commuting is None:
             return None
         for before, other in node.came_by:
-            if before.phase != node.phase or len(before.path) < self.depth or choice not in before.edges:
+            if before.phase != node.phase or choice not in before.edges:
                 continue
             if self._commuting.commute(before.state, choice, other):
                 return before.edges[choice][1], other
