@@ -115,6 +115,12 @@ class TasksTest(FolderCase):
         [found] = explore_on_dask(tasks, "", str(PROGRAM), Limits(), Cluster())
         self.assertIsInstance(found, MediumError)
 
+    def test_each_has_its_time(self) -> None:
+        tasks = tasks_of(["a", "b"], [RACE_TEXT, SMALL], [], [0])
+        for within, are_whole in ((0.0, [False, False]), (600.0, [True, True])):
+            found = explore_on_dask(tasks, "", str(PROGRAM), Limits(), Cluster(), within)
+            self.assertEqual([it.is_whole for it in found if isinstance(it, Explored)], are_whole)
+
     @unittest.skipIf(python_with_dask() == sys.executable, "this Python has Dask")
     def test_without_dask(self) -> None:
         with self.assertRaisesRegex(DaskMissing, "apt install python3-distributed, or pip install"):

@@ -48,7 +48,6 @@ class CommandTest(FolderCase):
                 (["explore", str(RACE), "--fail", "0"], "--fail 0: use K, or K-L such as 1-20, with K from 1 on"),
                 (["explore", str(RACE), "--fail", "3-2"], "--fail 3-2: K-L must be from 1 to 10,000 calls"),
                 (["explore", str(RACE), str(RACE), "--page", "a.html"], "--page shows one exploration, not several"),
-                (["explore", str(RACE), "--within", "1", "--dask", "x"], "--within excludes --dask"),
                 (["timeline", str(RACE), "--format", "png"], "a PNG file needs a name: -o FILE"),
                 (["timeline", str(RACE), "-o", "a.pdf"], "a.pdf ends with .pdf, which is no format that is written "
                  "here: .html or .svg or .png, or no ending"),

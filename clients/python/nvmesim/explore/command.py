@@ -59,7 +59,8 @@ def run(words: argparse.Namespace, text_of: TextOf) -> int:
 def _each_found(words: argparse.Namespace, asked: Sequence[_Asked]) -> Iterator[Found]:
     """What each task found, or its fault, in order."""
     if words.dask is not None:
-        yield from explore_on_dask([it.task for it in asked], words.dask, words.program, _limits(words, 1))
+        yield from explore_on_dask([it.task for it in asked], words.dask, words.program, _limits(words, 1),
+                                   within=words.within)
         return
     until: Optional[float] = None if words.within is None else time.monotonic() + words.within
     for it in asked:

@@ -2,6 +2,8 @@
 this needs."""
 from __future__ import annotations
 
+import time
+from dataclasses import replace
 from typing import Any, Callable, Iterator, Optional, Sequence, Tuple, Union
 
 from ..errors import NvmesimError
@@ -39,7 +41,7 @@ def _connect(address: str) -> Any:
 
 
 def explore_on_dask(tasks: Sequence[Task], address: str, program: Optional[str], limits: Limits,
-                    client: Any = None) -> Iterator[Union[Explored, NvmesimError]]:
+                    client: Any = None, within: Optional[float] = None) -> Iterator[Union[Explored, NvmesimError]]:
     """Explores tasks on the cluster whose scheduler has this address: what each found, or its fault, in their order.
 
     The scheduler runs a task again whose worker dies, up to three times by default.
@@ -50,6 +52,7 @@ def explore_on_dask(tasks: Sequence[Task], address: str, program: Optional[str],
         program: the program `nvmelive` as the workers find it, or None for what they find themselves.
         limits: what each may take; its events run one after the other.
         client: a client of the cluster, which is closed at the end; None for a new one.
+        within: the seconds after which each is stopped, from its beginning on a worker; None for no such time.
 
     Raises:
         DaskMissing, ClusterFault: Dask is not installed here, or there is no cluster.
@@ -57,7 +60,7 @@ def explore_on_dask(tasks: Sequence[Task], address: str, program: Optional[str],
     """
     whole = client if client is not None else _connect(address)
     try:
-        for it in whole.map(_run, [(it, program, limits) for it in tasks], pure=False):
+        for it in whole.map(_run, [(it, program, limits, within) for it in tasks], pure=False):
             yield _result_of(it)
     finally:
         whole.close()
@@ -78,7 +81,8 @@ def _result_of(future: Any) -> Union[Explored, NvmesimError]:
         return ClusterFault(f"the cluster reports {type(fault).__name__}: {fault}")
 
 
-def _run(given: Tuple[Task, Optional[str], Limits]) -> Explored:
-    """One task, on a worker."""
-    task, program, limits = given
-    return task.explored(program, limits)
+def _run(given: Tuple[Task, Optional[str], Limits, Optional[float]]) -> Explored:
+    """One task, on a worker, whose clock is not that of the one that asked."""
+    task, program, limits, within = given
+    until = None if within is None else time.monotonic() + within
+    return task.explored(program, replace(limits, until=until))

@@ -47,7 +47,8 @@ def _add_limits(parser: argparse.ArgumentParser) -> None:
                         "for states, copies and counts, with a partial report; by default %(default)s")
     parser.add_argument("--all-orders", action="store_true", help="if the program is forked, run both orders of two "
                         "events even if they commute; the report is the same")
-    parser.add_argument("--within", type=float, metavar="S", help="stop after S seconds, with a partial report")
+    parser.add_argument("--within", type=float, metavar="S", help="stop after S seconds, with a partial report; "
+                        "with --dask, each exploration")
     parser.add_argument("--dask", metavar="ADDRESS", help="run each SCRIPT, --image and K on a worker of this Dask "
                         "cluster")
     parser.add_argument("--statistics", action="store_true", help="report states, events and memory on standard error")
@@ -64,8 +65,6 @@ def check_options(words: argparse.Namespace) -> None:
         raise NvmesimError("explore needs a SCRIPT")
     if words.jobs < 1 or words.memory < 1:
         raise NvmesimError("--jobs and --memory must be at least 1")
-    if words.within is not None and words.dask is not None:
-        raise NvmesimError("--within excludes --dask")
 
 
 def outputs_of(words: argparse.Namespace) -> Dict[str, Output]:
