@@ -88,27 +88,27 @@ length-at-hand r = length-take-le (512 * r.at_hand) (room_bytes r) r.fits
 -- One execution over a room.
 
 -- the media of an execution, from the room that is brought to the one that comes back
-record Media (room left : Room) (old before after new : OwnOrLent) : Type 0 where
-  m : BroughtMedium
-  b : BroughtMedium
-  a : BroughtMedium
-  n : BroughtMedium
-  old_is : old ≡ Brought m
-  before_is : before ≡ Brought b
-  after_is : after ≡ Brought a
-  new_is : new ≡ Brought n
-  room_is : b.room ≡ room
-  content : content_of b ≡ with_room (content_of m) room
-  blocks : b.disk.blocks ≡ m.disk.blocks
-  failures : b.failures ≡ m.failures
-  stays : StaysInRoom b a
-  left_is : left ≡ a.room
-  kept : content_of n ≡ content_of a
-  counted : n.failures ≡ a.failures
-  nothing : HasNothing n
+pub record Media (room left : Room) (old before after new : OwnOrLent) : Type 0 where
+  pub m : BroughtMedium
+  pub b : BroughtMedium
+  pub a : BroughtMedium
+  pub n : BroughtMedium
+  pub old_is : old ≡ Brought m
+  pub before_is : before ≡ Brought b
+  pub after_is : after ≡ Brought a
+  pub new_is : new ≡ Brought n
+  pub room_is : b.room ≡ room
+  pub content : content_of b ≡ with_room (content_of m) room
+  pub blocks : b.disk.blocks ≡ m.disk.blocks
+  pub failures : b.failures ≡ m.failures
+  pub stays : StaysInRoom b a
+  pub left_is : left ≡ a.room
+  pub kept : content_of n ≡ content_of a
+  pub counted : n.failures ≡ a.failures
+  pub nothing : HasNothing n
 
 -- calls of brought blocks are those of the medium inside
-inside : (b : BroughtMedium) (after : OwnOrLent) (calls : List MediumCall) → Calls step_of (Brought b) calls after
+pub inside : (b : BroughtMedium) (after : OwnOrLent) (calls : List MediumCall) → Calls step_of (Brought b) calls after
     → (a : BroughtMedium) × (after ≡ Brought a) × Calls brought_step b calls a
 inside b after [] made = (b, made, refl)
 inside b after (call ∷ calls) made = next made.0 made.1 (λ c h. inside c after calls h) made.2
@@ -157,7 +157,7 @@ media-of room earlier left (Brought m) (Brought b) after new calls brings made g
       nothing = gives.nothing;
     }
 
-media : (cntlid i : ℕ) (room left : Room) (old new : Inside) (seen : BareSeen)
+pub media : (cntlid i : ℕ) (room left : Room) (old new : Inside) (seen : BareSeen)
     (e : ExecutingOver cntlid i room old seen left new)
     → Media room left old.medium e.before.medium e.after.medium new.medium
 media cntlid i room left old new seen e =

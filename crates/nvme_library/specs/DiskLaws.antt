@@ -1,18 +1,25 @@
 -- Statements of `laws.rt` on a disk whose blocks a program brings: if it brings each block as the disk has it, and then
 -- stores the blocks at hand on the disk, commands are executed as over these blocks in memory.
-use Rattle.std.specs.Prelude.{◌≡◌, ℕ, ◌*◌, List, [], ◌∷◌, map, true, None}
+use Rattle.std.specs.Prelude.{◌≡◌, ◌≢◌, ◌≤◌, ℕ, ◌+◌, ◌*◌, List, [], ◌∷◌, length, map, true, None}
 use Rattle.nvme_spec.specs.declared.outcome.Marks.{Marks}
 use Rattle.nvme_spec.specs.Blocks.{blocks_from}
-use Rattle.nvme_brought.specs.Brought.{bytes_at_hand, with_room}
+use Rattle.nvme_spec.specs.Statuses as status
+use Rattle.nvme_brought.specs.Brought.{bytes_at_hand, room_bytes, with_room}
 use Rattle.nvme_brought.specs.declared.room.Room.{Room}
 use Rattle.nvme_lent.specs.Bytes.{as_lent, extent}
 use Rattle.nvme_lent.specs.OwnOrLent.{NothingIsAtHand}
+use Rattle.nvme_machine.specs.declared.bare.BareExecuted.TheVariants.{Posted}
+use Rattle.nvme_machine.specs.declared.bare.BareOutcome.{BareOutcome}
 use Rattle.nvme_machine.specs.declared.bare.BareSeen.{BareSeen}
+use Rattle.nvme_machine.specs.declared.bare.BareSeen.TheVariants.{Executed}
 use Rattle.nvme_machine.specs.declared.event.Event.{Event as SubsystemEvent}
 use Rattle.nvme_machine.specs.declared.event.Event.TheVariants.{Execute}
+use Rattle.nvme_machine.specs.declared.need.Need.{Need}
+use Rattle.nvme_machine.specs.declared.need.Need.TheVariants as need
 use Rattle.nvme_machine.specs.declared.seen.Seen.{Seen}
 use Rattle.nvme_machine.specs.Bare.{seen_with}
 use Rattle.nvme_machine.specs.EventCalls.{ExecutesNothing}
+use Rattle.nvme_machine.specs.Needs.{need_at}
 use Rattle.nvme_machine.specs.Subsystems.{Step, Run, controller_at}
 use Rattle.nvme_library.specs.Events.{Stepping}
 use Rattle.nvme_library.specs.Holding.{Inside}
@@ -52,6 +59,22 @@ abbrev pub RoomsComeBack : Type 0
 RoomsComeBack =
     (cntlid i : ℕ) → (room left : Room) → (old new : Inside) → (seen : BareSeen)
     → ExecutingOver cntlid i room old seen left new → EndsWithRoom room left new
+
+-- A room has all that a command needs: the blocks that it reads are at hand, those that it writes have room from the
+-- first on, and a flush passes.
+abbrev pub HasNeeded : Need → Room → Type 0
+HasNeeded need.Nothing room = Unit {0}
+HasNeeded (need.Read first blocks) room = (room.first ≤ first) × (first + blocks ≤ room.first + room.at_hand)
+HasNeeded (need.Write first blocks) room = (room.first ≡ first) × (512 * blocks ≤ length (room_bytes room))
+HasNeeded (need.Zero first blocks) room = (room.first ≡ first) × (512 * blocks ≤ length (room_bytes room))
+HasNeeded need.Flush room = room.flushes ≡ true
+
+-- Over such a room no command is answered with a fault of the medium.
+abbrev pub WholeRoomsHaveNoFault : Type 0
+WholeRoomsHaveNoFault =
+    (cntlid i : ℕ) → (room left : Room) → (old new : Inside) → (outcome : BareOutcome)
+    → ExecutingOver cntlid i room old (Executed (Posted outcome)) left new → HasNeeded (need_at old.state cntlid i) room
+    → (outcome.status ≢ status.write_fault) × (outcome.status ≢ status.unrecovered_read_error)
 
 -- What a program does with a subsystem over its disk: an event that makes no call, or an execution over a room, which
 -- comes back like this.

@@ -5,6 +5,7 @@ ghost use Rattle.nvme_library.specs.DiskLaws.{
   OtherBlocksAreNotInMemory,
   RoomsComeBack,
   RunsAreInMemory,
+  WholeRoomsHaveNoFault,
 };
 ghost use Rattle.nvme_library.specs.LentLaws.{
   ExecutionsStayInPlace,
@@ -33,9 +34,11 @@ pub fn cycles_and_looks_leave_the_medium()
 
 /// If a program brings each block as its disk has it, and then stores the blocks at hand on the disk, its commands are
 /// executed as over these blocks in memory, in any run. Each room comes back at its address, and nothing stays at hand.
+/// Over a room with all that a command needs, its execution has no fault.
 pub fn commands_over_a_disk_are_in_memory()
     ensures execution { ExecutionsAreInMemory }
     ensures other_blocks { OtherBlocksAreNotInMemory }
     ensures room { RoomsComeBack }
     ensures run { RunsAreInMemory }
+    ensures whole { WholeRoomsHaveNoFault }
 {}

@@ -4,6 +4,7 @@ use Rattle.nvme_library.proofs.DiskLaws.{
   rooms_come_back,
   runs_are_in_memory,
 }
+use Rattle.nvme_library.proofs.WholeRooms.{whole_rooms_have_no_fault}
 use Rattle.nvme_library.proofs.laws.commands_over_a_disk_are_in_memory.Goals as goal
 
 pub returns-clause-execution : goal.returns-clause-execution
@@ -17,3 +18,6 @@ returns-clause-room c = rooms_come_back
 
 pub returns-clause-run : goal.returns-clause-run
 returns-clause-run c = runs_are_in_memory
+
+pub returns-clause-whole : goal.returns-clause-whole
+returns-clause-whole c = whole_rooms_have_no_fault
