@@ -45,4 +45,7 @@ void needs(void);
 /* Tests commands over brought blocks. */
 void brought(void);
 
+/* Tests PDUs of NVMe/TCP. */
+void pdus(void);
+
 #endif

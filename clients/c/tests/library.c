@@ -441,6 +441,7 @@ int main(int count, char **words) {
     looks();
     needs();
     brought();
+    pdus();
     reservations();
     names();
     texts();

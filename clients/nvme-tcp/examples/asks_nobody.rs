@@ -25,9 +25,9 @@ mod system;
 #[path = "../src/window.rs"]
 mod window;
 
-use bytes::{put, u16_at, u32_at, u64_at};
+use bytes::{first, put, u16_at, u32_at, u64_at};
 use output::Output;
-use pdu::{Agreed, Layout};
+use pdu::{Agreed, HostData, Kind, Layout};
 use std::collections::HashMap;
 use std::convert::Infallible;
 use std::io::{Read, Result, Write};
@@ -79,7 +79,7 @@ impl Connection {
         }
         let mut at = 0;
         while self.end - at >= pdu::COMMON {
-            let layout = match Layout::of(&self.input[at..self.end], PLAIN) {
+            let layout = match pdu::layout_of(&self.input[at..self.end], PLAIN) {
                 Ok(layout) => layout,
                 Err(_) => return false,
             };
@@ -98,14 +98,16 @@ impl Connection {
 }
 
 fn answer(out: &mut Output, blocks: &mut Blocks, asked: &mut HashMap<u16, usize>, layout: &Layout, unit: &[u8]) {
-    if layout.kind == pdu::IC_REQUEST {
+    let data = pdu::data_in(layout, unit);
+    if layout.kind == Kind::IcReq {
         return pdu::ic_response(out, PLAIN);
     }
-    if layout.kind == pdu::HOST_DATA {
-        let (cid, _, offset, _) = pdu::host_data_fields(unit);
-        blocks.write(asked[&cid] + offset, layout.data_in(unit));
-        if layout.flags & pdu::LAST != 0 {
-            complete(out, cid);
+    if layout.kind == Kind::H2cData {
+        if let Ok(HostData { cid, offset, .. }) = HostData::of(first(unit), data.len() as u32) {
+            blocks.write(asked[&cid] + offset as usize, data);
+            if layout.is_last {
+                complete(out, cid);
+            }
         }
         return;
     }
@@ -117,7 +119,7 @@ fn answer(out: &mut Output, blocks: &mut Blocks, asked: &mut HashMap<u16, usize>
             asked.insert(cid, place);
             return pdu::ready_to_transfer(out, PLAIN, cid, 0, length);
         }
-        0x01 => blocks.write(place, layout.data_in(unit)),
+        0x01 => blocks.write(place, data),
         0x02 => {
             let _ = pdu::controller_data::<Infallible>(out, PLAIN, cid, length, |room| {
                 blocks.read(place, room);

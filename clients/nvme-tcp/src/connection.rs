@@ -3,7 +3,7 @@
 use crate::answer::{Answer, Payload};
 use crate::association::{HostQueue, Session};
 use crate::authentication::Done;
-use crate::bytes::{put, u16_at};
+use crate::bytes::{first, put, u16_at};
 use crate::controller::Data;
 use crate::counters::Closing;
 use crate::fabrics;
@@ -11,7 +11,7 @@ use crate::fault::{Fault, Outcome};
 use crate::input::{Input, Rooms};
 use crate::nvme::ENTRY;
 use crate::output::Output;
-use crate::pdu::{self, Agreed, Fatal, Layout, COMMON};
+use crate::pdu::{self, Agreed, Fatal, HostData, Kind, Layout, COMMON};
 use crate::pointer::Pointer;
 use crate::proving::goes_before_proof;
 use crate::status::{
@@ -149,7 +149,7 @@ impl Connection {
     /// to be moved to the front.
     fn most_wanted(&self) -> usize {
         let head = self.input.waiting();
-        let layout = if head.len() < COMMON { None } else { Layout::of(head, self.agreed).ok() };
+        let layout = if head.len() < COMMON { None } else { pdu::layout_of(head, self.agreed).ok() };
         match layout {
             Some(layout) if layout.length > head.len().max(LONG) => ROOM.min(layout.length + BEHIND_LONG),
             _ => ROOM,
@@ -184,20 +184,21 @@ impl Connection {
         if (self.phase == Phase::Begun) != (bytes[0] == pdu::IC_REQUEST) {
             return Err(pdu::OUT_OF_SEQUENCE.into());
         }
-        let layout = Layout::of(bytes, self.agreed)?;
+        let layout = pdu::layout_of(bytes, self.agreed)?;
         if bytes.len() < layout.length {
             return Ok(0);
         }
         let unit = &bytes[..layout.length];
-        if !layout.has_right_header(unit) {
+        if !pdu::has_right_header(&layout, unit) {
             return Err(pdu::WRONG_HEADER_DIGEST.into());
         }
         match layout.kind {
-            pdu::IC_REQUEST => self.open(unit)?,
-            pdu::COMMAND_CAPSULE => self.capsule(target, &layout, unit)?,
-            pdu::HOST_DATA => self.host_data(target, &layout, unit)?,
+            Kind::IcReq => self.open(unit)?,
+            Kind::CapsuleCmd => self.capsule(target, &layout, unit)?,
+            Kind::H2cData => self.host_data(target, &layout, unit)?,
             _ => {
-                target.say(format_args!("a host ends its connection, with status {}", u16_at(unit, 8)));
+                let status = Fatal::of(first(unit)).status;
+                target.say(format_args!("a host ends its connection, with status {status}"));
                 self.is_closed = true;
             }
         }
@@ -205,7 +206,7 @@ impl Connection {
     }
 
     fn open(&mut self, unit: &[u8]) -> Result<(), Fatal> {
-        self.agreed = Agreed::of(unit)?;
+        self.agreed = Agreed::of(first(unit))?;
         pdu::ic_response(&mut self.output, self.agreed);
         self.phase = Phase::Open;
         Ok(())
@@ -222,7 +223,7 @@ impl Connection {
         if let Some(status) = self.refusal(target, &entry, layout, unit) {
             return Ok(self.answer(target, &entry, Answer::of(status))?);
         }
-        let data = layout.data_in(unit);
+        let data = pdu::data_in(layout, unit);
         match Pointer::of(&entry, data.len()) {
             Err(status) => self.answer(target, &entry, Answer::of(status))?,
             Ok(Pointer::OnRequest(_)) if self.is_pending() => {
@@ -247,7 +248,7 @@ impl Connection {
             Session::Controller { index, qid: 0 } => target.waits(index, cid),
             _ => false,
         };
-        if !layout.has_right_data(unit) {
+        if !pdu::has_right_data(layout, unit) {
             Some(TRANSIENT_TRANSPORT)
         } else if waits || self.transfers.has(cid) || self.queue.proof.as_ref().map_or(false, |it| it.waits(cid)) {
             Some(COMMAND_ID_CONFLICT)
@@ -264,13 +265,10 @@ impl Connection {
     }
 
     fn host_data(&mut self, target: &mut Target<'_>, layout: &Layout, unit: &[u8]) -> Result<(), Stop> {
-        let (cid, tag, offset, length) = pdu::host_data_fields(unit);
-        let data = layout.data_in(unit);
-        if length != data.len() {
-            return Err(pdu::invalid_field(16).into());
-        }
-        let (is_last, is_sound) = (layout.flags & pdu::LAST != 0, layout.has_right_data(unit));
-        let part = Part { cid, tag, offset, is_last, is_sound, data };
+        let data = pdu::data_in(layout, unit);
+        let HostData { cid, tag, offset } = HostData::of(first(unit), data.len() as u32)?;
+        let (is_last, is_sound) = (layout.is_last, pdu::has_right_data(layout, unit));
+        let part = Part { cid, tag, offset: offset as usize, is_last, is_sound, data };
         if let Some(transfer) = self.transfers.take(&part)? {
             if transfer.is_sound {
                 self.carry_out(target, &transfer.entry, Data::ToController(transfer.data(&part)))?;

@@ -1,5 +1,6 @@
 //! The structs of `nvmesim.h`, with their layout in memory.
 
+use crate::pdu::Agreed;
 use crate::{Attachment, Controller, Namespace};
 use std::os::raw::c_void;
 
@@ -141,6 +142,32 @@ pub struct Read {
     pub column: usize,
     pub length: usize,
     pub what: u32,
+}
+
+#[repr(C)]
+pub struct PduFields {
+    pub what: u32,
+    pub field: u32,
+    pub offset: u32,
+    pub status: u16,
+    pub cid: u16,
+    pub tag: u16,
+    pub agreed: Agreed,
+}
+
+#[repr(C)]
+pub struct PduLayout {
+    pub what: u32,
+    pub field: u32,
+    pub length: u32,
+    pub data_offset: u32,
+    pub data_length: u32,
+    pub status: u16,
+    pub kind: u8,
+    pub header: u8,
+    pub is_last: bool,
+    pub header_digest: bool,
+    pub data_digest: bool,
 }
 
 /// A configuration, as the calls take it.

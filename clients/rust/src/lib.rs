@@ -81,6 +81,7 @@ mod layout;
 mod lines;
 mod looks;
 mod notices;
+pub mod pdu;
 #[allow(unsafe_code)]
 mod raw;
 

@@ -5,9 +5,10 @@
 
 use crate::foreign::*;
 use crate::layout::{
-    Answer, Blocks, Bytes, Change, Command, Event, ExecutedOver, Hold, HostView, Needed, Notices, Parts, Queue, Read,
-    Registered, Sim, Written,
+    Answer, Blocks, Bytes, Change, Command, Event, ExecutedOver, Hold, HostView, Needed, Notices, Parts, PduFields,
+    PduLayout, Queue, Read, Registered, Sim, Written,
 };
+use crate::pdu::{Agreed, Fatal};
 use crate::{Attachment, Brought, Controller, Namespace};
 #[cfg(target_arch = "x86_64")]
 use std::arch::x86_64::{_mm_prefetch, _MM_HINT_T0};
@@ -189,4 +190,45 @@ pub fn event_line(event: &Event, bytes: &[u8], line: &mut [u8]) -> Written {
 /// The line of an event's result.
 pub fn answer_line(event: &Event, answer: &Answer, line: &mut [u8]) -> Written {
     unsafe { nvmesim_answer_line(event, answer, line.as_mut_ptr(), line.len()) }
+}
+
+pub fn pdu_ic_request(request: &[u8; 128]) -> PduFields {
+    unsafe { nvmesim_pdu_ic_request(request.as_ptr()) }
+}
+
+#[inline]
+pub fn pdu_layout_of(agreed: &Agreed, head: &[u8; 8]) -> PduLayout {
+    unsafe { nvmesim_pdu_layout_of(agreed, head.as_ptr()) }
+}
+
+#[inline]
+pub fn pdu_host_data(header: &[u8; 24], length: u32) -> PduFields {
+    unsafe { nvmesim_pdu_host_data(header.as_ptr(), length) }
+}
+
+pub fn pdu_host_termination(header: &[u8; 24]) -> PduFields {
+    unsafe { nvmesim_pdu_host_termination(header.as_ptr()) }
+}
+
+pub fn pdu_ic_response(agreed: &Agreed, header: &mut [u8; 128]) {
+    unsafe { nvmesim_pdu_ic_response(agreed, header.as_mut_ptr()) }
+}
+
+#[inline]
+pub fn pdu_response(agreed: &Agreed, entry: &[u8; 16], header: &mut [u8; 24]) -> PduLayout {
+    unsafe { nvmesim_pdu_response(agreed, entry.as_ptr(), header.as_mut_ptr()) }
+}
+
+#[inline]
+pub fn pdu_ready(agreed: &Agreed, cid: u16, tag: u16, length: u32, header: &mut [u8; 24]) -> PduLayout {
+    unsafe { nvmesim_pdu_ready(agreed, cid, tag, length, header.as_mut_ptr()) }
+}
+
+#[inline]
+pub fn pdu_data(agreed: &Agreed, cid: u16, length: u32, header: &mut [u8; 24]) -> PduLayout {
+    unsafe { nvmesim_pdu_data(agreed, cid, length, header.as_mut_ptr()) }
+}
+
+pub fn pdu_termination(fatal: Fatal, received: u32, header: &mut [u8; 24]) -> PduLayout {
+    unsafe { nvmesim_pdu_termination(fatal.status, fatal.field, received, header.as_mut_ptr()) }
 }

@@ -14,6 +14,7 @@ pub mod Needs
 pub mod Noticing
 pub mod Opening
 pub mod Over
+pub mod Pdus
 pub mod Queues
 pub mod Reading
 pub mod Submitting

@@ -1,5 +1,6 @@
-//! The subsystem as a library for C. Each export is one call of `Subsystem`, and repeats that call's contract. A wrong
-//! argument is answered by a code: no export has a `requires`, since nothing would check that C meets it.
+//! The subsystem as a library for C. An export is one call of `Subsystem`, or of the crate that it is about. It repeats
+//! that call's contract. A wrong argument is answered by a code: no export has a `requires`, since nothing would check
+//! that C meets it.
 #![tactic(auto)]
 
 pub mod access;
@@ -20,6 +21,7 @@ pub mod needs;
 pub mod noticing;
 pub mod opening;
 pub mod over;
+pub mod pdus;
 pub mod queues;
 pub mod reading;
 mod rooms;
@@ -36,6 +38,7 @@ pub use handle::Handle;
 pub use needs::Needed;
 pub use noticing::{Change, HostView};
 pub use over::ExecutedOver;
+pub use pdus::{LayoutSeen, PduFields};
 pub use queues::{Command, Queue};
 pub use reading::Read;
 pub use written::Written;

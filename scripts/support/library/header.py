@@ -17,15 +17,20 @@ TYPES = {
     "HostView": ["nvmesim_host_view"], "Disk": ["nvmesim_disk"], "ExecutedOver": ["nvmesim_executed_over"], "&HostView": ["const nvmesim_host_view *"], "&Change": ["const nvmesim_change *"],
     "&RawNotices": ["const nvmesim_notices *"], "&mut RawNotices": ["nvmesim_notices *"], "&mut [u8; 64]": ["uint8_t *"],
     "[Notice; 64]": ["nvmesim_notice[64]"], "[u32; 8]": ["uint32_t[8]"],
+    "&Agreed": ["const nvmesim_pdu_agreed *"], "Agreed": ["nvmesim_pdu_agreed"], "LayoutSeen": ["nvmesim_pdu_layout"],
+    "PduFields": ["nvmesim_pdu_fields"], "&[u8; 8]": ["const uint8_t *"], "&[u8; 16]": ["const uint8_t *"],
+    "&[u8; 24]": ["const uint8_t *"], "&[u8; 128]": ["const uint8_t *"], "&mut [u8; 24]": ["uint8_t *"],
+    "&mut [u8; 128]": ["uint8_t *"],
 }
 # The structs that C sees whole, by their names there.
 STRUCTS = {"Answer": "nvmesim_answer", "Controller": "nvmesim_controller", "Namespace": "nvmesim_namespace",
            "Attached": "nvmesim_attached", "Queue": "nvmesim_queue", "Command": "nvmesim_command",
            "Needed": "nvmesim_needed", "Hold": "nvmesim_hold", "Registrant": "nvmesim_registered", "Event": "nvmesim_event",
            "Written": "nvmesim_written", "Read": "nvmesim_read", "HostView": "nvmesim_host_view",
-           "Change": "nvmesim_change", "Disk": "nvmesim_disk", "ExecutedOver": "nvmesim_executed_over", "Notice": "nvmesim_notice", "RawNotices": "nvmesim_notices"}
+           "Change": "nvmesim_change", "Disk": "nvmesim_disk", "ExecutedOver": "nvmesim_executed_over", "Notice": "nvmesim_notice", "RawNotices": "nvmesim_notices",
+           "Agreed": "nvmesim_pdu_agreed", "LayoutSeen": "nvmesim_pdu_layout", "PduFields": "nvmesim_pdu_fields"}
 # Structs of another crate that C holds.
-OTHERS = ("nvme_brought/src/disk.rt", "nvme_notices/src/notice.rt", "nvme_notices/src/raw.rt")
+OTHERS = ("nvme_brought/src/disk.rt", "nvme_notices/src/notice.rt", "nvme_notices/src/raw.rt", "nvme_pdu/src/agreed.rt")
 EXPORT = re.compile(r'#\[unsafe\(no_mangle\)\]\s*pub extern "C" fn (\w+)\(([^)]*)\)(?: -> (\w+))?')
 NUMBER = re.compile(r"^pub const (\w+): u32 = (\d+);", re.M)
 

@@ -33,7 +33,7 @@ class Trial:
         self.top, self.clients, self.room, self.failed = top, top / "clients" / "c", room, 0
         self.prefix = room / "installed"
         self.archive = self.prefix / "lib" / "libnvmesim.a"
-        self.sources = [self.clients / "tests" / f"{it}.c" for it in ("library", "needs", "brought", "hosts")]
+        self.sources = [self.clients / "tests" / f"{it}.c" for it in ("library", "needs", "brought", "pdus", "hosts")]
 
     def check(self, what, problem):
         if problem:

@@ -27,13 +27,16 @@ VALUES = {"Global": "alloc", "&mut Handle": "&mut sim", "u8": "n as u8", "u16": 
           "&mut [Controller]": "&mut controllers", "&mut [Namespace]": "&mut namespaces",
           "&mut [Attached]": "&mut attached", "&Event": "&event", "&Answer": "&answer",
           "&Change": "&change", "&HostView": "&view", "&RawNotices": "&notices", "&mut RawNotices": "&mut notices",
-          "&mut [u8; 64]": "&mut page",
+          "&mut [u8; 64]": "&mut page", "&Agreed": "&agreed", "&[u8; 8]": "&head", "&[u8; 16]": "&posted",
+          "&[u8; 24]": "&header", "&[u8; 128]": "&request", "&mut [u8; 24]": "&mut header",
+          "&mut [u8; 128]": "&mut request",
           "LentBytes": "LentBytes { at: ptr::null_mut(), len: n }",
           "Disk": "Disk { blocks: n as u64, content: DiskContent {} }"}
 MAIN = """
 use nvme_brought::{{Disk, DiskContent}};
 use nvme_lent::LentBytes;
 use nvme_notices::{{Notice, RawNotices}};
+use nvme_pdu::Agreed;
 use std::process::ExitCode;
 use std::rt::Env;
 use std::{{env, io, ptr}};
@@ -53,6 +56,8 @@ fn main(rt: HostRuntime) -> io::Result<ExitCode> {{
     let notice = Notice {{ count: n as u64, nsid: n as u32, kind: n as u8 }};
     let mut notices = RawNotices {{ count: n as u64, places: [notice; 64], masks: [n as u32; 8], kept: n as u32 }};
     let mut page = [0u8; 64];
+    let agreed = Agreed {{ header_digests: n == 3, data_digests: n == 4, alignment: n as u8 }};
+    let (head, posted, mut header, mut request) = ([n as u8; 8], [n as u8; 16], [n as u8; 24], [n as u8; 128]);
 {calls}
     Ok(ExitCode::from(0))
 }}

@@ -1,0 +1,3 @@
+pub mod HostPdus
+pub mod ControllerPdus
+pub mod Wholes

@@ -1,0 +1,11 @@
+pub mod Headers
+pub mod Checking
+pub mod Agreeing
+pub mod Layouts
+pub mod Fields
+pub mod Writing
+pub mod HostPdus
+pub mod Reading
+pub mod Wholes
+pub mod Laws
+pub mod Examples
