@@ -1,9 +1,6 @@
 //! The calls of libnvmesim that take pointers, as `nvmesim.h` declares them. `raw.rs` makes them.
 
-use crate::layout::{
-    Answer, Bytes, Change, Disk, Event, ExecutedOver, HostView, Notices, PduFields, PduLayout, Read, Sim, Written,
-};
-use crate::pdu::Agreed;
+use crate::layout::{Answer, Bytes, Change, Disk, Event, ExecutedOver, HostView, Notices, Read, Sim, Written};
 use crate::{Attachment, Controller, Namespace};
 
 macro_rules! opening {
@@ -94,13 +91,4 @@ extern "C" {
     pub fn nvmesim_notice_page(notices: *const Notices, page: *mut u8);
     pub fn nvmesim_take_notice(notices: *mut Notices);
     pub fn nvmesim_answer_line(event: *const Event, answer: *const Answer, line: *mut u8, room: usize) -> Written;
-    pub fn nvmesim_pdu_ic_request(request: *const u8) -> PduFields;
-    pub fn nvmesim_pdu_layout_of(agreed: *const Agreed, head: *const u8) -> PduLayout;
-    pub fn nvmesim_pdu_host_data(header: *const u8, length: u32) -> PduFields;
-    pub fn nvmesim_pdu_host_termination(header: *const u8) -> PduFields;
-    pub fn nvmesim_pdu_ic_response(agreed: *const Agreed, header: *mut u8);
-    pub fn nvmesim_pdu_response(agreed: *const Agreed, entry: *const u8, header: *mut u8) -> PduLayout;
-    pub fn nvmesim_pdu_ready(agreed: *const Agreed, cid: u16, tag: u16, length: u32, header: *mut u8) -> PduLayout;
-    pub fn nvmesim_pdu_data(agreed: *const Agreed, cid: u16, length: u32, header: *mut u8) -> PduLayout;
-    pub fn nvmesim_pdu_termination(status: u16, field: u32, received: u32, header: *mut u8) -> PduLayout;
 }

@@ -171,7 +171,7 @@ impl Fatal {
 
     /// Writes the header of C2HTermReq, whose data are up to 128 of the `received` bytes of the PDU at fault.
     pub fn termination(self, received: u32, header: &mut [u8; 24]) -> Layout {
-        raw::pdu_termination(self, received, header).into()
+        raw::pdu_termination(self.status, self.field, received, header).into()
     }
 }
 

@@ -8,7 +8,7 @@ use crate::layout::{
     Answer, Blocks, Bytes, Change, Command, Event, ExecutedOver, Hold, HostView, Needed, Notices, Parts, PduFields,
     PduLayout, Queue, Read, Registered, Sim, Written,
 };
-use crate::pdu::{Agreed, Fatal};
+use crate::pdu::Agreed;
 use crate::{Attachment, Brought, Controller, Namespace};
 #[cfg(target_arch = "x86_64")]
 use std::arch::x86_64::{_mm_prefetch, _MM_HINT_T0};
@@ -192,43 +192,28 @@ pub fn answer_line(event: &Event, answer: &Answer, line: &mut [u8]) -> Written {
     unsafe { nvmesim_answer_line(event, answer, line.as_mut_ptr(), line.len()) }
 }
 
-pub fn pdu_ic_request(request: &[u8; 128]) -> PduFields {
-    unsafe { nvmesim_pdu_ic_request(request.as_ptr()) }
+/// Declares the calls on PDUs, which take numbers and references, and makes each a function.
+macro_rules! pdu_calls {
+    ($($name:ident = $call:ident($($word:ident: $kind:ty),+) -> $result:ty;)+) => {
+        extern "C" {
+            $(fn $call($($word: $kind),+) -> $result;)+
+        }
+
+        $(#[inline]
+        pub fn $name($($word: $kind),+) -> $result {
+            unsafe { $call($($word),+) }
+        })+
+    };
 }
 
-#[inline]
-pub fn pdu_layout_of(agreed: &Agreed, head: &[u8; 8]) -> PduLayout {
-    unsafe { nvmesim_pdu_layout_of(agreed, head.as_ptr()) }
-}
-
-#[inline]
-pub fn pdu_host_data(header: &[u8; 24], length: u32) -> PduFields {
-    unsafe { nvmesim_pdu_host_data(header.as_ptr(), length) }
-}
-
-pub fn pdu_host_termination(header: &[u8; 24]) -> PduFields {
-    unsafe { nvmesim_pdu_host_termination(header.as_ptr()) }
-}
-
-pub fn pdu_ic_response(agreed: &Agreed, header: &mut [u8; 128]) {
-    unsafe { nvmesim_pdu_ic_response(agreed, header.as_mut_ptr()) }
-}
-
-#[inline]
-pub fn pdu_response(agreed: &Agreed, entry: &[u8; 16], header: &mut [u8; 24]) -> PduLayout {
-    unsafe { nvmesim_pdu_response(agreed, entry.as_ptr(), header.as_mut_ptr()) }
-}
-
-#[inline]
-pub fn pdu_ready(agreed: &Agreed, cid: u16, tag: u16, length: u32, header: &mut [u8; 24]) -> PduLayout {
-    unsafe { nvmesim_pdu_ready(agreed, cid, tag, length, header.as_mut_ptr()) }
-}
-
-#[inline]
-pub fn pdu_data(agreed: &Agreed, cid: u16, length: u32, header: &mut [u8; 24]) -> PduLayout {
-    unsafe { nvmesim_pdu_data(agreed, cid, length, header.as_mut_ptr()) }
-}
-
-pub fn pdu_termination(fatal: Fatal, received: u32, header: &mut [u8; 24]) -> PduLayout {
-    unsafe { nvmesim_pdu_termination(fatal.status, fatal.field, received, header.as_mut_ptr()) }
+pdu_calls! {
+    pdu_layout_of = nvmesim_pdu_layout_of(agreed: &Agreed, head: &[u8; 8]) -> PduLayout;
+    pdu_ic_request = nvmesim_pdu_ic_request(request: &[u8; 128]) -> PduFields;
+    pdu_host_data = nvmesim_pdu_host_data(header: &[u8; 24], length: u32) -> PduFields;
+    pdu_host_termination = nvmesim_pdu_host_termination(header: &[u8; 24]) -> PduFields;
+    pdu_ic_response = nvmesim_pdu_ic_response(agreed: &Agreed, header: &mut [u8; 128]) -> ();
+    pdu_response = nvmesim_pdu_response(agreed: &Agreed, entry: &[u8; 16], header: &mut [u8; 24]) -> PduLayout;
+    pdu_ready = nvmesim_pdu_ready(agreed: &Agreed, cid: u16, tag: u16, n: u32, header: &mut [u8; 24]) -> PduLayout;
+    pdu_data = nvmesim_pdu_data(agreed: &Agreed, cid: u16, n: u32, header: &mut [u8; 24]) -> PduLayout;
+    pdu_termination = nvmesim_pdu_termination(status: u16, field: u32, n: u32, header: &mut [u8; 24]) -> PduLayout;
 }
