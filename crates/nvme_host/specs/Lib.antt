@@ -1,0 +1,14 @@
+pub mod Acting
+pub mod Answers
+pub mod Bells
+pub mod Calls
+pub mod Devices
+pub mod Exports
+pub mod Gates
+pub mod Holding
+pub mod Knowing
+pub mod Looking
+pub mod Moving
+pub mod Playing
+pub mod Runs
+pub mod Stages

@@ -1,0 +1,21 @@
+//! Worked examples of the definitions. Each is the contract of an empty function, proved by computing.
+
+ghost use Rattle.std.specs.Prelude.{◌≡◌, true, false};
+ghost use Rattle.nvme_host.specs.Bells.{no_bells, is_rung, register_at};
+
+/// Doorbells that are 4 and 8 bytes apart; other registers are where they are.
+pub fn doorbells_have_places()
+    ensures near { register_at 4 0x100c ≡ 0x100c }
+    ensures far { register_at 8 0x100c ≡ 0x1018 }
+    ensures tail { register_at 8 0x1008 ≡ 0x1010 }
+    ensures first { register_at 8 0x1000 ≡ 0x1000 }
+    ensures other { register_at 8 0x14 ≡ 0x14 }
+{}
+
+/// A tail that is there already is not written again; a head always is.
+pub fn rung_tails_are_left_out()
+    ensures same { is_rung (record no_bells { io_tail = 3 }) 0x1008 3 ≡ true }
+    ensures other { is_rung (record no_bells { io_tail = 3 }) 0x1008 4 ≡ false }
+    ensures lane { is_rung (record no_bells { io_tail = 3 }) 0x1000 3 ≡ false }
+    ensures head { is_rung (record no_bells { io_tail = 3 }) 0x100c 3 ≡ false }
+{}
