@@ -39,11 +39,11 @@ def call(words, folder):
     return ran.stdout
 
 
-def is_built_over_ci(top):
-    """Builds the archive from the libraries that `rt ci` has just built, if they are there; whether it could. Then `rt
+def is_built_over_ci(top, name=CRATE):
+    """Builds a crate's archive from the libraries that `rt ci` has just built, if they are there; whether it could. Then `rt
     lib` would prove all of them again; otherwise it takes kept ones."""
     rt = toolchain.load(top)
-    crate = toolchain.crates_of(rt, str(top))[CRATE]
+    crate = toolchain.crates_of(rt, str(top))[name]
     if not all(map(proving.is_left_by_ci, crate.below())):
         return False
     Path(crate.folder, "out").mkdir(exist_ok=True)
@@ -51,12 +51,12 @@ def is_built_over_ci(top):
         return crate.build_static([]) == 0
 
 
-def proved_archive(top):
-    """Proves the crate and builds its archive, if that is not done yet."""
-    folder = top / "crates" / CRATE
-    if not is_built_over_ci(top):
+def proved_archive(top, name=CRATE):
+    """Proves a crate and builds its archive, if that is not done yet."""
+    folder = top / "crates" / name
+    if not is_built_over_ci(top, name):
         call(["rt", "lib"], folder)
-    return folder / "out" / f"lib{CRATE}.a"
+    return folder / "out" / f"lib{name}.a"
 
 
 def unproved_archive(top):
@@ -84,14 +84,14 @@ def built_archives(top):
     return [*found, unproved] if is_newer(unproved, max(newest, *(it.stat().st_mtime for it in makers))) else found
 
 
-def whole_object(archive, room):
-    """One object of the archive and the toolchain's objects that it needs; only the library's calls are exported."""
+def whole_object(archive, room, prefix="nvmesim"):
+    """One object of the archive and the toolchain's objects that it needs; only calls with this prefix are exported."""
     heap = Path(toolchain.ask("doc")).parent / "c" / "liblibc_c.a"
     call(["ar", "x", str(archive)], room)
     parts = sorted(str(it) for it in room.glob("*.o"))
     call(["ld", "-r", "-o", "all", *parts, str(heap)], room)
-    call(["objcopy", "--wildcard", "--keep-global-symbol=nvmesim_*", "all", "nvmesim.o"], room)
-    return room / "nvmesim.o"
+    call(["objcopy", "--wildcard", f"--keep-global-symbol={prefix}_*", "all", f"{prefix}.o"], room)
+    return room / f"{prefix}.o"
 
 
 def build(top, prefix):

@@ -1,0 +1,211 @@
+/* nvmehost ADDRESS COMMAND: the proved driver on a controller at a PCI address, through VFIO. */
+#include "vfio.h"
+
+#include <errno.h>
+#include <stdio.h>
+#include <stdlib.h>
+#include <string.h>
+
+enum { TIMEOUT_MS = 30000, FAILED = 1, USAGE = 2, DIFFERENT = 3 };
+
+static const char usage[] =
+    "usage: nvmehost ADDRESS identify                       the controller, and namespaces 1 to 64 that are there\n"
+    "       nvmehost ADDRESS read NSID BLOCK COUNT          writes up to 256 blocks to standard output\n"
+    "       nvmehost ADDRESS write NSID BLOCK               writes standard input, whole blocks of 512 bytes\n"
+    "       nvmehost ADDRESS compare NSID BLOCK             compares standard input; status 3 if it differs\n"
+    "       nvmehost ADDRESS zeroes NSID BLOCK COUNT        fills up to 65,536 blocks with zeros\n"
+    "       nvmehost ADDRESS flush NSID\n"
+    "\n"
+    "ADDRESS is a PCI address, such as 0000:00:04.0, of a controller that is bound to vfio-pci: nvmehost prints what to\n"
+    "type if it is not. Linux must not use the controller meanwhile. Standard input has at most 131,072 bytes.\n"
+    "Status 1: the request failed; 2: wrong words.\n";
+
+static struct vfio vfio;
+static struct port port;
+static const char *address;
+
+/* Resets the controller, unmaps its memory, and ends. */
+static void leave(int status)
+{
+    if (port.memory) {
+        port_play(&port);
+        port_shutdown(&port);
+        port_reset(&port);
+    }
+    vfio_close(&vfio);
+    nvmehost_close(&port.host);
+    exit(status);
+}
+
+static void fail(const char *what, const char *reason)
+{
+    fprintf(stderr, "nvmehost: %s: %s%s%s\n", address, what, *what ? ": " : "", reason);
+    leave(FAILED);
+}
+
+/* Waits for the answer of a request, which must succeed. A comparison may differ. */
+static void finish(const char *what, struct nvmehost_placed placed)
+{
+    char status[80];
+    struct nvmehost_got got = port_answer(&port, placed, TIMEOUT_MS);
+    if (got.what == NVMEHOST_NOTHING)
+        fail(what, "no answer in 30 seconds");
+    if (got.what != NVMEHOST_DONE)
+        fail(what, port_name(got.what));
+    if (got.sct == 2 && got.sc == 0x85) {
+        fprintf(stderr, "nvmehost: %s: %s: the blocks differ\n", address, what);
+        leave(DIFFERENT);
+    }
+    if (got.sct != 0 || got.sc != 0) {
+        snprintf(status, sizeof status, "the controller answered status %x:%02x", got.sct, got.sc);
+        fail(what, status);
+    }
+}
+
+static void ask(uint32_t nsid)
+{
+    finish("Identify", nvmehost_ask(&port.host, nsid));
+}
+
+static void begin(void)
+{
+    struct nvmehost_got got;
+    char text[120];
+    port.buffer = malloc(NVMEHOST_BUFFER), port.copy = malloc(NVMEHOST_BUFFER);
+    if (!port.buffer || !port.copy || nvmehost_open(&port.host, 1) != NVMEHOST_OK)
+        fail("", "no memory");
+    if (vfio_open(&vfio, address, &port)) {
+        fprintf(stderr, "nvmehost: %s\n", vfio.fault);
+        exit(FAILED);
+    }
+    uint32_t what = port_start(&port, &got);
+    if (what == NVMEHOST_REFUSED) {
+        snprintf(text, sizeof text, "%s, status %x:%02x", port_name(what), got.sct, got.sc);
+        fail("bring-up", text);
+    }
+    if (what != NVMEHOST_OK)
+        fail("bring-up", port_name(what));
+    ask(0);
+}
+
+/* Text of an Identify field, without the spaces at its end. */
+static void print_text(const char *name, const uint8_t *bytes, int len)
+{
+    while (len > 0 && (bytes[len - 1] == ' ' || bytes[len - 1] == 0))
+        len--;
+    printf("%s ", name);
+    for (int i = 0; i < len; i++)
+        putchar(bytes[i] >= ' ' && bytes[i] < 127 ? bytes[i] : '?');
+    putchar('\n');
+}
+
+static void identify(void)
+{
+    struct nvmehost_controller c = nvmehost_controller(&port.host);
+    print_text("model", port.buffer + 24, 40);
+    print_text("serial", port.buffer + 4, 20);
+    print_text("firmware", port.buffer + 64, 8);
+    if (c.what != NVMEHOST_OK)
+        fail("", port_name(c.what));
+    printf("cntlid %u\nnn %u\nmdts %u\noncs %04x\nvwc %u\n", c.cntlid, c.nn, c.mdts, c.oncs, c.vwc & 1u);
+    for (uint32_t nsid = 1; nsid <= c.nn && nsid <= 64; nsid++) {
+        ask(nsid);
+        struct nvmehost_namespace n = nvmehost_namespace(&port.host, nsid);
+        if (n.what == NVMEHOST_OK)
+            printf("namespace %u: %llu blocks of 512 bytes\n", nsid, (unsigned long long)n.blocks);
+        else if (n.what != NVMEHOST_NOT_THERE)
+            printf("namespace %u: not used: %s\n", nsid, port_name(n.what));
+    }
+}
+
+/* Standard input, which must be whole blocks; its length. */
+static size_t read_input(uint8_t *bytes)
+{
+    size_t len = fread(bytes, 1, NVMEHOST_BUFFER, stdin);
+    if (ferror(stdin))
+        fail("standard input", strerror(errno));
+    if (len == 0 || len % 512 != 0 || fgetc(stdin) != EOF)
+        fail("standard input", "it must have 1 to 256 whole blocks of 512 bytes");
+    return len;
+}
+
+static void write_output(size_t len)
+{
+    if (fwrite(port.buffer, 1, len, stdout) != len || fflush(stdout))
+        fail("standard output", strerror(errno));
+}
+
+/* A number of the command line; whether it is one. */
+static bool number(const char *text, uint64_t most, uint64_t *value)
+{
+    char *end;
+    errno = 0;
+    *value = strtoull(text, &end, 0);
+    return *text >= '0' && *text <= '9' && *end == 0 && errno == 0 && *value <= most;
+}
+
+static bool is_address(const char *text)
+{
+    unsigned parts[4];
+    char rest;
+    return sscanf(text, "%4x:%2x:%2x.%1x%c", &parts[0], &parts[1], &parts[2], &parts[3], &rest) == 4
+        && strlen(text) == 12;
+}
+
+static int use_wrongly(void)
+{
+    fputs(usage, stderr);
+    return USAGE;
+}
+
+static void execute(const char *command, uint32_t nsid, uint64_t slba, uint32_t count)
+{
+    static uint8_t bytes[NVMEHOST_BUFFER];
+    size_t len = !strcmp(command, "write") || !strcmp(command, "compare") ? read_input(bytes) : 0;
+    begin();
+    ask(nsid);
+    if (!strcmp(command, "read")) {
+        finish("Read", nvmehost_read(&port.host, nsid, slba, count));
+        write_output(512 * (size_t)count);
+    } else if (!strcmp(command, "write")) {
+        finish("Write", nvmehost_write(&port.host, nsid, slba, bytes, len));
+    } else if (!strcmp(command, "compare")) {
+        finish("Compare", nvmehost_compare(&port.host, nsid, slba, bytes, len));
+    } else if (!strcmp(command, "zeroes")) {
+        finish("Write Zeroes", nvmehost_write_zeroes(&port.host, nsid, slba, count));
+    } else {
+        finish("Flush", nvmehost_flush(&port.host, nsid));
+    }
+}
+
+int main(int words, char **word)
+{
+    static const struct { const char *name; int words; } commands[] = {
+        { "identify", 3 }, { "read", 6 }, { "write", 5 }, { "compare", 5 }, { "zeroes", 6 }, { "flush", 4 } };
+    uint64_t values[3] = { 1, 0, 0 };
+    static const uint64_t most[3] = { UINT32_MAX, UINT64_MAX, 65536 };
+    int wanted = 0;
+    if (words == 2 && !strcmp(word[1], "--help")) {
+        fputs(usage, stdout);
+        return 0;
+    }
+    for (size_t i = 0; words > 2 && i < sizeof commands / sizeof *commands; i++)
+        wanted = strcmp(word[2], commands[i].name) ? wanted : commands[i].words;
+    if (words != wanted)
+        return use_wrongly();
+    for (int i = 3; i < words; i++)
+        if (!number(word[i], most[i - 3], &values[i - 3]))
+            return use_wrongly();
+    address = word[1];
+    if (!is_address(address)) {
+        fprintf(stderr, "nvmehost: %s is no PCI address, such as 0000:00:04.0; lspci -D lists them\n", address);
+        return USAGE;
+    }
+    if (!strcmp(word[2], "identify")) {
+        begin();
+        identify();
+    } else {
+        execute(word[2], (uint32_t)values[0], values[1], (uint32_t)values[2]);
+    }
+    leave(0);
+}

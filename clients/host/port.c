@@ -1,0 +1,217 @@
+#include "port.h"
+
+#include "snapshot.h"
+
+#include <string.h>
+#include <time.h>
+
+enum { CAP = 0x00, CSTS = 0x1c, DOORBELLS = 0x1000, ENTRY = 16, QUEUES = 2 };
+
+static uint64_t now_ms(void)
+{
+    struct timespec t;
+    clock_gettime(CLOCK_MONOTONIC, &t);
+    return (uint64_t)t.tv_sec * 1000 + (uint64_t)t.tv_nsec / 1000000;
+}
+
+/* Lets a device of a test take a turn. */
+static void give_turn(struct port *p)
+{
+    if (p->turn)
+        p->turn(p->turned);
+}
+
+uint32_t port_read32(struct port *p, uint64_t offset)
+{
+    return *(volatile uint32_t *)(p->registers + offset);
+}
+
+/* Everything stored before is visible to the device before the register is written. */
+static void write32(struct port *p, uint64_t offset, uint32_t value)
+{
+    __atomic_thread_fence(__ATOMIC_SEQ_CST);
+    *(volatile uint32_t *)(p->registers + offset) = value;
+}
+
+/* Copies between the library and memory that the device may write meanwhile. Addresses and lengths are multiples of 4. */
+static void fetch(uint8_t *to, const volatile uint8_t *from, size_t len)
+{
+    for (size_t i = 0; i < len; i += 4) {
+        uint32_t word = *(const volatile uint32_t *)(from + i);
+        memcpy(to + i, &word, 4);
+    }
+}
+
+static void put(volatile uint8_t *to, const uint8_t *from, size_t len)
+{
+    for (size_t i = 0; i < len; i += 4) {
+        uint32_t word;
+        memcpy(&word, from + i, 4);
+        *(volatile uint32_t *)(to + i) = word;
+    }
+}
+
+static void store(struct port *p, uint64_t at, size_t len)
+{
+    if (nvmehost_load(&p->host, at, p->copy, len) == NVMEHOST_OK)
+        put(p->memory + at, p->copy, len);
+}
+
+void port_play(struct port *p)
+{
+    struct nvmehost_act acts[NVMEHOST_ACTS];
+    size_t count = nvmehost_acts(&p->host, acts, NVMEHOST_ACTS);
+    for (size_t i = 0; i < count; i++) {
+        if (acts[i].what == NVMEHOST_WRITE)
+            write32(p, acts[i].at, acts[i].value);
+        else
+            store(p, acts[i].at, acts[i].len);
+    }
+}
+
+/* Waits for the awaited status. */
+static uint32_t wait_for_status(struct port *p)
+{
+    uint64_t begun = now_ms();
+    uint32_t what;
+    while ((what = nvmehost_status(&p->host, port_read32(p, CSTS), now_ms() - begun)) == NVMEHOST_WAITS)
+        give_turn(p);
+    return what;
+}
+
+/* Copies the next completion of a queue, if it is new. */
+static bool see(struct port *p, uint32_t queue, uint32_t entry[4])
+{
+    struct nvmehost_next next = nvmehost_next(&p->host, queue);
+    return next.what == NVMEHOST_OK
+        && take_snapshot((const volatile uint32_t *)(p->memory + next.at), next.phase, entry);
+}
+
+struct nvmehost_got port_poll(struct port *p)
+{
+    uint32_t entry[4];
+    for (uint32_t queue = 0; queue < QUEUES; queue++) {
+        if (!see(p, queue, entry))
+            continue;
+        struct nvmehost_data data = nvmehost_sees(&p->host, queue, (const uint8_t *)entry);
+        if (data.what == NVMEHOST_OK && data.len != 0) {
+            fetch(p->copy, p->memory + data.at, data.len);
+            nvmehost_takes(&p->host, data.at, p->copy, data.len);
+        }
+        break;
+    }
+    struct nvmehost_got got = nvmehost_poll(&p->host, p->buffer, NVMEHOST_BUFFER);
+    port_play(p);
+    return got;
+}
+
+/* Waits for the next completion of the admin queue, and reports it; zeros if none came in time. */
+static void report_turn(struct port *p, uint32_t timeout_ms)
+{
+    uint64_t begun = now_ms();
+    uint32_t entry[4];
+    bool is_new;
+    while (!(is_new = see(p, 0, entry)) && now_ms() - begun < timeout_ms)
+        give_turn(p);
+    if (!is_new)
+        memset(entry, 0, ENTRY);
+    nvmehost_turn(&p->host, (const uint8_t *)entry);
+}
+
+uint32_t port_reset(struct port *p)
+{
+    uint32_t what = nvmehost_reset(&p->host);
+    if (what != NVMEHOST_OK)
+        return what;
+    port_play(p);
+    return wait_for_status(p);
+}
+
+uint32_t port_shutdown(struct port *p)
+{
+    uint32_t what = nvmehost_shutdown(&p->host);
+    if (what != NVMEHOST_OK)
+        return what;
+    port_play(p);
+    return wait_for_status(p);
+}
+
+uint32_t port_start(struct port *p, struct nvmehost_got *got)
+{
+    uint64_t cap = port_read32(p, CAP) | (uint64_t)port_read32(p, CAP + 4) << 32;
+    struct nvmehost_limits limits = nvmehost_capabilities(&p->host, cap);
+    memset(got, 0, sizeof *got);
+    if (limits.what != NVMEHOST_OK)
+        return limits.what;
+    if (DOORBELLS + 4 * (size_t)limits.stride > p->registers_len)
+        return NVMEHOST_OUTSIDE;
+    uint32_t what = port_reset(p);
+    if (what != NVMEHOST_OK)
+        return what;
+    for (;;) {
+        *got = nvmehost_bring_up(&p->host);
+        port_play(p);
+        if (got->what == NVMEHOST_WANTS_TURN) {
+            report_turn(p, limits.timeout_ms);
+        } else if (got->what == NVMEHOST_WANTS_STATUS) {
+            what = wait_for_status(p);
+            if (what != NVMEHOST_OK)
+                return what;
+        } else {
+            return got->what;
+        }
+    }
+}
+
+void port_ring(struct port *p)
+{
+    nvmehost_ring(&p->host);
+    port_play(p);
+}
+
+struct nvmehost_got port_answer(struct port *p, struct nvmehost_placed placed, unsigned timeout_ms)
+{
+    struct nvmehost_got got = { 0, 0, 0, placed.what, 0, 0 };
+    uint64_t begun = now_ms();
+    if (placed.what != NVMEHOST_OK)
+        return got;
+    port_play(p);
+    port_ring(p);
+    do {
+        got = port_poll(p);
+        if (got.what == NVMEHOST_NOTHING)
+            give_turn(p);
+    } while ((got.what == NVMEHOST_NOTHING && now_ms() - begun < timeout_ms)
+             || ((got.what == NVMEHOST_DONE || got.what == NVMEHOST_ABORTED) && got.ticket != placed.ticket));
+    return got;
+}
+
+const char *port_name(uint32_t what)
+{
+    static const char *const low[] = { "ok", "done", "aborted", "nothing", "wants the status", "wants a turn", "waits" };
+    static const char *const middle[] = {
+        "no driver is open", "a driver is open already", "no memory", "acts were not played",
+        "the capabilities were not judged", "the controller was not seen disabled", "the driver is up, or has failed",
+        "the controller is not ready", "the controller did not answer", "the controller refused a queue",
+        "the driver is not up", "no command can express the request", "all slots wait", "the queue is full",
+        "no ticket is left", "a completion answers no request", "outside the window or the registers",
+        "nothing is awaited"
+    };
+    static const char *const high[] = {
+        "the device was removed (its registers read as ones)", "the controller has failed (CSTS.CFS)",
+        "the controller did not change its status in time (CAP.TO)", "its queues are too short (CAP.MQES)",
+        "it does not have the NVM command set (CAP.CSS)", "its memory pages are larger than 4 KiB (CAP.MPSMIN)",
+        "it is no I/O controller (CNTRLTYPE)", "its queue entries have other sizes (SQES, CQES)",
+        "there is no such namespace, or it is not attached (NSZE)", "its blocks do not have 512 bytes (LBADS)",
+        "its blocks have metadata (MS, DPS)", "the controller was not asked", "the namespace was not asked",
+        "the controller does not support the command (ONCS)", "the request is longer than MDTS allows",
+        "blocks after the last one of the namespace (NSZE)", "namespaces above 64 are not supported"
+    };
+    if (what < sizeof low / sizeof *low)
+        return low[what];
+    if (what >= 16 && what - 16 < sizeof middle / sizeof *middle)
+        return middle[what - 16];
+    if (what >= 48 && what - 48 < sizeof high / sizeof *high)
+        return high[what - 48];
+    return "an unknown result";
+}

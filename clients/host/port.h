@@ -1,0 +1,36 @@
+/* Plays the acts of libnvmehost on the memory and the registers of a device, and copies what the device writes. This
+ * file and port.c access the memory that the device writes at any moment; nothing else does. */
+#ifndef NVMEHOST_PORT_H
+#define NVMEHOST_PORT_H
+
+#include "nvmehost.h"
+
+struct port {
+    struct nvmehost host;
+    volatile uint8_t *memory;    /* NVMEHOST_WINDOW bytes, which the device reaches from address 0 */
+    volatile uint8_t *registers; /* from offset 0 */
+    size_t registers_len;        /* in bytes */
+    uint8_t *buffer;             /* NVMEHOST_BUFFER bytes: the data of the last answer */
+    uint8_t *copy;               /* NVMEHOST_BUFFER bytes, for the port */
+    void (*turn)(void *);        /* called while the port waits, or NULL */
+    void *turned;
+};
+
+/* Judges the capabilities, resets the controller and brings it up: NVMEHOST_OK, or the fault. */
+uint32_t port_start(struct port *p, struct nvmehost_got *got);
+/* Resets the controller, and waits until it is disabled: NVMEHOST_OK, or the fault, after which the device may still
+ * write to its memory. */
+uint32_t port_reset(struct port *p);
+/* Shuts the controller down, and waits until it is. */
+uint32_t port_shutdown(struct port *p);
+void port_play(struct port *p);
+void port_ring(struct port *p);
+/* Delivers the next answer, if there is one: looks at both queues once. */
+struct nvmehost_got port_poll(struct port *p);
+/* Plays and rings a placed request, and waits for its answer; others are delivered to nobody. */
+struct nvmehost_got port_answer(struct port *p, struct nvmehost_placed placed, unsigned timeout_ms);
+uint32_t port_read32(struct port *p, uint64_t offset);
+/* The name of a result, for messages. */
+const char *port_name(uint32_t what);
+
+#endif

@@ -1,0 +1,255 @@
+/* The port over a controller in memory that does as the standard asks, and over controllers that differ in one thing,
+ * each of which is refused by name before anything is sent to its blocks. Prints nothing if all is as expected. */
+#include "../port.h"
+#include "device.h"
+
+#include <stdio.h>
+#include <stdlib.h>
+#include <string.h>
+
+static struct device device;
+static struct port p;
+static int failed;
+
+#define EXPECT(what) ((what) ? (void)0 : (void)(failed++, printf("%s:%d: not so: %s\n", __FILE__, __LINE__, #what)))
+#define EXPECT_IS(what, wanted) expect_is(__LINE__, #what, what, wanted)
+
+static void expect_is(int line, const char *text, uint32_t what, uint32_t wanted)
+{
+    if (what != wanted) {
+        failed++;
+        printf("%s:%d: %s: %s, not %s\n", __FILE__, line, text, port_name(what), port_name(wanted));
+    }
+}
+
+/* A new controller and a closed driver. */
+static void begin(void)
+{
+    nvmehost_close(&p.host);
+    memset((void *)p.memory, 0, NVMEHOST_WINDOW);
+    memset((void *)p.registers, 0, DEVICE_REGISTERS);
+    device_reset(&device, p.memory, p.registers);
+    EXPECT_IS(nvmehost_open(&p.host, 1), NVMEHOST_OK);
+}
+
+static uint32_t start(void)
+{
+    struct nvmehost_got got;
+    device_turn(&device);
+    return port_start(&p, &got);
+}
+
+static struct nvmehost_got answer(struct nvmehost_placed placed)
+{
+    return port_answer(&p, placed, 1000);
+}
+
+static uint32_t ask(uint32_t nsid)
+{
+    return answer(nvmehost_ask(&p.host, nsid)).what;
+}
+
+static void transfers(void)
+{
+    static uint8_t bytes[NVMEHOST_BUFFER], other[512];
+    static const uint32_t lengths[] = { 512, 4096, 4608, 8192, 8704, 65536, NVMEHOST_BUFFER };
+    for (size_t i = 0; i < sizeof bytes; i++)
+        bytes[i] = (uint8_t)(i * 2654435761u >> 13);
+    for (size_t i = 0; i < sizeof lengths / sizeof *lengths; i++) {
+        uint32_t len = lengths[i];
+        memset(device.blocks, 0, sizeof device.blocks);
+        struct nvmehost_got got = answer(nvmehost_write(&p.host, 1, 100, bytes, len));
+        EXPECT(got.what == NVMEHOST_DONE && got.sct == 0 && got.sc == 0);
+        EXPECT(memcmp(device.blocks + 51200, bytes, len) == 0 && device.blocks[51200 + len] == 0);
+        got = answer(nvmehost_read(&p.host, 1, 100, len / 512));
+        EXPECT(got.what == NVMEHOST_DONE && got.len == len && memcmp(p.buffer, bytes, len) == 0);
+        got = answer(nvmehost_compare(&p.host, 1, 100, bytes, len));
+        EXPECT(got.what == NVMEHOST_DONE && got.sct == 0 && got.sc == 0);
+    }
+    struct nvmehost_got got = answer(nvmehost_compare(&p.host, 1, 100, other, 512));
+    EXPECT(got.what == NVMEHOST_DONE && got.sct == 2 && got.sc == 0x85);
+    got = answer(nvmehost_write_zeroes(&p.host, 1, 101, 2));
+    EXPECT(got.what == NVMEHOST_DONE && got.sc == 0 && memcmp(device.blocks + 51200, bytes, 512) == 0);
+    EXPECT(memcmp(device.blocks + 51712, other, 512) == 0);
+    got = answer(nvmehost_flush(&p.host, 1));
+    EXPECT(got.what == NVMEHOST_DONE && got.sc == 0);
+    got = answer(nvmehost_identify(&p.host, 1, 0));
+    EXPECT(got.what == NVMEHOST_DONE && got.len == 4096 && p.buffer[4] == 'T');
+}
+
+static void refusals(void)
+{
+    static uint8_t bytes[1024];
+    EXPECT_IS(nvmehost_read(&p.host, 1, DEVICE_BLOCKS - 1, 2).what, NVMEHOST_PAST_THE_END);
+    EXPECT_IS(nvmehost_read(&p.host, 1, UINT64_MAX, 2).what, NVMEHOST_PAST_THE_END);
+    EXPECT_IS(nvmehost_read(&p.host, 2, 0, 1).what, NVMEHOST_NAMESPACE_NOT_ASKED);
+    EXPECT_IS(nvmehost_read(&p.host, 1, 0, 0).what, NVMEHOST_BAD_REQUEST);
+    EXPECT_IS(nvmehost_write(&p.host, 1, 0, bytes, 1000).what, NVMEHOST_BAD_REQUEST);
+    EXPECT_IS(nvmehost_ask(&p.host, 65).what, NVMEHOST_NSID_TOO_HIGH);
+    EXPECT_IS(ask(2), NVMEHOST_DONE);
+    EXPECT_IS(nvmehost_namespace(&p.host, 2).what, NVMEHOST_NOT_THERE);
+    EXPECT_IS(nvmehost_read(&p.host, 2, 0, 1).what, NVMEHOST_NOT_THERE);
+    /* A poll and a ring that have to wait for the acts of a placing. */
+    EXPECT_IS(nvmehost_read(&p.host, 1, 0, 1).what, NVMEHOST_OK);
+    EXPECT_IS(nvmehost_ring(&p.host), NVMEHOST_PLAY_FIRST);
+    EXPECT_IS(nvmehost_poll(&p.host, p.buffer, NVMEHOST_BUFFER).what, NVMEHOST_PLAY_FIRST);
+    EXPECT_IS(nvmehost_poll(&p.host, p.buffer, NVMEHOST_BUFFER - 1).what, NVMEHOST_OUTSIDE);
+    EXPECT_IS(nvmehost_reset(&p.host), NVMEHOST_PLAY_FIRST);
+    port_play(&p);
+    port_ring(&p);
+    device_turn(&device);
+    EXPECT_IS(port_poll(&p).what, NVMEHOST_DONE);
+    EXPECT_IS(port_poll(&p).what, NVMEHOST_NOTHING);
+}
+
+/* All that waits is aborted by a reset, and delivered once; then the controller comes up again, and has to be asked
+ * again. */
+static void resets(void)
+{
+    uint64_t last = 0;
+    for (int i = 0; i < 7; i++) {
+        last = nvmehost_read(&p.host, 1, 0, 1).ticket;
+        port_play(&p);
+    }
+    EXPECT_IS(nvmehost_read(&p.host, 1, 0, 1).what, NVMEHOST_RING_FULL);
+    port_ring(&p);
+    device_turn(&device);
+    EXPECT_IS(port_reset(&p), NVMEHOST_OK);
+    for (int i = 6; i >= 0; i--) {
+        struct nvmehost_got got = port_poll(&p);
+        EXPECT(got.what == NVMEHOST_ABORTED && got.ticket == last - (uint64_t)i);
+    }
+    EXPECT_IS(port_poll(&p).what, NVMEHOST_NOT_UP);
+    EXPECT_IS(start(), NVMEHOST_OK);
+    EXPECT_IS(nvmehost_read(&p.host, 1, 0, 1).what, NVMEHOST_CONTROLLER_NOT_ASKED);
+    EXPECT_IS(ask(0), NVMEHOST_DONE);
+    EXPECT_IS(nvmehost_read(&p.host, 1, 0, 1).what, NVMEHOST_NAMESPACE_NOT_ASKED);
+    EXPECT_IS(ask(1), NVMEHOST_DONE);
+    struct nvmehost_got got = answer(nvmehost_read(&p.host, 1, 0, 1));
+    EXPECT(got.what == NVMEHOST_DONE && got.ticket > last);
+    EXPECT_IS(port_shutdown(&p), NVMEHOST_OK);
+    EXPECT_IS(nvmehost_read(&p.host, 1, 0, 1).what, NVMEHOST_NOT_UP);
+    EXPECT_IS(port_reset(&p), NVMEHOST_OK);
+}
+
+static void good(void)
+{
+    struct nvmehost_got got;
+    begin();
+    EXPECT_IS(nvmehost_bring_up(&p.host).what, NVMEHOST_NOT_JUDGED);
+    device.ready_after = 3;
+    EXPECT_IS(start(), NVMEHOST_OK);
+    EXPECT_IS(port_start(&p, &got), NVMEHOST_OK);
+    EXPECT_IS(ask(0), NVMEHOST_DONE);
+    EXPECT_IS(ask(1), NVMEHOST_DONE);
+    EXPECT(nvmehost_namespace(&p.host, 1).blocks == DEVICE_BLOCKS && nvmehost_controller(&p.host).mdts == 5);
+    transfers();
+    refusals();
+    resets();
+}
+
+/* The doorbells of a controller are 32 bytes apart. */
+static void strides(void)
+{
+    begin();
+    device.cap |= (uint64_t)3 << 32;
+    EXPECT_IS(start(), NVMEHOST_OK);
+    EXPECT_IS(ask(0), NVMEHOST_DONE);
+    EXPECT_IS(ask(1), NVMEHOST_DONE);
+    EXPECT_IS(answer(nvmehost_read(&p.host, 1, 0, 1)).what, NVMEHOST_DONE);
+    begin();
+    device.cap |= (uint64_t)15 << 32;
+    EXPECT_IS(start(), NVMEHOST_OUTSIDE);
+}
+
+/* Controllers that do not come up. */
+static void unfit(void)
+{
+    begin();
+    device.cap = (device.cap & ~(uint64_t)0xffff) | 30;
+    EXPECT_IS(start(), NVMEHOST_QUEUES_TOO_SHORT);
+    begin();
+    device.cap &= ~((uint64_t)1 << 37);
+    EXPECT_IS(start(), NVMEHOST_NO_NVM_COMMANDS);
+    begin();
+    device.cap |= (uint64_t)1 << 48;
+    EXPECT_IS(start(), NVMEHOST_PAGE_SIZE);
+    begin();
+    device.is_gone = true;
+    EXPECT_IS(start(), NVMEHOST_REMOVED);
+    begin();
+    device.is_fatal = true;
+    EXPECT_IS(start(), NVMEHOST_FATAL);
+    EXPECT_IS(nvmehost_bring_up(&p.host).what, NVMEHOST_NOT_DISABLED);
+    begin();
+    device.is_stuck = true;
+    EXPECT_IS(start(), NVMEHOST_TIMED_OUT);
+    begin();
+    EXPECT_IS(start(), NVMEHOST_OK);
+    device.is_stuck = true;
+    EXPECT_IS(port_reset(&p), NVMEHOST_TIMED_OUT);
+    EXPECT_IS(nvmehost_bring_up(&p.host).what, NVMEHOST_NOT_DISABLED);
+    device.is_stuck = false, device.is_gone = true;
+    EXPECT_IS(port_reset(&p), NVMEHOST_REMOVED);
+    begin();
+    device.is_silent = true;
+    EXPECT_IS(start(), NVMEHOST_NO_ANSWER);
+}
+
+/* Controllers and namespaces that are refused once they were asked: nothing is sent to their blocks. */
+static void refused(uint32_t of_controller, uint32_t of_read, uint32_t of_compare)
+{
+    static uint8_t block[4096];
+    EXPECT_IS(start(), NVMEHOST_OK);
+    EXPECT_IS(ask(0), NVMEHOST_DONE);
+    EXPECT_IS(nvmehost_controller(&p.host).what, of_controller);
+    EXPECT_IS(ask(1), NVMEHOST_DONE);
+    struct nvmehost_placed placed = nvmehost_read(&p.host, 1, 0, 256);
+    EXPECT_IS(placed.what, of_read);
+    if (placed.what == NVMEHOST_OK)
+        EXPECT_IS(answer(placed).what, NVMEHOST_DONE);
+    EXPECT_IS(nvmehost_compare(&p.host, 1, 0, block, 512).what, of_compare);
+}
+
+static void asked(void)
+{
+    begin();
+    device.lbads = 12;
+    refused(NVMEHOST_OK, NVMEHOST_BLOCK_SIZE, NVMEHOST_BLOCK_SIZE);
+    begin();
+    device.metadata = 8;
+    refused(NVMEHOST_OK, NVMEHOST_METADATA, NVMEHOST_METADATA);
+    begin();
+    device.dps = 1;
+    refused(NVMEHOST_OK, NVMEHOST_METADATA, NVMEHOST_METADATA);
+    begin();
+    device.nsze = 0;
+    refused(NVMEHOST_OK, NVMEHOST_NOT_THERE, NVMEHOST_NOT_THERE);
+    begin();
+    device.nsze = 255;
+    refused(NVMEHOST_OK, NVMEHOST_PAST_THE_END, NVMEHOST_OK);
+    begin();
+    device.oncs = 8;
+    refused(NVMEHOST_OK, NVMEHOST_OK, NVMEHOST_NOT_SUPPORTED);
+    begin();
+    device.mdts = 3;
+    refused(NVMEHOST_OK, NVMEHOST_TOO_LONG, NVMEHOST_OK);
+    begin();
+    device.sqes = 0x55;
+    refused(NVMEHOST_ENTRY_SIZE, NVMEHOST_ENTRY_SIZE, NVMEHOST_ENTRY_SIZE);
+}
+
+int main(void)
+{
+    p.memory = aligned_alloc(4096, NVMEHOST_WINDOW), p.registers = aligned_alloc(4096, DEVICE_REGISTERS);
+    p.registers_len = DEVICE_REGISTERS, p.buffer = malloc(NVMEHOST_BUFFER), p.copy = malloc(NVMEHOST_BUFFER);
+    p.turn = device_turn, p.turned = &device;
+    EXPECT_IS(nvmehost_ring(&p.host), NVMEHOST_CLOSED);
+    good();
+    strides();
+    unfit();
+    asked();
+    nvmehost_close(&p.host);
+    free((void *)p.memory), free((void *)p.registers), free(p.buffer), free(p.copy);
+    return failed != 0;
+}
