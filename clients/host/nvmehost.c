@@ -108,7 +108,7 @@ static void identify(void)
     if (c.what != NVMEHOST_OK)
         fail("", port_name(c.what));
     printf("cntlid %u\nnn %u\nmdts %u\noncs %04x\nvwc %u\n", c.cntlid, c.nn, c.mdts, c.oncs, c.vwc & 1u);
-    for (uint32_t nsid = 1; nsid <= c.nn && nsid <= 64; nsid++) {
+    for (uint32_t nsid = 1; nsid <= c.nn && nsid <= NVMEHOST_HIGHEST_NSID; nsid++) {
         ask(nsid);
         struct nvmehost_namespace n = nvmehost_namespace(&port.host, nsid);
         if (n.what == NVMEHOST_OK)

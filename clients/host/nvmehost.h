@@ -65,7 +65,12 @@ enum {
     NVMEHOST_NOT_SUPPORTED = 61,        /* ONCS */
     NVMEHOST_TOO_LONG = 62,             /* MDTS */
     NVMEHOST_PAST_THE_END = 63,         /* NSZE */
-    NVMEHOST_NSID_TOO_HIGH = 64         /* above 64 */
+    NVMEHOST_NSID_TOO_HIGH = 64         /* above NVMEHOST_HIGHEST_NSID */
+};
+
+/* The highest namespace identifier that can be asked. */
+enum {
+    NVMEHOST_HIGHEST_NSID = 64
 };
 
 /* Acts. */
