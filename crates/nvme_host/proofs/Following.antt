@@ -42,7 +42,20 @@ use Rattle.nvme_driver.specs.Calls.{Writes, Calls, Awaits}
 use Rattle.nvme_driver.specs.Layout.{tail_doorbell}
 use Rattle.nvme_driver.specs.Drivers.{Driver, IsPlaced, with_ends, put_ends, ends, is_up, is_down, lane_of, tail_of}
 use Rattle.nvme_driver.specs.Polls.{polled, found, found_poll, answered, answered_poll, without_calls}
-use Rattle.nvme_driver.specs.Rises.{Rises, Creates, CreatesBoth, CreatesSubmissions, Concludes, Hears, start_calls, sent, started, is_ready, fault_of, own_answer}
+use Rattle.nvme_driver.specs.Rises.{
+  Rises,
+  Creates,
+  CreatesBoth,
+  CreatesSubmissions,
+  Concludes,
+  Hears,
+  start_calls,
+  sent,
+  started,
+  is_ready,
+  fault_of,
+  own_answer,
+}
 use Rattle.nvme_host.specs.declared.bells.Bells.{Bells}
 use Rattle.nvme_host.specs.declared.got.Got.{Got}
 use Rattle.nvme_host.specs.declared.got.Placed.{Placed}

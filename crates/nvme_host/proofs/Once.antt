@@ -1,5 +1,27 @@
 -- Proof of the law `once`: the calls of a program are a run of the driver.
-use Rattle.std.proofs.Common.{◌≡◌, ℕ, Bool, true, false, nat_lt, List, [], ◌∷◌, ◌++◌, Option, Some, None, Result, Ok, Err, refl, sym, ap, subst, ◌∙◌}
+use Rattle.std.proofs.Common.{
+  ◌≡◌,
+  ℕ,
+  Bool,
+  true,
+  false,
+  nat_lt,
+  List,
+  [],
+  ◌∷◌,
+  ◌++◌,
+  Option,
+  Some,
+  None,
+  Result,
+  Ok,
+  Err,
+  refl,
+  sym,
+  ap,
+  subst,
+  ◌∙◌,
+}
 use Rattle.std.specs.Prelude.{OnOk, OnErr, if◌then◌else◌}
 use Rattle.nvme_device.specs.declared.status.Awaited.{Awaited}
 use Rattle.nvme_device.specs.declared.capabilities.Capabilities.{Capabilities}
