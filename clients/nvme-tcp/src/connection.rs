@@ -81,8 +81,9 @@ pub struct Connection {
     input: Input,
     /// What to send.
     output: Output,
-    /// Whether PDUs wait until the host has taken answers.
+    /// Whether PDUs wait until the host has taken answers, and whether they wait until work of the disk ends.
     waits: bool,
+    pub waits_for_disk: bool,
     /// When the connection is closed, unless something happens before.
     deadline: Option<Instant>,
     /// Whether it is gone.
@@ -102,6 +103,7 @@ impl Connection {
             input: Input::default(),
             output: Output::default(),
             waits: false,
+            waits_for_disk: false,
             deadline: Some(Instant::now() + BEFORE_CONNECT),
             is_closed: false,
             closing: None,
@@ -119,12 +121,20 @@ impl Connection {
 
     /// Whether to receive more, and whether there is something to send.
     pub fn wants(&self) -> (bool, bool) {
-        (self.phase == Phase::Ending || !self.is_full(), self.output.len() != 0)
+        (self.phase == Phase::Ending || !self.is_full() && !self.waits_for_disk, self.output.len() != 0)
     }
 
     /// Whether PDUs can be taken that had to wait.
-    pub fn has_more(&self) -> bool {
-        self.waits && !self.is_full() && !self.is_closed
+    pub fn has_more(&self, target: &Target<'_>) -> bool {
+        (self.waits || self.waits_for_disk) && !self.is_full() && !self.is_closed && !self.is_busy(target)
+    }
+
+    /// Whether the disk can't take a command of an I/O queue now.
+    fn is_busy(&self, target: &Target<'_>) -> bool {
+        match self.queue.session {
+            Session::Controller { index, qid } => qid != 0 && target.is_busy(index),
+            _ => false,
+        }
     }
 
     fn is_full(&self) -> bool {
@@ -160,7 +170,12 @@ impl Connection {
     pub fn take_all(&mut self, target: &mut Target<'_>) -> Outcome<()> {
         let mut input = mem::take(&mut self.input);
         let mut result = Ok(());
+        self.waits_for_disk = false;
         while result.is_ok() && self.phase != Phase::Ending && !self.is_full() {
+            if self.is_busy(target) {
+                self.waits_for_disk = true;
+                break;
+            }
             match self.take_one(target, input.waiting()) {
                 Ok(0) => break,
                 Ok(length) => input.taken(length),
@@ -368,8 +383,8 @@ impl Connection {
         self.deadline = Some(Instant::now() + BEFORE_CLOSE);
     }
 
-    /// Sends as much as the system takes.
-    pub fn send(&mut self) {
+    /// Sends as much as the system takes. A connection that has ended waits for the answers that are due.
+    pub fn send(&mut self, target: &Target<'_>) {
         while self.output.len() != 0 && !self.is_closed {
             match self.socket.write(self.output.waiting()) {
                 Ok(count) => self.output.sent(count),
@@ -378,7 +393,8 @@ impl Connection {
                 Err(_) => self.is_closed = true,
             }
         }
-        if self.phase == Phase::Ending && self.socket.shutdown(Shutdown::Write).is_err() {
+        let is_over = self.phase == Phase::Ending && !target.owes(self.queue.connection);
+        if is_over && self.socket.shutdown(Shutdown::Write).is_err() {
             self.is_closed = true;
         }
     }

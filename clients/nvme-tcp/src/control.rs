@@ -204,7 +204,7 @@ impl Target<'_> {
             Some(index) => index,
             None => return Ok(None),
         };
-        let count = self.controllers[index].held();
+        let count = self.held[index].len();
         match verb {
             "hold" => self.holds[index] = true,
             "go" => self.release(index)?,

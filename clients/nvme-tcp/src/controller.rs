@@ -9,7 +9,7 @@ use crate::nvme::{
 };
 use crate::status::{Status, COMMAND_SEQUENCE, SUCCESS};
 use crate::window::{self, Room};
-use nvmesim::{Executed, Fetched, Need};
+use nvmesim::{Brought, Executed, Fetched, Need};
 
 /// Offsets of registers.
 pub const CAP: u64 = 0x00;
@@ -35,7 +35,7 @@ pub enum Data<'d> {
 }
 
 impl Data<'_> {
-    fn length(self) -> usize {
+    pub fn length(self) -> usize {
         match self {
             Data::None => 0,
             Data::ToController(bytes) => bytes.len(),
@@ -57,10 +57,14 @@ pub struct Completed {
 }
 
 impl Completed {
-    fn without_queue() -> Completed {
+    pub fn without_queue() -> Completed {
         Completed { status: COMMAND_SEQUENCE, dw0: 0, data: 0, is_denied: true, need: Need::Nothing }
     }
 }
+
+/// A command that was fetched and not executed. Its place among those changes, and this does not.
+#[derive(Clone, Copy, Debug, PartialEq, Eq)]
+pub struct Token(u64);
 
 /// A pair of queues of one size.
 #[derive(Clone, Copy)]
@@ -75,30 +79,32 @@ pub struct Controller {
     pub cntlid: u16,
     pub host: u128,
     queues: [Option<Pair>; QUEUES],
-    /// The queues of the commands that were fetched and wait to be executed, in the order of their fetches.
-    held: Vec<u16>,
+    /// The commands that were fetched and not executed, in the order of their fetches, and their queues.
+    fetched: Vec<(Token, u16)>,
+    next: Token,
     /// How many commands went through its queues.
     pub commands: u64,
 }
 
 impl Controller {
     pub fn new(cntlid: u16, host: u128) -> Controller {
-        Controller { cntlid, host, queues: [None; QUEUES], held: Vec::new(), commands: 0 }
+        let (queues, fetched) = ([None; QUEUES], Vec::new());
+        Controller { cntlid, host, queues, fetched, next: Token(0), commands: 0 }
     }
 
     pub fn has_queue(&self, qid: u16) -> bool {
         matches!(self.queues.get(usize::from(qid)), Some(Some(_)))
     }
 
-    /// How many commands are held.
-    pub fn held(&self) -> usize {
-        self.held.len()
+    /// How many commands were fetched and not executed.
+    pub fn fetched(&self) -> usize {
+        self.fetched.len()
     }
 
     /// What is forgotten when the controller is reset or power is lost: queues, and what was fetched.
     pub fn forget(&mut self) {
         self.queues = [None; QUEUES];
-        self.held.clear();
+        self.fetched.clear();
     }
 
     /// The controller is reset: CC is 0.
@@ -160,12 +166,13 @@ impl Controller {
         self.queues[usize::from(qid)] = None;
         self.run(machine, 0, &own_entry(DELETE_SUBMISSION_QUEUE, 0, u32::from(qid), 0), Data::None)?;
         // What was fetched from it counts until then, in the places of commands.
-        self.held.retain(|queue| *queue != qid);
+        self.fetched.retain(|(_, queue)| *queue != qid);
         self.run(machine, 0, &own_entry(DELETE_COMPLETION_QUEUE, 0, u32::from(qid), 0), Data::None)?;
         Ok(())
     }
 
-    /// Executes a command: stores it, rings, fetches and executes it, and takes its completion.
+    /// Executes a command that no blocks have to be brought for: stores it, rings, fetches and executes it, and takes its
+    /// completion.
     #[inline]
     pub fn run(
         &mut self,
@@ -174,82 +181,115 @@ impl Controller {
         entry: &[u8; ENTRY],
         data: Data<'_>,
     ) -> Outcome<Completed> {
-        if !self.submit(machine, qid, entry, data, Room::AT_ONCE)? {
-            return Ok(Completed::without_queue());
-        }
-        let i = self.held.len();
-        let need = if is_followed(qid, entry, machine) { machine.need(self.cntlid, i)? } else { Need::Nothing };
-        self.execute(machine, qid, (i, need), Room::AT_ONCE.start(data.length()))
+        let token = match self.submit(machine, qid, entry, data, Room::AT_ONCE)? {
+            Some(token) => token,
+            None => return Ok(Completed::without_queue()),
+        };
+        let need = if is_followed(qid, entry) { self.need(machine, token)? } else { Need::Nothing };
+        self.execute(machine, token, need, Room::AT_ONCE.start(data.length()))
     }
 
-    /// Fetches a command without executing it; whether it was fetched.
-    pub fn hold(
+    /// What a fetched command needs of the blocks now.
+    pub fn need(&self, machine: &mut Machine<'_>, token: Token) -> Outcome<Need> {
+        self.place(token).map_or(Ok(Need::Nothing), |i| machine.need(self.cntlid, i))
+    }
+
+    /// Executes a fetched command that needs this, and whose data are at this address; takes its completion.
+    pub fn execute(&mut self, machine: &mut Machine<'_>, token: Token, need: Need, data: u64) -> Outcome<Completed> {
+        let i = match self.place(token) {
+            Some(i) => i,
+            None => return Ok(Completed::without_queue()),
+        };
+        let executed = machine.execute(self.cntlid, i)?;
+        self.complete(machine, i, executed, (need, data))
+    }
+
+    /// The same over blocks that are brought in a room. It also returns how many blocks of the room belong on the disk.
+    pub fn execute_over(
+        &mut self,
+        machine: &mut Machine<'_>,
+        token: Token,
+        (need, data): (Need, u64),
+        (room, brought): (&mut [u8], Brought),
+    ) -> Outcome<(Completed, u64)> {
+        let i = match self.place(token) {
+            Some(i) => i,
+            None => return Ok((Completed::without_queue(), 0)),
+        };
+        let (executed, at_hand) = machine.execute_over(self.cntlid, i, room, brought)?;
+        Ok((self.complete(machine, i, executed, (need, data))?, at_hand))
+    }
+
+    /// The place of a command among those that were fetched.
+    fn place(&self, token: Token) -> Option<usize> {
+        self.fetched.iter().position(|(it, _)| *it == token)
+    }
+
+    /// Stores a command and its data, rings and fetches it; nothing if it was not fetched.
+    pub fn submit(
         &mut self,
         machine: &mut Machine<'_>,
         qid: u16,
         entry: &[u8; ENTRY],
         data: Data<'_>,
         room: Room,
-    ) -> Outcome<bool> {
-        let is_fetched = self.submit(machine, qid, entry, data, room)?;
-        if is_fetched {
-            self.held.push(qid);
-        }
-        Ok(is_fetched)
-    }
-
-    /// Executes the first of the held commands, whose data are at this place.
-    pub fn release(&mut self, machine: &mut Machine<'_>, data: u64) -> Outcome<Completed> {
-        let qid = self.held.remove(0);
-        let need = machine.need(self.cntlid, 0)?;
-        self.execute(machine, qid, (0, need), data)
-    }
-
-    /// Stores a command and its data, rings and fetches it; whether it was fetched.
-    fn submit(
-        &mut self,
-        machine: &mut Machine<'_>,
-        qid: u16,
-        entry: &[u8; ENTRY],
-        data: Data<'_>,
-        room: Room,
-    ) -> Outcome<bool> {
+    ) -> Outcome<Option<Token>> {
         let mut pair = match self.queues.get(usize::from(qid)) {
             Some(Some(pair)) => *pair,
-            _ => return Ok(false),
+            _ => return Ok(None),
         };
         let c = self.cntlid;
         let place = window::submission_queue(qid) + ENTRY as u64 * u64::from(pair.tail);
         pair.tail = (pair.tail + 1) % pair.size;
         machine.store(c, place, &placed(entry, data, room))?;
-        match data {
-            Data::ToController(bytes) if !bytes.is_empty() => machine.store(c, room.start(bytes.len()), bytes)?,
-            Data::FromController(length) if length != 0 && !fills(entry, qid, length) => {
-                machine.store(c, room.start(length), &vec![0; length])?;
-            }
-            _ => (),
-        }
+        self.place_data(machine, qid, entry, data, room)?;
         machine.write32(c, doorbell(qid), u32::from(pair.tail))?;
         let is_fetched = machine.fetch(c, qid)? == Fetched::Took;
         // A controller that was shut down fetches nothing more until it is reset.
         self.queues[usize::from(qid)] = if is_fetched { Some(pair) } else { None };
-        Ok(is_fetched)
+        if !is_fetched {
+            return Ok(None);
+        }
+        let token = self.next;
+        self.next = Token(token.0 + 1);
+        self.fetched.push((token, qid));
+        Ok(Some(token))
     }
 
-    /// Executes the i-th fetched command, which needs this, and takes its completion.
-    fn execute(
-        &mut self,
+    /// Stores the data of a command, or zeros where it may store fewer than its host expects.
+    pub fn place_data(
+        &self,
         machine: &mut Machine<'_>,
         qid: u16,
-        (i, need): (usize, Need),
-        data: u64,
+        entry: &[u8; ENTRY],
+        data: Data<'_>,
+        room: Room,
+    ) -> Outcome<()> {
+        match data {
+            Data::ToController(bytes) if !bytes.is_empty() => {
+                machine.store(self.cntlid, room.start(bytes.len()), bytes)
+            }
+            Data::FromController(length) if length != 0 && !fills(entry, qid, length) => {
+                machine.store(self.cntlid, room.start(length), &vec![0; length])
+            }
+            _ => Ok(()),
+        }
+    }
+
+    /// Takes the completion of the i-th fetched command.
+    fn complete(
+        &mut self,
+        machine: &mut Machine<'_>,
+        i: usize,
+        executed: Executed,
+        (need, data): (Need, u64),
     ) -> Outcome<Completed> {
-        machine.prefetch(need);
         self.commands += 1;
-        let posted = match machine.execute(self.cntlid, i)? {
+        let posted = match executed {
             Executed::Posted(completion) => completion,
             Executed::NoSuch | Executed::CqFull => return Ok(Completed::without_queue()),
         };
+        let (_, qid) = self.fetched.remove(i);
         if let Some(pair) = &mut self.queues[usize::from(qid)] {
             pair.head = (pair.head + 1) % pair.size;
             machine.write32(self.cntlid, doorbell(qid) + 4, u32::from(pair.head))?;
@@ -276,15 +316,10 @@ fn placed(entry: &[u8; ENTRY], data: Data<'_>, room: Room) -> [u8; ENTRY] {
     placed
 }
 
-/// Whether the target has to know which blocks a command writes: for the image, or to count those that it zeroes. An
-/// admin command and a Read write none.
-fn is_followed(qid: u16, entry: &[u8; ENTRY], machine: &Machine<'_>) -> bool {
-    let is_asked = match entry[0] {
-        READ => false,
-        WRITE => machine.has_image,
-        _ => true,
-    };
-    qid != 0 && is_asked
+/// Whether the target has to know which blocks a command in memory zeroes, to count them. An admin command, a Read and a
+/// Write zero none.
+fn is_followed(qid: u16, entry: &[u8; ENTRY]) -> bool {
+    qid != 0 && !matches!(entry[0], READ | WRITE)
 }
 
 /// Whether a successful command writes all of these bytes: a Read of exactly as many blocks. For others the buffer is

@@ -80,18 +80,26 @@ pub fn only_zeroing(entry: &[u8; ENTRY], data: Data<'_>, blocks: u64) -> Option<
 }
 
 impl Target<'_> {
-    /// Executes Dataset Management. It ends at the first range that can't be zeroed.
-    pub fn deallocate(&mut self, index: usize, qid: u16, entry: &[u8; ENTRY], data: Data<'_>) -> Outcome<Answer> {
+    /// Executes Dataset Management. It ends at the first range that can't be zeroed. Over a disk it has a ticket.
+    pub fn deallocate(
+        &mut self,
+        index: usize,
+        qid: u16,
+        entry: &[u8; ENTRY],
+        data: Data<'_>,
+        ticket: Option<u64>,
+    ) -> Outcome<Answer> {
         let bytes = match plan_of(entry, data, self.configuration.blocks(u32_at(entry, 4))) {
             Plan::Zero(bytes) => bytes,
             // The rules judge it as they do a Write Zeroes that passes all of them but the last.
             Plan::Nothing(status) => {
-                let denied = self.zero(index, qid, entry, Range { slba: NOWHERE, count: 1 })?.status;
+                let nowhere = zeroing(entry, Range { slba: NOWHERE, count: 1 });
+                let denied = self.zero(index, qid, &nowhere, ticket)?.status;
                 return Ok(Answer::of(if denied == OUT_OF_RANGE { status } else { denied }));
             }
         };
         for range in ranges_of(bytes) {
-            let completed = self.zero(index, qid, entry, range)?;
+            let completed = self.zero(index, qid, &zeroing(entry, range), ticket)?;
             if completed.status != SUCCESS {
                 return Ok(Answer::of(completed.status));
             }
@@ -99,12 +107,14 @@ impl Target<'_> {
         Ok(Answer::of(SUCCESS))
     }
 
-    fn zero(&mut self, index: usize, qid: u16, entry: &[u8; ENTRY], range: Range) -> Outcome<Completed> {
-        let entry = zeroing(entry, range);
+    fn zero(&mut self, index: usize, qid: u16, entry: &[u8; ENTRY], ticket: Option<u64>) -> Outcome<Completed> {
         let data = Data::FromController(0);
-        let completed = self.controllers[index].run(&mut self.machine, qid, &entry, data)?;
+        let completed = match ticket {
+            Some(ticket) => self.run_over(index, qid, entry, ticket)?,
+            None => self.controllers[index].run(&mut self.machine, qid, entry, data)?,
+        };
         if !completed.is_denied {
-            self.follow(index, qid, &entry, data, &completed)?;
+            self.follow(index, qid, entry, data, &completed)?;
         }
         Ok(completed)
     }

@@ -111,9 +111,9 @@ fn threshold(dw11: u32, may_be_all: bool) -> Result<usize, Status> {
 }
 
 /// Log Page 12h.
-pub fn effects_page(has_image: bool) -> Vec<u8> {
+pub fn effects_page(has_write_cache: bool) -> Vec<u8> {
     let mut page = vec![0; 1024];
-    for (fid, effects) in FEATURES.iter().filter(|(fid, _)| has_image || *fid != VOLATILE_WRITE_CACHE) {
+    for (fid, effects) in FEATURES.iter().filter(|(fid, _)| has_write_cache || *fid != VOLATILE_WRITE_CACHE) {
         let at = 4 * usize::from(*fid);
         page[at..at + 4].copy_from_slice(&effects.to_le_bytes());
     }
@@ -170,7 +170,7 @@ impl Target<'_> {
     /// Refuses a feature that does not exist: all but a few, and the write cache if nothing is cached.
     fn check_feature(&self, fid: u8) -> Result<(), Status> {
         let is_there = FEATURES.iter().any(|(known, _)| *known == fid);
-        if is_there && (fid != VOLATILE_WRITE_CACHE || self.image.is_some()) {
+        if is_there && (fid != VOLATILE_WRITE_CACHE || self.has_volatile_cache()) {
             return Ok(());
         }
         Err(INVALID_FIELD)

@@ -54,7 +54,7 @@ fn fabrics(told: &mut [u8], name: &str) {
 }
 
 /// Completes what the subsystem reports of a controller.
-pub fn controller(told: &mut [u8], name: &str, identity: Identity, has_image: bool) {
+pub fn controller(told: &mut [u8], name: &str, identity: Identity, has_write_cache: bool) {
     fabrics(told, name);
     put(told, SERIAL_AT, &identity.serial());
     let events = u32_at(told, 92) | NAMESPACE_NOTICE.mask | ACCESS_NOTICE.mask;
@@ -77,8 +77,9 @@ pub fn controller(told: &mut [u8], name: &str, identity: Identity, has_image: bo
     put(told, 540, &MOST_NAMESPACES.to_le_bytes());
     // OFCS: Disconnect.
     put(told, 1804, &1u16.to_le_bytes());
-    // VWC: an image's blocks are in the page cache of this machine until it is synced, so hosts have to flush.
-    told[525] |= u8::from(has_image);
+    // VWC: an image's blocks are in the page cache of this machine until it is synced, so hosts have to flush, unless
+    // each write is synced.
+    told[525] |= u8::from(has_write_cache);
 }
 
 /// A discovery controller.

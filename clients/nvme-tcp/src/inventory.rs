@@ -58,7 +58,7 @@ impl Target<'_> {
     fn controller_structure(&mut self, index: usize, entry: &[u8; ENTRY]) -> Outcome<Structure> {
         let told = self.told(index, entry, identify::CONTROLLER)?;
         Ok(told.map(|mut told| {
-            identify::controller(&mut told, &self.settings.name, self.identity, self.image.is_some());
+            identify::controller(&mut told, &self.settings.name, self.identity, self.has_volatile_cache());
             told
         }))
     }

@@ -6,13 +6,17 @@ use crate::system;
 use std::fmt::Display;
 use std::fs::{self, File, OpenOptions};
 use std::io::{self, ErrorKind};
-use std::os::unix::fs::{MetadataExt, OpenOptionsExt};
+use std::os::unix::fs::{FileTypeExt, MetadataExt, OpenOptionsExt};
 use std::path::Path;
 use std::thread;
 use std::time::Duration;
 
 /// O_NONBLOCK: opening a FIFO does not wait for its other end.
 const AT_ONCE: i32 = 0o4000;
+/// O_EXCL: nobody else may use a block device so, such as a file system that is mounted. O_DIRECT, and EBUSY.
+pub const ALONE: i32 = 0o200;
+pub const DIRECT: i32 = if cfg!(any(target_arch = "aarch64", target_arch = "arm")) { 0o200_000 } else { 0o40_000 };
+const BUSY: i32 = 16;
 /// How often a file is opened that another has replaced by the time it is locked.
 const TRIES: usize = 100;
 /// The delay between two tries to bind.
@@ -42,8 +46,17 @@ impl Lock {
 
     /// Opens a regular file and locks it. If another file is at the path after a wait, it locks that one.
     pub fn open(&self, path: &Path, options: &OpenOptions) -> io::Result<File> {
+        self.open_by(path, || open_regular(path, options))
+    }
+
+    /// The same of a regular file or a block device, with more flags.
+    pub fn open_disk(&self, path: &Path, options: &OpenOptions, flags: i32) -> io::Result<File> {
+        self.open_by(path, || open_disk(path, options, flags))
+    }
+
+    fn open_by(&self, path: &Path, open: impl Fn() -> io::Result<File>) -> io::Result<File> {
         for _ in 0..TRIES {
-            let file = open_regular(path, options)?;
+            let file = open()?;
             self.take(path, &file)?;
             if fs::metadata(path).map(|it| place_of(&it)).ok() == Some(place_of(&file.metadata()?)) {
                 return Ok(file);
@@ -98,6 +111,18 @@ pub fn open_regular(path: &Path, options: &OpenOptions) -> io::Result<File> {
     } else {
         Err(io::Error::new(ErrorKind::InvalidInput, "it is no regular file"))
     }
+}
+
+/// Opens a regular file or a block device, with more flags.
+pub fn open_disk(path: &Path, options: &OpenOptions, flags: i32) -> io::Result<File> {
+    let kind = fs::metadata(path)?.file_type();
+    if !kind.is_file() && !kind.is_block_device() {
+        return Err(io::Error::new(ErrorKind::InvalidInput, "it is no regular file and no block device"));
+    }
+    options.clone().custom_flags(AT_ONCE | flags).open(path).map_err(|error| match error.raw_os_error() {
+        Some(BUSY) => io::Error::new(error.kind(), format!("{error}: it is mounted, or another program has it")),
+        _ => error,
+    })
 }
 
 /// The device and the inode of a file: no two files that exist at a time have the same.

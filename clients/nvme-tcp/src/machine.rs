@@ -1,22 +1,18 @@
 //! The subsystem, event by event: each is a call of the library, and is noted if the run is kept.
 
 use crate::fault::Outcome;
-use crate::nvme::BLOCK;
 use crate::run::Run;
-use crate::window::PAGE;
-use nvmesim::{Change, Executed, Fetched, HostView, LineError, Need, Notices, Reservation, Subsystem};
+use nvmesim::{Brought, Change, Executed, Fetched, HostView, LineError, Need, Notices, Reservation, Subsystem};
 
 /// The subsystem of this process.
 pub struct Machine<'a> {
     subsystem: Subsystem<'a>,
     run: Option<Run>,
-    /// Whether a file follows the blocks.
-    pub has_image: bool,
 }
 
 impl<'a> Machine<'a> {
-    pub fn new(subsystem: Subsystem<'a>, run: Option<Run>, has_image: bool) -> Self {
-        Machine { subsystem, run, has_image }
+    pub fn new(subsystem: Subsystem<'a>, run: Option<Run>) -> Self {
+        Machine { subsystem, run }
     }
 
     pub fn store(&mut self, cntlid: u16, address: u64, bytes: &[u8]) -> Outcome<()> {
@@ -51,6 +47,22 @@ impl<'a> Machine<'a> {
         Ok(executed)
     }
 
+    /// The same over blocks of the disk that are brought in a room. It also returns how many of the room's first blocks
+    /// belong on the disk.
+    pub fn execute_over(
+        &mut self,
+        cntlid: u16,
+        i: usize,
+        room: &mut [u8],
+        brought: Brought,
+    ) -> Outcome<(Executed, u64)> {
+        let (executed, at_hand) = self.subsystem.execute_over(cntlid, i, room, brought)?;
+        if let Some(run) = &mut self.run {
+            run.executed(cntlid, i, executed);
+        }
+        Ok((executed, at_hand))
+    }
+
     pub fn power_cycle(&mut self) {
         self.subsystem.power_cycle();
         if let Some(run) = &mut self.run {
@@ -62,21 +74,6 @@ impl<'a> Machine<'a> {
     /// such command. The execution reads, writes and flushes nothing else: that is proved.
     pub fn need(&mut self, cntlid: u16, i: usize) -> Outcome<Need> {
         Ok(self.subsystem.need(cntlid, i)?.unwrap_or(Need::Nothing))
-    }
-
-    /// Blocks as the events so far have left them.
-    pub fn blocks(&mut self, first: u64, count: u32) -> Option<&[u8]> {
-        let place = usize::try_from(first.checked_mul(BLOCK)?).ok()?;
-        self.subsystem.bytes(place, usize::try_from(u64::from(count) * BLOCK).ok()?)
-    }
-
-    /// Has the processor fetch the first page of the blocks that a Write is about to write. The rest it fetches by
-    /// itself.
-    pub fn prefetch(&self, need: Need) {
-        if let Need::Write { first, blocks } = need {
-            let (place, length) = (first.saturating_mul(BLOCK), u64::from(blocks) * BLOCK);
-            self.subsystem.prefetch(place as usize, PAGE.min(length) as usize);
-        }
     }
 
     /// Reads a register. That changes nothing, so it is no event of a run.

@@ -34,7 +34,6 @@ mod holding;
 mod host_log;
 mod identify;
 mod identity;
-mod image;
 mod input;
 mod inventory;
 mod journal;
@@ -71,6 +70,7 @@ mod secret;
 mod server;
 mod state;
 mod status;
+mod storage;
 #[allow(unsafe_code)]
 mod system;
 mod target;
@@ -81,7 +81,6 @@ mod worker;
 
 use configuration::Configuration;
 use identity::Identity;
-use image::Image;
 use journal::{Found, Journal};
 use keys::Keys;
 use listening::plain;
@@ -99,11 +98,12 @@ use state::Folder;
 use std::env;
 use std::ffi::OsString;
 use std::fmt::Display;
-use std::fs::File;
 use std::io::{self, Write};
 use std::net::{SocketAddr, TcpListener};
 use std::path::{Path, PathBuf};
 use std::process::ExitCode;
+use std::sync::Arc;
+use storage::{Disk, Image, Storage};
 use target::Target;
 
 /// Exit statuses: the configuration is refused, a file or the system failed, the command line is wrong.
@@ -174,7 +174,7 @@ fn check(words: &[OsString]) -> Result<(), End> {
     };
     let text = configuration::text_of(path).map_err(end(FAILED, path.display()))?;
     let blocks = match image {
-        Some(image) => image.metadata().map_err(end(FAILED, image.display()))?.len() / BLOCK,
+        Some(image) => storage::blocks_of(image).map_err(end(FAILED, image.display()))?,
         None => ANY_BLOCKS,
     };
     judge(path, &text, blocks)?;
@@ -240,23 +240,22 @@ fn serve_over(options: Options, configuration: Configuration, text: &[u8], keys:
     let image = open_image(&options, text)?;
     let folder = optional(&options.state, |path| state::open(path, options.waits))?;
     let listeners = listen(&options)?;
-    let identity = image.as_ref().map_or_else(Identity::random, |file| file.metadata().map(Identity::of_file));
+    let identity = image.as_ref().map_or_else(Identity::random, |it| it.file.metadata().map(Identity::of_file));
     let identity = identity.map_err(end(FAILED, "the identity"))?;
-    let mut bytes = zeros(&configuration)?;
-    let blocks = &mut bytes[BLOCKS_AT..];
-    let image = match (&options.image, image) {
-        (Some(path), Some(file)) => Some(Image::read(path, file, blocks).map_err(end(FAILED, path.display()))?),
-        _ => None,
+    let mut bytes = if image.is_none() { zeros(&configuration)? } else { Vec::new() };
+    let subsystem = match &image {
+        Some(image) => Subsystem::open_brought(&configuration.config, image.blocks()),
+        None => Subsystem::open_lent(&configuration.config, &mut bytes[BLOCKS_AT..]),
     };
-    let subsystem = Subsystem::open_lent(&configuration.config, blocks);
     let subsystem = subsystem.map_err(end(REFUSED, options.config.display()))?;
     let control =
         optional(&options.control, |path| locking::bind(path.display(), options.waits, || control::listen(path)))?;
     let journal = folder.map(|it| open_journal(it, &configuration)).transpose()?;
     // It comes last, so that a start that fails leaves none.
     let run = keep_run(&options, &configuration)?;
-    let machine = Machine::new(subsystem, run, image.is_some());
-    let mut target = Target::new(machine, configuration, options.settings, identity, image);
+    let storage = image.map(|it| start_disk(it, &options, run.is_some())).transpose()?;
+    let machine = Machine::new(subsystem, run);
+    let mut target = Target::new(machine, configuration, options.settings, identity, storage);
     begin(&mut target, journal)?;
     target.begin_counting();
     system::note_signals();
@@ -296,21 +295,32 @@ fn zeros(configuration: &Configuration) -> Result<Vec<u8>, End> {
     }
 }
 
-/// Opens the image, which is locked then, and judges whether the configuration fits it.
-fn open_image(options: &Options, text: &[u8]) -> Result<Option<File>, End> {
+/// Opens the image, which is locked then, and judges whether the configuration fits it. One of another size than wanted
+/// is not created.
+fn open_image(options: &Options, text: &[u8]) -> Result<Option<Image>, End> {
+    if let Some(size) = options.storage.size {
+        judge(&options.config, text, size / BLOCK)?;
+    }
     let lock = if options.settings.is_read_only { Lock::shared } else { Lock::exclusive };
-    let image = optional(&options.image, |path| image::open(path, lock(options.waits)))?;
-    if let Some(file) = &image {
-        let length = file.metadata().map_err(end(FAILED, "the image"))?.len();
-        judge(&options.config, text, length / BLOCK)?;
+    let image = optional(&options.image, |path| Image::open(path, lock(options.waits), &options.storage))?;
+    if let Some(image) = &image {
+        judge(&options.config, text, image.blocks())?;
     }
     Ok(image)
+}
+
+/// Starts the threads that read and write an image.
+fn start_disk(image: Image, options: &Options, keeps_run: bool) -> Result<Storage, End> {
+    let name = image.path.display().to_string();
+    let disk = image.disk(&options.storage).map_err(end(FAILED, &name))?;
+    let disk: Arc<dyn Disk> = Arc::new(disk);
+    Storage::start(name.clone(), disk, options.storage, keeps_run).map_err(end(FAILED, name))
 }
 
 /// Whether the image can't be written; warns about that unless `--read-only` was given.
 fn tells_read_only(options: &Options) -> bool {
     match &options.image {
-        Some(path) if !options.settings.is_read_only && image::is_read_only(path) => {
+        Some(path) if !options.settings.is_read_only && storage::is_read_only(path) => {
             warn(format_args!("{} can't be written: it is served read-only", path.display()));
             true
         }

@@ -5,6 +5,7 @@ use crate::authentication::Choice;
 use crate::crypto::Hash;
 use crate::groups::Group;
 use crate::log::Form;
+use crate::storage::options as storage;
 use crate::target::Settings;
 use std::ffi::OsString;
 use std::net::{IpAddr, Ipv4Addr, SocketAddr};
@@ -19,7 +20,11 @@ nvmetcp expand FILE [OUTPUT]   print the script of the recording FILE as --scrip
 
 CONFIG has the lines of a script before `start`: controllers with their hosts, namespaces, attachments.
 
-  --image FILE                 use the blocks of this file instead of zeros in memory, and lock it
+  --image FILE                 use the blocks of this file or block device instead of zeros in memory, and lock it
+  --size SIZE                  create FILE with this size, sparse, if it does not exist
+  --cache SIZE                 memory for blocks of FILE, by default 256M
+  --direct                     read and write FILE with O_DIRECT
+  --write-through              answer each write after it is synced, and report no volatile write cache
   --read-only                  write protect all namespaces, which no host can change; the default if FILE can't be
                                written
   --wait                       wait for files and addresses that other processes use, instead of refusing
@@ -64,6 +69,8 @@ command line.
 pub struct Options {
     pub config: PathBuf,
     pub image: Option<PathBuf>,
+    /// How the image is opened and cached.
+    pub storage: storage::Options,
     /// Whether locks that others hold are waited for.
     pub waits: bool,
     /// Whether a script or a recording replaces files that are there.
@@ -95,6 +102,7 @@ impl Options {
         let mut options = Options {
             config,
             image: None,
+            storage: storage::Options::default(),
             waits: false,
             replaces: false,
             listen,
@@ -114,6 +122,8 @@ impl Options {
                 Some("--trust-network") => options.settings.admission.trusts_network = true,
                 Some("--read-only") => options.settings.is_read_only = true,
                 Some("--force") => options.replaces = true,
+                Some("--direct") => options.storage.is_direct = true,
+                Some("--write-through") => options.storage.writes_through = true,
                 Some(option) if option.starts_with('-') => {
                     let value = words.next().ok_or_else(|| format!("{option} is not an option, or lacks its value"))?;
                     options.take(option, value)?;
@@ -123,6 +133,9 @@ impl Options {
         }
         if options.listen.is_empty() {
             options.listen.push((Ipv4Addr::LOCALHOST, 4420).into());
+        }
+        if options.storage != storage::Options::default() && options.image.is_none() {
+            return Err("--size, --cache, --direct and --write-through need --image".to_owned());
         }
         if options.choice.is_some() && options.keys.is_none() {
             return Err("--dhchap needs --keys".to_owned());
@@ -141,6 +154,8 @@ impl Options {
         let wrong = || format!("{option} {text}: not understood");
         match option {
             "--image" => self.image = Some(value.into()),
+            "--size" => self.storage.size = Some(storage::image_size_of(text)?),
+            "--cache" => self.storage.cache = storage::cache_of(text)?,
             "--state" => self.state = Some(value.into()),
             "--script" => self.script = Some(value.into()),
             "--record" => self.recording = Some(value.into()),
@@ -227,6 +242,9 @@ mod tests {
             "c --keys",
             "c --record",
             "c --record r --script s",
+            "c --write-through",
+            "c --image i --size 1",
+            "c --image i --cache 1",
         ] {
             assert!(read(wrong).is_err(), "{wrong}");
         }

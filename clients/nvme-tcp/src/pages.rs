@@ -121,7 +121,7 @@ impl Target<'_> {
             COMMAND_EFFECTS => effects_page(),
             NAMESPACE_ACCESS => self.access_page(index, entry[41] & 1 != 0),
             RESERVATION_NOTICES => self.notice_page(index),
-            _ => features::effects_page(self.image.is_some()),
+            _ => features::effects_page(self.has_volatile_cache()),
         };
         let answer = part(&page, entry, length);
         if let (Ok(_), false, Some(association)) = (&answer, retains, &mut self.associations[index]) {

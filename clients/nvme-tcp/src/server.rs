@@ -1,5 +1,6 @@
 //! The loop of the one thread: it waits until a connection can be served, and serves it.
 
+use crate::answer::Answer;
 use crate::association::{HostQueue, Session};
 use crate::connection::{Connection, ROOM};
 use crate::control::Console;
@@ -8,20 +9,23 @@ use crate::fault::{Fault, Outcome};
 use crate::input::Rooms;
 use crate::listening::{plain, Listener};
 use crate::log::Topic;
+use crate::nvme::ENTRY;
 use crate::system::{end_when_lost, is_asked_to_end, is_asked_to_read_again, Interest, Poll, Ready};
 use crate::target::{Effect, Handed, Target};
 use crate::worker::Finished;
 use std::cmp::Reverse;
 use std::collections::{HashMap, VecDeque};
 use std::io;
+use std::mem;
 use std::net::{IpAddr, TcpListener};
 use std::os::unix::net::UnixListener;
 use std::time::{Duration, Instant};
 
 /// The name of the listener for lines of control. Those for hosts have the numbers from 1 on, and then connections.
 const CONTROL: u64 = 0;
-/// That of the thread which computes for proofs.
+/// That of the thread which computes for proofs, and that of the threads of the disk.
 const WORK: u64 = u64::MAX;
+const DISK: u64 = u64::MAX - 1;
 /// Interval between timeout checks.
 const LOOK: Duration = Duration::from_millis(100);
 /// The most connections without a controller's queue. A new one closes one of them.
@@ -35,7 +39,7 @@ const TO_READ: Interest = Interest { read: true, write: false };
 struct Served {
     connection: Connection,
     interest: Interest,
-    /// The system must have everything of the batch before its answers are sent and more is received.
+    /// The system must have all events of the batch before its answers are sent and more is received.
     waits_for: Option<Handed>,
 }
 
@@ -61,8 +65,10 @@ pub struct Server<'a> {
     connections: HashMap<u64, Served>,
     /// Receive buffers.
     rooms: Rooms,
-    /// The connections that wait for kept run or image, in the order in which they have begun to.
+    /// The connections that wait for the kept run, in the order in which they have begun to.
     waiting: VecDeque<u64>,
+    /// Those that wait until the disk can take commands.
+    stalled: Vec<u64>,
     /// Whether only one connection can be served, the same as before, and none waits.
     is_alone: bool,
     /// The connection that could be served last, if there was only one.
@@ -85,6 +91,7 @@ impl<'a> Server<'a> {
             (1..).zip(hosts).map(|(name, it)| Listener::new(it, name, &poll)).collect::<io::Result<Vec<_>>>()?;
         let control = control.map(|it| Listener::new(it, CONTROL, &poll)).transpose()?;
         target.prover.as_ref().map_or(Ok(()), |it| poll.add(it.bell(), WORK, TO_READ))?;
+        target.storage.as_ref().map_or(Ok(()), |it| poll.add(it.bell(), DISK, TO_READ))?;
         Ok(Server {
             target,
             poll,
@@ -94,6 +101,7 @@ impl<'a> Server<'a> {
             connections: HashMap::new(),
             rooms: Rooms::new(ROOM),
             waiting: VecDeque::new(),
+            stalled: Vec::new(),
             is_alone: true,
             last: None,
             consoles: HashMap::new(),
@@ -135,8 +143,7 @@ impl<'a> Server<'a> {
         Ok(())
     }
 
-    /// Serves every connection that is ready. If none is, and some wait for kept run or image, blocks on the oldest
-    /// write.
+    /// Serves every connection that is ready. If none is, and some wait for the kept run, blocks on the oldest write.
     fn turn(&mut self, ready: &mut Vec<Ready>, look: &mut Instant) -> Outcome<()> {
         let patience = if self.waiting.is_empty() { LOOK } else { Duration::ZERO };
         self.poll.wait(patience.as_millis() as i32, ready).map_err(Fault::System)?;
@@ -154,6 +161,7 @@ impl<'a> Server<'a> {
             match it.name {
                 CONTROL => self.accept_consoles()?,
                 WORK => self.take_work()?,
+                DISK => self.take_blocks()?,
                 name if name <= self.hosts.len() as u64 => self.accept_hosts(name as usize - 1)?,
                 name if self.consoles.contains_key(&name) => self.serve_console(name)?,
                 name => is_idle &= !self.serve(name, *it)?,
@@ -233,7 +241,7 @@ impl<'a> Server<'a> {
         most.and_then(oldest).map_or(Ok(()), |name| self.close(name, Closing::Crowded))
     }
 
-    /// Serves a connection, unless it waits for kept run or image; whether it did.
+    /// Serves a connection, unless it waits for the kept run; whether it did.
     fn serve(&mut self, name: u64, ready: Ready) -> Outcome<bool> {
         let served = match self.connections.get_mut(&name) {
             Some(served) if served.waits_for.is_none() => served,
@@ -253,6 +261,16 @@ impl<'a> Server<'a> {
                 served.connection.finish_work(&mut self.target, done)?;
                 self.finish(connection, false)?;
             }
+        }
+        Ok(())
+    }
+
+    /// Continues commands and connections that have waited for the disk.
+    fn take_blocks(&mut self) -> Outcome<()> {
+        self.target.storage.as_mut().map_or(Ok(()), |it| it.take_finished())?;
+        self.apply_effects()?;
+        for name in mem::take(&mut self.stalled) {
+            self.finish(name, false)?;
         }
         Ok(())
     }
@@ -285,10 +303,10 @@ impl<'a> Server<'a> {
         self.apply_effects()
     }
 
-    /// Sends a connection's answers, and takes PDUs that had to wait for that. Script and image are written first, so
-    /// that they have everything that a host was answered. If that takes a while, the connection waits for them.
+    /// Sends a connection's answers, and takes PDUs that had to wait for that. The kept run is written first, so that it
+    /// has everything that a host was answered. If that takes a while, the connection waits for it.
     fn send(&mut self, name: u64, is_handed: bool) -> Outcome<()> {
-        let Server { target, connections, waiting, is_alone, .. } = self;
+        let Server { target, connections, waiting, stalled, is_alone, .. } = self;
         let served = match connections.get_mut(&name) {
             Some(served) => served,
             None => return Ok(()),
@@ -302,8 +320,11 @@ impl<'a> Server<'a> {
                 }
                 return Ok(());
             }
-            served.connection.send();
-            if !served.connection.has_more() {
+            served.connection.send(target);
+            if !served.connection.has_more(target) {
+                if served.connection.waits_for_disk && !stalled.contains(&name) {
+                    stalled.push(name);
+                }
                 return served.wait_by(&self.poll, name);
             }
             served.connection.take_all(target)?;
@@ -320,20 +341,39 @@ impl<'a> Server<'a> {
         Ok(())
     }
 
-    /// Does what connections are to do because of others.
+    /// Does what connections are to do because of others, and because of the disk.
     fn apply_effects(&mut self) -> Outcome<()> {
-        while let Some(effect) = self.target.effects.pop_front() {
-            match effect {
-                Effect::Close(name) => self.close(name, Closing::Association)?,
-                Effect::Answer(name, entry, answer) => {
-                    if let Some(served) = self.connections.get_mut(&name) {
-                        served.connection.answer(&mut self.target, &entry, answer)?;
+        let mut answered: Vec<u64> = Vec::new();
+        loop {
+            self.target.hand_over(self.is_alone)?;
+            let (name, entry, answer) = match self.next_answer()? {
+                Some(next) => next,
+                None => match answered.pop() {
+                    Some(name) => {
                         self.send(name, false)?;
+                        continue;
                     }
+                    None => return Ok(()),
+                },
+            };
+            if let Some(served) = self.connections.get_mut(&name) {
+                served.connection.answer(&mut self.target, &entry, answer)?;
+                if !answered.contains(&name) {
+                    answered.push(name);
                 }
             }
         }
-        self.target.hand_over(self.is_alone).map(|_| ())
+    }
+
+    /// The next answer that is due, after the connections that are to be closed before it.
+    fn next_answer(&mut self) -> Outcome<Option<(u64, [u8; ENTRY], Answer)>> {
+        while let Some(effect) = self.target.effects.pop_front() {
+            match effect {
+                Effect::Close(name) => self.close(name, Closing::Association)?,
+                Effect::Answer(name, entry, answer) => return Ok(Some((name, entry, answer))),
+            }
+        }
+        self.target.next_answer()
     }
 
     fn close_late(&mut self, now: Instant) -> Outcome<()> {

@@ -4,7 +4,6 @@ use crate::access::Access;
 use crate::admission::Admission;
 use crate::answer::{Answer, Payload};
 use crate::association::{Association, ConnectionId, HostQueue, Session};
-use crate::bytes::u32_at;
 use crate::configuration::Configuration;
 use crate::controller::{Completed, Controller, Data, CSTS};
 use crate::counters::{Closing, Counters};
@@ -12,13 +11,15 @@ use crate::fault::Outcome;
 use crate::health::Health;
 use crate::holding::Held;
 use crate::identity::Identity;
-use crate::image::Image;
 use crate::journal::Journal;
 use crate::log::{Form, Log};
 use crate::machine::Machine;
+use crate::notices::Watch;
 use crate::nvme::{AUTHENTICATION_RECEIVE, DATASET_MANAGEMENT, ENTRY, FABRICS, NAMESPACE_ATTACHMENT};
 use crate::proving::Prover;
 use crate::status::{AUTHENTICATION_REQUIRED, COMMAND_SEQUENCE, INACCESSIBLE, SUCCESS};
+use crate::storage::pending::{Issued, Waiting};
+use crate::storage::Storage;
 use nvmesim::{Attachment, Need};
 use std::collections::VecDeque;
 use std::fmt;
@@ -26,8 +27,6 @@ use std::io::{self, Write};
 use std::net::SocketAddr;
 use std::time::Instant;
 
-/// Force Unit Access, in double word 12 of a command on blocks.
-const FORCE_UNIT_ACCESS: u32 = 1 << 30;
 /// CSTS.RDY and CSTS.SHST.
 const READY: u32 = 1;
 const SHUTDOWN_STATUS: u32 = 3 << 2;
@@ -61,12 +60,9 @@ pub enum Effect {
     Answer(ConnectionId, [u8; ENTRY], Answer),
 }
 
-/// The numbers of batches begun so far, of the run and of the image.
+/// The number of batches of the run begun so far.
 #[derive(Clone, Copy, Debug, Default, PartialEq, Eq)]
-pub struct Handed {
-    run: u64,
-    image: u64,
-}
+pub struct Handed(u64);
 
 /// The subsystem and its hosts.
 pub struct Target<'a> {
@@ -93,7 +89,9 @@ pub struct Target<'a> {
     /// The keys, if hosts have to prove who they are.
     pub prover: Option<Prover>,
     pub identity: Identity,
-    pub image: Option<Image>,
+    /// The disk, unless the blocks are in memory; and the commands that wait for it.
+    pub storage: Option<Storage>,
+    pub waiting: Waiting,
     pub journal: Option<Journal>,
     /// In the order in which they came about.
     pub effects: VecDeque<Effect>,
@@ -105,7 +103,7 @@ impl<'a> Target<'a> {
         configuration: Configuration,
         settings: Settings,
         identity: Identity,
-        image: Option<Image>,
+        storage: Option<Storage>,
     ) -> Self {
         let described = configuration.config.controllers.iter();
         let controllers: Vec<Controller> = described.map(|it| Controller::new(it.cntlid(), it.host())).collect();
@@ -127,7 +125,8 @@ impl<'a> Target<'a> {
             settings,
             prover: None,
             identity,
-            image,
+            storage,
+            waiting: Waiting::default(),
             journal: None,
             effects: VecDeque::new(),
         }
@@ -175,22 +174,38 @@ impl<'a> Target<'a> {
         if self.holds[index] && self.hold(connection, index, qid, entry, data)? {
             return Ok(None);
         }
+        if self.storage.is_some() {
+            return self.io_over_disk(Issued { connection, index, qid, entry: *entry, opcode: entry[0] }, data);
+        }
         if entry[0] == DATASET_MANAGEMENT {
-            return self.deallocate(index, qid, entry, data).map(Some);
+            return self.deallocate(index, qid, entry, data, None).map(Some);
         }
         let watch = self.watch(index, entry);
         let completed = self.controllers[index].run(&mut self.machine, qid, entry, data)?;
+        self.answer_of(index, qid, entry, data, completed, watch.as_ref()).map(Some)
+    }
+
+    /// Does what follows the execution of an I/O command; its answer.
+    pub fn answer_of(
+        &mut self,
+        index: usize,
+        qid: u16,
+        entry: &[u8; ENTRY],
+        data: Data<'_>,
+        completed: Completed,
+        watch: Option<&Watch>,
+    ) -> Outcome<Answer> {
         if !completed.is_denied {
             self.follow(index, qid, entry, data, &completed)?;
         }
-        if let (Some(watch), SUCCESS) = (&watch, completed.status) {
+        if let (Some(watch), SUCCESS) = (watch, completed.status) {
             self.notify(watch)?;
         }
         let length = if let Data::FromController(length) = data { length } else { 0 };
-        Ok(Some(Answer::completed(completed, self.controllers[index].cntlid, length)))
+        Ok(Answer::completed(completed, self.controllers[index].cntlid, length))
     }
 
-    /// Makes image and journal follow a command that was allowed.
+    /// Makes counters and journal follow a command that was allowed.
     pub fn follow(
         &mut self,
         index: usize,
@@ -206,40 +221,32 @@ impl<'a> Target<'a> {
         if let (Need::Zero { blocks, .. }, true) = (completed.need, has_succeeded) {
             self.health[index].zero(blocks);
         }
-        if let Some(image) = &mut self.image {
-            let has_write_cache = self.associations[index].as_ref().map_or(true, |it| it.features.has_write_cache);
-            let is_synced = !has_write_cache || u32_at(entry, 48) & FORCE_UNIT_ACCESS != 0;
-            image.follow(&mut self.machine, completed.need, is_synced)?;
-        }
         match &mut self.journal {
             Some(journal) if has_succeeded => journal.follow(self.controllers[index].cntlid, qid, entry, data),
             _ => Ok(()),
         }
     }
 
-    /// Writes what the system must have before a host hears of its commands, the blocks of the image and the events of
-    /// the kept run, or begins to. With `is_awaited` the caller waits for that next.
-    pub fn hand_over(&mut self, is_awaited: bool) -> Outcome<Handed> {
-        let run = self.machine.begin_run(is_awaited)?;
-        let image = self.image.as_mut().map_or(Ok(0), |it| it.begin(is_awaited))?;
-        Ok(Handed { run, image })
+    /// Begins to write what the commands so far have changed: blocks, and the events of the kept run, which the system
+    /// must have before a host hears of them. `is_alone` says that one host is served and waits for that.
+    pub fn hand_over(&mut self, is_alone: bool) -> Outcome<Handed> {
+        self.storage.as_mut().map_or(Ok(()), |it| it.begin(is_alone))?;
+        self.machine.begin_run(is_alone).map(Handed)
     }
 
-    /// Whether the system has everything up to `handed`.
+    /// Whether the system has all events up to `handed`.
     pub fn has(&self, handed: Handed) -> Outcome<bool> {
-        let image = self.image.as_ref().map_or(Ok(0), Image::done)?;
-        Ok(handed.image <= image && handed.run <= self.machine.run_done()?)
+        Ok(handed.0 <= self.machine.run_done()?)
     }
 
-    /// Waits until the system has it.
+    /// Waits until the system has them.
     pub fn wait_for(&self, handed: Handed) -> Outcome<()> {
-        self.image.as_ref().map_or(Ok(()), |it| it.wait_for(handed.image))?;
-        self.machine.wait_for_run(handed.run)
+        self.machine.wait_for_run(handed.0)
     }
 
     /// Has the disk hold all that happened: blocks and events. Each record of the journal was synced when it was made.
     pub fn sync(&mut self) -> Outcome<()> {
-        self.image.as_mut().map_or(Ok(()), Image::sync)?;
+        self.storage.as_mut().map_or(Ok(()), Storage::sync)?;
         self.machine.sync_run()
     }
 
@@ -247,7 +254,7 @@ impl<'a> Target<'a> {
     /// files.
     pub fn check_files(&self, all: bool) -> Outcome<()> {
         if all {
-            self.image.as_ref().map_or(Ok(()), Image::check)?;
+            self.storage.as_ref().map_or(Ok(()), Storage::check)?;
             return self.journal.as_ref().map_or(Ok(()), Journal::check);
         }
         self.journal.as_ref().map_or(Ok(()), Journal::check_epoch)
@@ -307,6 +314,7 @@ impl<'a> Target<'a> {
             association.queues[usize::from(qid)] = None;
         }
         self.held[index].retain(|held| held.qid != qid);
+        self.drop_waiting(index, Some(qid));
         self.controllers[index].delete_queues(&mut self.machine, qid)
     }
 
@@ -314,6 +322,7 @@ impl<'a> Target<'a> {
     pub fn close_io_queues(&mut self, index: usize) {
         self.held[index].clear();
         self.holds[index] = false;
+        self.drop_waiting(index, None);
         if let Some(association) = &mut self.associations[index] {
             association.reset();
             let lost = association.queues[1..].iter_mut().filter_map(Option::take);

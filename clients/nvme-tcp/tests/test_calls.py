@@ -121,7 +121,7 @@ class Syncs(Gate):
         self.assertEqual(a.set_feature(0x06, 0), 0)
         self.assertEqual([a.write(5, bytes(BLOCK)), b.write(6, bytes(BLOCK)), a.discard((7, 1))], [0] * 3)
         calls = ["writes", "wrote", "syncs", "synced"]
-        self.assertEqual([words[0] for words in self.told()], calls + calls[:2] + calls)
+        self.assertEqual([words[0] for words in self.told()], calls + calls[:2] + ["reserves"] + calls[2:])
 
     def test_a_flush_alone(self) -> None:
         host = self.host()

@@ -9,6 +9,7 @@ from pathlib import Path
 from tests.host import BLOCK, Ended, Host
 from tests.targets import BLOCKS, PROGRAM, TWO_HOSTS, expand
 
+WRITE_FAULT, READ_ERROR = 0x4280, 0x4281
 # No file may become longer than this, or be written after it.
 LIMIT = 100 * BLOCK
 
@@ -44,15 +45,34 @@ class Faults(unittest.TestCase):
         self.assertEqual(self.process.returncode, 2)
         self.assertIn(f'nvmetcp: fault reason="{what}: ', errors)
 
-    def test_an_image(self) -> None:
+    def image(self) -> Path:
         image = self.folder / "disk.img"
         image.write_bytes(bytes(BLOCK * BLOCKS))
+        return image
+
+    def test_an_image(self) -> None:
+        """From the first write that is refused each command on blocks fails, and the others do not."""
+        image = self.image()
         host = self.host("--image", str(image))
+        self.assertEqual(host.write(98, b"\1" * BLOCK), 0)
+        self.assertEqual(host.write(99, b"\2" * BLOCK * 2), WRITE_FAULT)
+        self.assertEqual([host.read(98, 1).status, host.write(0, bytes(BLOCK)), host.flush(), host.discard((0, 8))],
+                         [READ_ERROR, WRITE_FAULT, WRITE_FAULT, WRITE_FAULT])
+        self.assertEqual([host.register(0, 0xa), host.acquire(0xa)], [0, 0])
+        self.process.terminate()
+        _, errors = self.process.communicate(timeout=10)
+        self.assertEqual(self.process.returncode, 2)
+        self.assertEqual(errors.count("repair it and start the target again"), 1)
+        self.assertIn(f'{image}: File too large', errors)
+        self.assertEqual(image.read_bytes()[98 * BLOCK:99 * BLOCK], b"\1" * BLOCK)
+
+    def test_an_image_of_a_kept_run(self) -> None:
+        """A script has no line for a disk that fails, so the target ends without an answer."""
+        host = self.host("--image", str(self.image()), "--script", "/dev/null")
         self.assertEqual(host.write(98, b"\1" * BLOCK), 0)
         with self.assertRaises(Ended):
             host.write(99, b"\2" * BLOCK * 2)
         self.ends("the image")
-        self.assertEqual(image.read_bytes()[98 * BLOCK:99 * BLOCK], b"\1" * BLOCK)
 
     def test_a_journal(self) -> None:
         host = self.host("--state", str(self.folder / "state"))

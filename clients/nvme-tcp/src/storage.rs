@@ -1,0 +1,587 @@
+//! The disk: a file or a block device of any size, of which a bounded part is in memory.
+//!
+//! The library says which blocks a command needs. They are brought from the cache, which has the newest bytes of all
+//! that it has; blocks that it lacks are read by threads, while the command waits and others are executed. What a
+//! command wrote goes into the cache when it is executed, and to the disk by a thread. It is answered when the system
+//! has its blocks. So the order of commands is that of their executions, and nobody reads older bytes.
+//!
+//! A frame of the cache has one write in progress at a time, and zeroes wait for the writes of their frames, so newer
+//! bytes come to the disk after older ones.
+
+mod cache;
+mod file;
+mod frames;
+mod ledger;
+pub mod options;
+pub mod pending;
+mod syncs;
+mod workers;
+
+use crate::association::ConnectionId;
+use crate::fault::{Fault, Outcome};
+use crate::log::warn;
+use crate::nvme::BLOCK;
+use crate::status::WRITE_FAULT;
+use cache::Cache;
+pub use file::{blocks_of, is_read_only, Image};
+use frames::{runs, Extent, Part, FRAME_BYTES};
+use ledger::Ledger;
+pub use ledger::Owed;
+use nvmesim::{Brought, Need};
+use options::Options;
+use std::collections::{HashMap, VecDeque};
+use std::io::{self, ErrorKind};
+use std::mem;
+use std::os::unix::net::UnixStream;
+use std::sync::Arc;
+use syncs::Syncs;
+pub use workers::Disk;
+use workers::{Done, Job, Reading, Workers, Writing};
+
+/// The most bytes of one write.
+const MOST_WRITTEN: usize = 1 << 20;
+/// A write of at most this many bytes is made at once, if the system takes it into its memory and one host is served.
+const SMALL: usize = 16 << 10;
+/// No more commands are taken with this many that wait for writes, this many zeroes, or this many bytes to read.
+const MOST_OPEN: usize = 4096;
+const MOST_ZEROES: usize = 64;
+const MOST_READ: usize = 16 << 20;
+
+/// Zeroes that are in progress, or wait for writes and other zeroes.
+struct Zeroing {
+    extent: Extent,
+    tickets: Vec<u64>,
+    is_running: bool,
+}
+
+/// The disk with its cache.
+pub struct Storage {
+    disk: Arc<dyn Disk>,
+    workers: Workers,
+    cache: Cache,
+    ledger: Ledger,
+    syncs: Syncs,
+    zeroing: Vec<Zeroing>,
+    /// Frames with blocks to write, by their places in the cache, and the numbers of those that are being written.
+    queued: Vec<usize>,
+    writing: Vec<u64>,
+    /// The blocks that commands read which wait for them.
+    asked: HashMap<u64, Extent>,
+    bytes_asked: usize,
+    /// The blocks of a command that are in several frames.
+    room: Vec<u8>,
+    /// What the disk refused, so that its blocks may be older than those that were written.
+    failure: Option<io::Error>,
+    /// Whether a failure ends the target, since a kept run has no line for it.
+    keeps_run: bool,
+    /// What the log calls the disk.
+    name: String,
+    pub options: Options,
+    /// Commands that may be executed now, and answers that wait no more.
+    pub ready: VecDeque<u64>,
+    pub answers: VecDeque<Owed>,
+}
+
+impl Storage {
+    /// Starts the threads of a disk.
+    pub fn start(name: String, disk: Arc<dyn Disk>, options: Options, keeps_run: bool) -> io::Result<Storage> {
+        Ok(Storage {
+            workers: Workers::start(&disk)?,
+            disk,
+            cache: Cache::new(usize::try_from(options.cache).unwrap_or(usize::MAX) / FRAME_BYTES),
+            ledger: Ledger::default(),
+            syncs: Syncs::default(),
+            zeroing: Vec::new(),
+            queued: Vec::new(),
+            writing: Vec::new(),
+            asked: HashMap::new(),
+            bytes_asked: 0,
+            room: Vec::new(),
+            failure: None,
+            keeps_run,
+            name,
+            options,
+            ready: VecDeque::new(),
+            answers: VecDeque::new(),
+        })
+    }
+
+    /// Whether a command of a connection waits for its answer.
+    pub fn owes(&self, connection: ConnectionId) -> bool {
+        let is_of = |it: &Owed| it.connection == connection;
+        self.answers.iter().any(is_of) || self.ledger.owed().any(is_of) || self.syncs.owed().any(is_of)
+    }
+
+    /// Readable when a job of the disk has ended.
+    pub fn bell(&self) -> &UnixStream {
+        &self.workers.bell
+    }
+
+    /// Whether no more commands may be taken until work of the disk ends.
+    pub fn is_full(&self) -> bool {
+        self.failure.is_none()
+            && (!self.cache.has_room()
+                || self.ledger.len() >= MOST_OPEN
+                || self.zeroing.len() >= MOST_ZEROES
+                || self.bytes_asked >= MOST_READ)
+    }
+
+    /// Whether the command with this number can be executed, with what it needs now. If not, it is in `ready` later.
+    pub fn prepare(&mut self, need: Need, id: u64) -> bool {
+        match need {
+            _ if self.failure.is_some() => true,
+            Need::Read { first, blocks } => self.prepare_read(Extent { first, blocks }, id),
+            Need::Flush => self.syncs.has_flushed(id, self.ledger.next()),
+            Need::Write { .. } | Need::Zero { .. } | Need::Nothing => true,
+        }
+    }
+
+    fn prepare_read(&mut self, extent: Extent, id: u64) -> bool {
+        if !self.asked.contains_key(&id) {
+            if self.cache.has(extent) {
+                return true;
+            }
+            self.asked.insert(id, extent);
+            self.bytes_asked += extent.bytes();
+            for part in extent.parts() {
+                let place = self.frame(part.number);
+                self.cache.change(place, |frame| {
+                    frame.users += 1;
+                    frame.failed &= !part.mask();
+                });
+            }
+        }
+        self.read_missing(extent);
+        let mut is_ready = true;
+        for part in extent.parts() {
+            let place = self.frame(part.number);
+            self.cache.change(place, |frame| {
+                if frame.coming & part.mask() != 0 {
+                    is_ready = false;
+                    if !frame.waiting.contains(&id) {
+                        frame.waiting.push(id);
+                    }
+                }
+            });
+        }
+        is_ready
+    }
+
+    /// The place of a frame in the cache. One that comes into it has the zeros that are on their way to the disk.
+    fn frame(&mut self, number: u64) -> usize {
+        if let Some(place) = self.cache.find(number) {
+            return place;
+        }
+        let place = self.cache.take(number);
+        for zeroing in self.zeroing.iter().filter(|it| it.extent.frames().contains(&number)) {
+            let part = zeroing.extent.part(number);
+            self.cache.change(place, |frame| {
+                frame.bytes[part.range()].fill(0);
+                frame.valid |= part.mask();
+            });
+        }
+        place
+    }
+
+    /// Begins to read the blocks that are neither in the cache nor on the way, nor could be read.
+    fn read_missing(&mut self, extent: Extent) {
+        let mut next: Option<Extent> = None;
+        for part in extent.parts() {
+            let place = self.frame(part.number);
+            let missing = self.cache.change(place, |frame| {
+                let missing = frame.missing(part) & !frame.failed;
+                frame.coming |= missing;
+                missing
+            });
+            for run in runs(part.number, missing).map(Part::extent) {
+                match &mut next {
+                    Some(last) if last.end() == run.first => last.blocks += run.blocks,
+                    _ => {
+                        let last = next.replace(run);
+                        last.into_iter().for_each(|it| self.workers.begin(Job::Read(Reading::new(it))));
+                    }
+                }
+            }
+        }
+        next.into_iter().for_each(|it| self.workers.begin(Job::Read(Reading::new(it))));
+    }
+
+    /// The command with this number waits no more: it is executed, or it is gone.
+    pub fn forget(&mut self, id: u64) {
+        self.syncs.forget(id);
+        if let Some(extent) = self.asked.remove(&id) {
+            self.bytes_asked -= extent.bytes();
+            for place in extent.parts().filter_map(|part| self.cache.find(part.number)).collect::<Vec<_>>() {
+                self.cache.change(place, |frame| frame.users -= 1);
+            }
+        }
+    }
+
+    /// The blocks that a command needs, in a room for them. For a Read as many are brought as there are before one that
+    /// can't be read; once the disk has failed there are none. A command that was prepared has flushed.
+    pub fn bring(&mut self, need: Need) -> (&mut [u8], Brought) {
+        let (extent, is_read) = match need {
+            Need::Read { first, blocks } => (Extent { first, blocks }, true),
+            Need::Write { first, blocks } => (Extent { first, blocks }, false),
+            Need::Zero { first, blocks } if self.failure.is_none() => {
+                let extent = Extent { first, blocks };
+                self.room.resize(extent.bytes().max(self.room.len()), 0);
+                return (&mut self.room[..extent.bytes()], Brought { first, blocks: 0, flushes: false });
+            }
+            Need::Zero { .. } | Need::Nothing => return (&mut [], Brought::default()),
+            Need::Flush => return (&mut [], Brought { flushes: self.failure.is_none(), ..Brought::default() }),
+        };
+        let first = extent.first;
+        if self.failure.is_some() {
+            return (&mut [], Brought { first, blocks: 0, flushes: false });
+        }
+        let blocks = if is_read { self.at_hand(extent) } else { 0 };
+        let brought = Brought { first, blocks, flushes: false };
+        let mut parts = extent.parts();
+        if let (Some(part), None) = (parts.next(), parts.next()) {
+            let place = self.frame(part.number);
+            return (self.cache.bytes(place, part), brought);
+        }
+        self.room.resize(extent.bytes().max(self.room.len()), 0);
+        let mut begin = 0;
+        for part in extent.front(blocks).parts() {
+            if let Some(frame) = self.cache.of(part) {
+                let bytes = &frame.bytes[part.range()];
+                self.room[begin..begin + bytes.len()].copy_from_slice(bytes);
+                begin += bytes.len();
+            }
+        }
+        (&mut self.room[..extent.bytes()], brought)
+    }
+
+    /// How many of the first blocks are in the cache.
+    fn at_hand(&self, extent: Extent) -> u64 {
+        let mut count = 0;
+        for part in extent.parts() {
+            let valid = self.cache.of(part).map_or(0, |it| it.valid);
+            let there = (!(valid >> part.from)).trailing_zeros().min(part.to - part.from);
+            count += u64::from(there);
+            if there < part.to - part.from {
+                break;
+            }
+        }
+        count
+    }
+
+    /// Begins a command that may write: its ticket.
+    pub fn open(&mut self) -> u64 {
+        self.ledger.open()
+    }
+
+    /// A command with this ticket was executed over the blocks that were brought for it. The first `at_hand` blocks of
+    /// the room go to the disk if it writes, whatever it is answered.
+    pub fn take(&mut self, need: Need, at_hand: u64, ticket: u64) {
+        match need {
+            _ if self.failure.is_some() => (),
+            Need::Write { first, blocks } => self.take_written(Extent { first, blocks }, at_hand, ticket),
+            Need::Zero { first, blocks } => self.take_zeros(Extent { first, blocks }.front(at_hand), ticket),
+            Need::Read { .. } | Need::Flush | Need::Nothing => (),
+        }
+    }
+
+    fn take_written(&mut self, extent: Extent, at_hand: u64, ticket: u64) {
+        let is_in_room = extent.parts().nth(1).is_some();
+        let mut begin = 0;
+        for part in extent.front(at_hand).parts() {
+            let place = self.frame(part.number);
+            let Storage { cache, room, .. } = self;
+            let is_queued = cache.change(place, |frame| {
+                if is_in_room {
+                    let bytes = part.range().len();
+                    frame.bytes[part.range()].copy_from_slice(&room[begin..begin + bytes]);
+                    begin += bytes;
+                }
+                frame.valid |= part.mask();
+                frame.dirty |= part.mask();
+                frame.failed &= !part.mask();
+                frame.is_recent = true;
+                frame.tickets.push(ticket);
+                mem::replace(&mut frame.is_queued, true)
+            });
+            self.ledger.add(ticket);
+            if !is_queued {
+                self.queued.push(place);
+            }
+        }
+    }
+
+    /// Zeros replace blocks in the cache, and on the disk later. Blocks that were to be written are zeros instead.
+    fn take_zeros(&mut self, extent: Extent, ticket: u64) {
+        if extent.blocks == 0 {
+            return;
+        }
+        let mut tickets = vec![ticket];
+        self.ledger.add(ticket);
+        for part in extent.parts() {
+            if let Some(place) = self.cache.find(part.number) {
+                self.cache.change(place, |frame| {
+                    frame.bytes[part.range()].fill(0);
+                    frame.valid |= part.mask();
+                    frame.dirty &= !part.mask();
+                    frame.failed &= !part.mask();
+                    if frame.dirty == 0 {
+                        tickets.append(&mut frame.tickets);
+                    }
+                });
+            }
+        }
+        self.zeroing.push(Zeroing { extent, tickets, is_running: false });
+    }
+
+    /// A command with this ticket is answered so: later, unless nothing of it is on its way to the disk. Then the
+    /// answer is given back.
+    pub fn close(&mut self, ticket: u64, owed: Owed) -> Option<Owed> {
+        let is_synced = owed.is_synced;
+        let owed = self.ledger.close(ticket, owed)?;
+        if is_synced && self.failure.is_none() {
+            self.syncs.owe(owed);
+            return None;
+        }
+        Some(owed)
+    }
+
+    /// Begins what can begin of writes, zeroes and syncs. If one host alone is served, small writes into the system's
+    /// memory are made at once: that is faster than to wake a thread.
+    pub fn begin(&mut self, is_alone: bool) -> Outcome<()> {
+        if self.failure.is_some() {
+            return Ok(());
+        }
+        if !self.queued.is_empty() {
+            self.begin_writes(is_alone)?;
+        }
+        if !self.zeroing.is_empty() {
+            self.begin_zeros();
+        }
+        let Storage { syncs, ledger, workers, .. } = self;
+        if syncs.begin(|ticket| ledger.has_all_before(ticket)) {
+            workers.begin(Job::Sync);
+        }
+        Ok(())
+    }
+
+    fn begin_writes(&mut self, is_alone: bool) -> Outcome<()> {
+        let mut queued = mem::take(&mut self.queued);
+        queued.sort_unstable_by_key(|place| self.cache.at(*place).number);
+        let mut group: Vec<usize> = Vec::new();
+        for place in queued {
+            let number = self.cache.at(place).number;
+            if !self.may_write(place) {
+                continue;
+            }
+            let is_next = group.last().map_or(true, |last| self.cache.at(*last).number + 1 == number);
+            if !is_next || (group.len() + 1) * FRAME_BYTES > MOST_WRITTEN {
+                self.write(&mem::take(&mut group), is_alone)?;
+            }
+            group.push(place);
+        }
+        if !group.is_empty() {
+            self.write(&group, is_alone)?;
+        }
+        Ok(())
+    }
+
+    /// Takes a frame out of the queue; whether it may be written now. If not, it is queued again when the work that it
+    /// waits for has ended.
+    fn may_write(&mut self, place: usize) -> bool {
+        let (number, may) = self.cache.change(place, |frame| {
+            frame.is_queued = false;
+            (frame.number, frame.dirty != 0 && !frame.is_writing)
+        });
+        may && !self.zeroing.iter().any(|it| it.extent.frames().contains(&number))
+    }
+
+    /// Writes the dirty blocks of frames one after the other.
+    fn write(&mut self, places: &[usize], is_alone: bool) -> Outcome<()> {
+        let blocks: u32 = places.iter().map(|place| self.cache.at(*place).dirty.count_ones()).sum();
+        let mut writing = Writing::new(blocks as usize * BLOCK as usize);
+        for place in places {
+            let number = self.cache.change(*place, |frame| {
+                runs(frame.number, frame.dirty).for_each(|part| writing.put(part, &frame.bytes[part.range()]));
+                frame.dirty = 0;
+                frame.is_writing = true;
+                writing.tickets.append(&mut frame.tickets);
+                frame.number
+            });
+            self.writing.push(number);
+        }
+        writing.frames.extend_from_slice(places);
+        if is_alone && writing.length <= SMALL && self.disk.is_cached() {
+            let result = writing.write(&*self.disk);
+            return self.finish(Done { job: Job::Write(writing), result });
+        }
+        self.workers.begin(Job::Write(writing));
+        Ok(())
+    }
+
+    fn begin_zeros(&mut self) {
+        for at in 0..self.zeroing.len() {
+            let extent = self.zeroing[at].extent;
+            let is_held = self.zeroing[at].is_running
+                || self.zeroing[..at].iter().any(|it| it.extent.meets(extent))
+                || self.writing.iter().any(|number| extent.frames().contains(number));
+            if !is_held {
+                self.zeroing[at].is_running = true;
+                self.workers.begin(Job::Zero(extent));
+            }
+        }
+    }
+
+    /// Takes back the jobs that have ended.
+    pub fn take_finished(&mut self) -> Outcome<()> {
+        self.workers.hear();
+        while let Some(done) = self.workers.take() {
+            self.finish(done)?;
+        }
+        Ok(())
+    }
+
+    fn finish(&mut self, done: Done) -> Outcome<()> {
+        let failure = match done.job {
+            Job::Read(reading) => return self.finish_read(&reading, done.result),
+            Job::Write(writing) => {
+                self.finish_write(&writing, done.result.is_ok());
+                done.result.err()
+            }
+            Job::Zero(extent) => {
+                self.finish_zeros(extent, done.result.is_ok());
+                done.result.err()
+            }
+            Job::Sync => {
+                if done.result.is_ok() && self.failure.is_none() {
+                    let (owed, ready) = self.syncs.pass();
+                    self.answers.extend(owed);
+                    self.ready.extend(ready);
+                }
+                done.result.err()
+            }
+        };
+        failure.map_or(Ok(()), |error| self.fail(error))
+    }
+
+    fn finish_read(&mut self, reading: &Reading, result: io::Result<()>) -> Outcome<()> {
+        let mut begin = 0;
+        for part in reading.extent.parts() {
+            let range = begin..begin + (part.to - part.from) as usize;
+            begin = range.end;
+            let place = self.frame(part.number);
+            let waiting = self.cache.change(place, |frame| {
+                for (block, at) in (part.from..part.to).zip(range) {
+                    let part = Part { number: part.number, from: block, to: block + 1 };
+                    frame.coming &= !part.mask();
+                    if frame.valid & part.mask() == 0 && !reading.failed[at] {
+                        let bytes = at * BLOCK as usize..(at + 1) * BLOCK as usize;
+                        frame.bytes[part.range()].copy_from_slice(&reading.bytes[bytes]);
+                        frame.valid |= part.mask();
+                    } else if frame.valid & part.mask() == 0 {
+                        frame.failed |= part.mask();
+                    }
+                }
+                mem::take(&mut frame.waiting)
+            });
+            self.ready.extend(waiting);
+        }
+        match result {
+            Err(error) if self.keeps_run => Err(Fault::Image(error)),
+            Err(error) => {
+                warn(format_args!("{}: blocks of {:?} can't be read: {error}", self.name, reading.extent));
+                Ok(())
+            }
+            Ok(()) => Ok(()),
+        }
+    }
+
+    fn finish_write(&mut self, writing: &Writing, has_succeeded: bool) {
+        for place in &writing.frames {
+            let (number, is_queued) = self.cache.change(*place, |frame| {
+                frame.is_writing = false;
+                (frame.number, frame.dirty == 0 || mem::replace(&mut frame.is_queued, true))
+            });
+            self.writing.retain(|it| *it != number);
+            if !is_queued {
+                self.queued.push(*place);
+            }
+        }
+        if has_succeeded {
+            self.end(&writing.tickets);
+        }
+    }
+
+    fn finish_zeros(&mut self, extent: Extent, has_succeeded: bool) {
+        let found = self.zeroing.iter().position(|it| it.is_running && it.extent == extent);
+        let zeroing = match found {
+            Some(at) => self.zeroing.remove(at),
+            None => return,
+        };
+        for number in extent.frames() {
+            if let Some(place) = self.cache.find(number) {
+                let is_queued = self.cache.change(place, |it| it.dirty == 0 || mem::replace(&mut it.is_queued, true));
+                if !is_queued {
+                    self.queued.push(place);
+                }
+            }
+        }
+        if has_succeeded {
+            self.end(&zeroing.tickets);
+        }
+    }
+
+    /// The system has a write of each of these commands.
+    fn end(&mut self, tickets: &[u64]) {
+        for ticket in tickets {
+            match self.ledger.end(*ticket) {
+                Some(owed) if owed.is_synced && self.failure.is_none() => self.syncs.owe(owed),
+                owed => self.answers.extend(owed),
+            }
+        }
+    }
+
+    /// The disk has refused a write or a sync. The answers that wait for it are Write Fault, and from now on no block is
+    /// brought: each command on blocks fails. Another program's change of the file ends the target, and so does every
+    /// failure while the run is kept.
+    fn fail(&mut self, error: io::Error) -> Outcome<()> {
+        if self.keeps_run || error.kind() == ErrorKind::InvalidData {
+            return Err(Fault::Image(error));
+        }
+        if self.failure.is_some() {
+            return Ok(());
+        }
+        let end = "all commands on blocks fail from now on; repair it and start the target again";
+        warn(format_args!("{}: {error}; {end}", self.name));
+        self.failure = Some(error);
+        let (owed, flushes) = self.syncs.give_up();
+        for mut it in self.ledger.give_up().into_iter().chain(owed) {
+            it.answer.status = WRITE_FAULT;
+            self.answers.push_back(it);
+        }
+        self.ready.extend(flushes);
+        self.ready.extend(self.asked.keys());
+        self.queued.clear();
+        Ok(())
+    }
+
+    /// An error if another program has cut, replaced, renamed or removed the file.
+    pub fn check(&self) -> Outcome<()> {
+        self.disk.check().map_err(Fault::Image)
+    }
+
+    /// Waits until the disk has all blocks, at the end.
+    pub fn sync(&mut self) -> Outcome<()> {
+        self.begin(false)?;
+        while self.workers.under_way != 0 {
+            match self.workers.wait() {
+                Some(done) => self.finish(done)?,
+                None => break,
+            }
+            self.begin(false)?;
+        }
+        match self.failure.take() {
+            Some(error) => Err(Fault::Image(error)),
+            None => self.disk.sync().map_err(Fault::Image),
+        }
+    }
+}

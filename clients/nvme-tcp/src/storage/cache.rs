@@ -1,0 +1,165 @@
+//! The frames of the disk that are in memory, at most a fixed number of them. A frame that no command and no work of
+//! the disk needs is replaced by the CLOCK algorithm: the hand passes frames that were used since it came by last.
+
+use super::frames::{Extent, Frame, Part, MOST_PARTS};
+use std::collections::HashMap;
+use std::hash::{BuildHasherDefault, Hasher};
+
+/// Mixes a number, which is all that is hashed here.
+#[derive(Default)]
+pub struct Mixer(u64);
+
+impl Hasher for Mixer {
+    fn finish(&self) -> u64 {
+        self.0
+    }
+
+    fn write(&mut self, bytes: &[u8]) {
+        bytes.iter().for_each(|it| self.write_u64((*it).into()));
+    }
+
+    fn write_u64(&mut self, number: u64) {
+        let mixed = (self.0 ^ number).wrapping_mul(0x9e37_79b9_7f4a_7c15);
+        self.0 = mixed ^ mixed >> 32;
+    }
+}
+
+/// The frames in memory.
+pub struct Cache {
+    frames: Vec<Frame>,
+    places: HashMap<u64, usize, BuildHasherDefault<Mixer>>,
+    most: usize,
+    /// How many frames must stay.
+    busy: usize,
+    hand: usize,
+}
+
+impl Cache {
+    /// A cache of at most this many frames, which is at least enough for a few commands.
+    pub fn new(most: usize) -> Cache {
+        let most = most.max(4 * MOST_PARTS);
+        Cache { frames: Vec::new(), places: HashMap::default(), most, busy: 0, hand: 0 }
+    }
+
+    /// The place of a frame, if it is in memory.
+    pub fn find(&self, number: u64) -> Option<usize> {
+        self.places.get(&number).copied()
+    }
+
+    pub fn at(&self, place: usize) -> &Frame {
+        &self.frames[place]
+    }
+
+    /// The bytes of a part of a frame, for a command that is executed over them.
+    pub fn bytes(&mut self, place: usize, part: Part) -> &mut [u8] {
+        let frame = &mut self.frames[place];
+        frame.is_recent = true;
+        &mut frame.bytes[part.range()]
+    }
+
+    /// The frame of a part of an extent, if it is in memory.
+    pub fn of(&self, part: Part) -> Option<&Frame> {
+        self.find(part.number).map(|place| &self.frames[place])
+    }
+
+    /// Whether all blocks are in memory.
+    pub fn has(&self, extent: Extent) -> bool {
+        extent.parts().all(|part| self.of(part).map_or(false, |it| part.mask() & !it.valid == 0))
+    }
+
+    /// Changes a frame, and counts it again if it must stay.
+    pub fn change<R>(&mut self, place: usize, act: impl FnOnce(&mut Frame) -> R) -> R {
+        let frame = &mut self.frames[place];
+        let result = act(frame);
+        let is_busy = frame.must_stay();
+        if is_busy != frame.is_busy {
+            frame.is_busy = is_busy;
+            self.busy = if is_busy { self.busy + 1 } else { self.busy - 1 };
+        }
+        result
+    }
+
+    /// Whether any command can get its frames.
+    pub fn has_room(&self) -> bool {
+        self.busy + MOST_PARTS <= self.most
+    }
+
+    /// The frame with this number. If it is not in memory it replaces another, and has no valid block.
+    pub fn take(&mut self, number: u64) -> usize {
+        if let Some(place) = self.find(number) {
+            self.frames[place].is_recent = true;
+            return place;
+        }
+        let place = match self.replaceable() {
+            Some(place) => {
+                self.places.remove(&self.frames[place].number);
+                self.frames[place].become_other(number);
+                place
+            }
+            None => {
+                self.frames.push(Frame::new(number));
+                self.frames.len() - 1
+            }
+        };
+        self.places.insert(number, place);
+        place
+    }
+
+    /// A frame to replace, unless there is memory for one more. If all must stay there is none, and the cache grows: the
+    /// target takes no commands without room for them, but those that were held between fetch and execution.
+    fn replaceable(&mut self) -> Option<usize> {
+        if self.frames.len() < self.most || self.busy == self.frames.len() {
+            return None;
+        }
+        loop {
+            self.hand = (self.hand + 1) % self.frames.len();
+            let frame = &mut self.frames[self.hand];
+            if !frame.is_busy && !std::mem::take(&mut frame.is_recent) {
+                return Some(self.hand);
+            }
+        }
+    }
+}
+
+#[cfg(test)]
+mod tests {
+    use super::*;
+
+    #[test]
+    fn frames_are_replaced() {
+        let mut cache = Cache::new(0);
+        let most = cache.most as u64;
+        for number in 0..most {
+            let place = cache.take(number);
+            cache.change(place, |it| it.valid = 1);
+        }
+        for number in [3, 4, 5] {
+            let place = cache.find(number).unwrap();
+            cache.change(place, |it| it.dirty = 1);
+        }
+        for number in most..4 * most {
+            let place = cache.take(number);
+            assert_eq!(cache.at(place).valid, 0);
+        }
+        assert_eq!((cache.frames.len() as u64, cache.busy), (most, 3));
+        assert!((0..most).all(|it| cache.find(it).is_some() == (3..6).contains(&it)));
+        assert!((3 * most + 3..4 * most).all(|it| cache.find(it).is_some()));
+    }
+
+    #[test]
+    fn frames_in_use_stay() {
+        let mut cache = Cache::new(0);
+        let most = cache.most as u64;
+        for number in 0..most {
+            assert_eq!(cache.has_room(), number <= most - MOST_PARTS as u64);
+            let place = cache.take(number);
+            cache.change(place, |it| it.users = 1);
+        }
+        cache.take(most);
+        assert!((0..=most).all(|it| cache.find(it).is_some()) && !cache.has_room());
+        (0..cache.most).for_each(|it| cache.change(it, |it| it.users = 0));
+        assert!(cache.has_room() && cache.busy == 0);
+        (0..9 * most).for_each(|it| drop(cache.take(it)));
+        assert_eq!(cache.frames.len() as u64, most + 1);
+    }
+}

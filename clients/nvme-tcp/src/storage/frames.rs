@@ -1,0 +1,199 @@
+//! Ranges of blocks, and the frames that the cache keeps them in: aligned pieces of the disk of one size, with a bit for
+//! each block.
+
+use crate::nvme::BLOCK;
+use crate::system::Aligned;
+use std::ops::Range;
+
+/// The blocks of a frame, and its bytes.
+pub const FRAME: u32 = 32;
+pub const FRAME_BYTES: usize = FRAME as usize * BLOCK as usize;
+/// The most frames that a command with 128 KiB of data has blocks in.
+pub const MOST_PARTS: usize = 128 * 1024 / FRAME_BYTES + 1;
+
+/// A bit for each block of a frame, the first one lowest.
+pub type Mask = u32;
+
+/// Adjacent blocks of the disk.
+#[derive(Clone, Copy, Debug, PartialEq, Eq)]
+pub struct Extent {
+    pub first: u64,
+    pub blocks: u32,
+}
+
+impl Extent {
+    pub fn end(self) -> u64 {
+        self.first + u64::from(self.blocks)
+    }
+
+    pub fn place(self) -> u64 {
+        self.first * BLOCK
+    }
+
+    pub fn bytes(self) -> usize {
+        self.blocks as usize * BLOCK as usize
+    }
+
+    /// Its first `blocks` blocks.
+    pub fn front(self, blocks: u64) -> Extent {
+        Extent { first: self.first, blocks: u64::from(self.blocks).min(blocks) as u32 }
+    }
+
+    /// The numbers of the frames that it has blocks of.
+    pub fn frames(self) -> Range<u64> {
+        let size = u64::from(FRAME);
+        self.first / size..(self.end() + size - 1) / size
+    }
+
+    /// Its part in one of these frames.
+    pub fn part(self, number: u64) -> Part {
+        let (size, begin) = (u64::from(FRAME), number * u64::from(FRAME));
+        let from = self.first.max(begin) - begin;
+        let to = self.end().min(begin + size) - begin;
+        Part { number, from: from as u32, to: to as u32 }
+    }
+
+    /// Its parts in each frame, in order.
+    pub fn parts(self) -> impl Iterator<Item = Part> {
+        self.frames().map(move |number| self.part(number))
+    }
+
+    /// Whether it has blocks of a frame that the other has blocks of too.
+    pub fn meets(self, other: Extent) -> bool {
+        let (mine, others) = (self.frames(), other.frames());
+        mine.start < others.end && others.start < mine.end
+    }
+}
+
+/// Blocks of one frame, from `from` up to `to`.
+#[derive(Clone, Copy, Debug, PartialEq, Eq)]
+pub struct Part {
+    pub number: u64,
+    pub from: u32,
+    pub to: u32,
+}
+
+impl Part {
+    /// Their bits.
+    pub fn mask(self) -> Mask {
+        let count = self.to - self.from;
+        let ones = if count == FRAME { Mask::MAX } else { (1 << count) - 1 };
+        ones << self.from
+    }
+
+    /// Their bytes in the frame.
+    pub fn range(self) -> Range<usize> {
+        self.from as usize * BLOCK as usize..self.to as usize * BLOCK as usize
+    }
+
+    pub fn extent(self) -> Extent {
+        Extent { first: self.number * u64::from(FRAME) + u64::from(self.from), blocks: self.to - self.from }
+    }
+}
+
+/// The runs of blocks of a frame whose bits are set, in order.
+pub fn runs(number: u64, mask: Mask) -> impl Iterator<Item = Part> {
+    let mut rest = mask;
+    std::iter::from_fn(move || {
+        if rest == 0 {
+            return None;
+        }
+        let from = rest.trailing_zeros();
+        let to = from + (!(rest >> from)).trailing_zeros().min(FRAME - from);
+        let part = Part { number, from, to };
+        rest &= !part.mask();
+        Some(part)
+    })
+}
+
+/// A piece of the disk in memory.
+pub struct Frame {
+    /// Which piece it is.
+    pub number: u64,
+    pub bytes: Aligned,
+    /// Blocks whose newest bytes are here.
+    pub valid: Mask,
+    /// Those of them that no write to the disk has taken yet.
+    pub dirty: Mask,
+    /// Blocks that a read in progress brings, and those that could not be read.
+    pub coming: Mask,
+    pub failed: Mask,
+    /// Whether a write of blocks of it is in progress: only one at a time is.
+    pub is_writing: bool,
+    /// Whether it is in the list of frames to write.
+    pub is_queued: bool,
+    /// How many commands wait for it and need it to stay.
+    pub users: u32,
+    /// Whether it was used since the cache has looked for a frame to replace.
+    pub is_recent: bool,
+    /// Whether the cache counts it as one that can't be replaced.
+    pub is_busy: bool,
+    /// The commands that wait until a read of it ends, and those whose bytes are dirty.
+    pub waiting: Vec<u64>,
+    pub tickets: Vec<u64>,
+}
+
+impl Frame {
+    pub fn new(number: u64) -> Frame {
+        Frame {
+            number,
+            bytes: Aligned::zeros(FRAME_BYTES),
+            valid: 0,
+            dirty: 0,
+            coming: 0,
+            failed: 0,
+            is_writing: false,
+            is_queued: false,
+            users: 0,
+            is_recent: true,
+            is_busy: false,
+            waiting: Vec::new(),
+            tickets: Vec::new(),
+        }
+    }
+
+    /// Whether it must stay in the cache.
+    pub fn must_stay(&self) -> bool {
+        self.dirty != 0 || self.coming != 0 || self.is_writing || self.users != 0
+    }
+
+    /// Blocks that are neither here nor on the way.
+    pub fn missing(&self, part: Part) -> Mask {
+        part.mask() & !self.valid & !self.coming
+    }
+
+    /// Makes it another piece of the disk, of which nothing is known.
+    pub fn become_other(&mut self, number: u64) {
+        self.number = number;
+        (self.valid, self.failed) = (0, 0);
+        self.is_recent = true;
+    }
+}
+
+#[cfg(test)]
+mod tests {
+    use super::*;
+
+    #[test]
+    fn parts_of_extents() {
+        let size = u64::from(FRAME);
+        let parts: Vec<Part> = Extent { first: size - 1, blocks: FRAME + 2 }.parts().collect();
+        assert_eq!(parts[0], Part { number: 0, from: FRAME - 1, to: FRAME });
+        assert_eq!(parts[1], Part { number: 1, from: 0, to: FRAME });
+        assert_eq!(parts[2], Part { number: 2, from: 0, to: 1 });
+        assert_eq!(parts.len(), 3);
+        assert_eq!((parts[1].mask(), parts[2].mask()), (Mask::MAX, 1));
+        assert_eq!(parts.iter().map(|it| it.extent().blocks).sum::<u32>(), FRAME + 2);
+        assert_eq!(parts[0].extent().first, size - 1);
+    }
+
+    #[test]
+    fn runs_of_masks() {
+        let found: Vec<(u32, u32)> = runs(7, 0b1011_0001).map(|it| (it.from, it.to)).collect();
+        assert_eq!(found, [(0, 1), (4, 6), (7, 8)]);
+        assert_eq!(runs(7, Mask::MAX).map(|it| (it.from, it.to)).collect::<Vec<_>>(), [(0, FRAME)]);
+        let last = Part { number: 7, from: FRAME - 1, to: FRAME };
+        assert_eq!(runs(7, last.mask()).collect::<Vec<_>>(), [last]);
+        assert_eq!(runs(7, 0).count(), 0);
+    }
+}

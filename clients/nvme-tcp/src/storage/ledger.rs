@@ -1,0 +1,128 @@
+//! Commands that were executed, and whose blocks the system does not have yet. Each has a ticket, the next number.
+
+use crate::answer::Answer;
+use crate::association::ConnectionId;
+use crate::nvme::ENTRY;
+use std::collections::VecDeque;
+
+/// An answer that waits.
+pub struct Owed {
+    pub connection: ConnectionId,
+    pub entry: [u8; ENTRY],
+    pub answer: Answer,
+    /// Whether the blocks must be synced before it goes.
+    pub is_synced: bool,
+}
+
+/// A command: how many writes and zeroes of it the system does not have, and its answer once that is known.
+struct Line {
+    open: u32,
+    owed: Option<Owed>,
+}
+
+/// The commands by their tickets.
+#[derive(Default)]
+pub struct Ledger {
+    first: u64,
+    lines: VecDeque<Line>,
+}
+
+impl Ledger {
+    /// Begins a command, which is open until its answer is known.
+    pub fn open(&mut self) -> u64 {
+        self.lines.push_back(Line { open: 1, owed: None });
+        self.next() - 1
+    }
+
+    /// The next ticket.
+    pub fn next(&self) -> u64 {
+        self.first + self.lines.len() as u64
+    }
+
+    /// How many commands are open, or came after one that is.
+    pub fn len(&self) -> usize {
+        self.lines.len()
+    }
+
+    /// Whether the system has the blocks of all commands before a ticket.
+    pub fn has_all_before(&self, ticket: u64) -> bool {
+        self.first >= ticket
+    }
+
+    /// A command has one more write.
+    pub fn add(&mut self, ticket: u64) {
+        if let Some(line) = self.line(ticket) {
+            line.open += 1;
+        }
+    }
+
+    /// The answer of a command is known: it is given back if nothing is open.
+    pub fn close(&mut self, ticket: u64, owed: Owed) -> Option<Owed> {
+        self.line(ticket)?.owed = Some(owed);
+        self.end(ticket)
+    }
+
+    /// The system has a write of a command: its answer, if that was the last.
+    pub fn end(&mut self, ticket: u64) -> Option<Owed> {
+        let line = self.line(ticket)?;
+        line.open -= 1;
+        let owed = if line.open == 0 { line.owed.take() } else { None };
+        while self.lines.front().map_or(false, |it| it.open == 0) {
+            self.lines.pop_front();
+            self.first += 1;
+        }
+        owed
+    }
+
+    /// The answers of all commands that are open: none of these gets its blocks to the disk.
+    pub fn give_up(&mut self) -> Vec<Owed> {
+        self.lines.iter_mut().filter_map(|it| it.owed.take()).collect()
+    }
+
+    /// The answers that wait.
+    pub fn owed(&self) -> impl Iterator<Item = &Owed> {
+        self.lines.iter().filter_map(|it| it.owed.as_ref())
+    }
+
+    fn line(&mut self, ticket: u64) -> Option<&mut Line> {
+        self.lines.get_mut(ticket.checked_sub(self.first)? as usize)
+    }
+}
+
+#[cfg(test)]
+mod tests {
+    use super::*;
+    use crate::status::SUCCESS;
+
+    fn owed(connection: u64) -> Owed {
+        Owed { connection, entry: [0; ENTRY], answer: Answer::of(SUCCESS), is_synced: false }
+    }
+
+    #[test]
+    fn answers_wait_for_their_writes() {
+        let mut ledger = Ledger::default();
+        let tickets = [0; 4].map(|_| ledger.open());
+        tickets[..3].iter().for_each(|it| ledger.add(*it));
+        ledger.add(tickets[1]);
+        assert!((0..3).all(|it| ledger.close(tickets[it], owed(it as u64)).is_none()));
+        assert_eq!(ledger.close(tickets[3], owed(3)).map(|it| it.connection), Some(3));
+        assert!(ledger.end(tickets[1]).is_none());
+        assert_eq!(ledger.end(tickets[2]).map(|it| it.connection), Some(2));
+        assert!(!ledger.has_all_before(tickets[1]) && ledger.len() == 4);
+        assert_eq!(ledger.end(tickets[0]).map(|it| it.connection), Some(0));
+        assert!(ledger.has_all_before(tickets[1]) && !ledger.has_all_before(tickets[2]));
+        assert_eq!(ledger.end(tickets[1]).map(|it| it.connection), Some(1));
+        assert!(ledger.has_all_before(ledger.next()) && ledger.len() == 0);
+        assert!(ledger.end(tickets[2]).is_none());
+    }
+
+    #[test]
+    fn answers_are_given_up() {
+        let mut ledger = Ledger::default();
+        let ticket = ledger.open();
+        ledger.add(ticket);
+        assert!(ledger.close(ticket, owed(7)).is_none());
+        assert_eq!(ledger.give_up().len(), 1);
+        assert!(ledger.end(ticket).is_none() && ledger.len() == 0);
+    }
+}
