@@ -4,55 +4,43 @@
 //! that it has; blocks that it lacks are read by threads, while the command waits and others are executed. What a
 //! command wrote goes into the cache when it is executed, and to the disk by a thread. It is answered when the system
 //! has its blocks. So the order of commands is that of their executions, and nobody reads older bytes.
-//!
-//! A frame of the cache has one write in progress at a time, and zeroes wait for the writes of their frames, so newer
-//! bytes come to the disk after older ones.
 
+mod aligned;
 mod cache;
 mod file;
 mod frames;
 mod ledger;
 pub mod options;
 pub mod pending;
+mod reading;
 mod syncs;
 mod workers;
+mod writing;
 
 use crate::association::ConnectionId;
 use crate::fault::{Fault, Outcome};
 use crate::log::warn;
-use crate::nvme::BLOCK;
 use crate::status::WRITE_FAULT;
 use cache::Cache;
 pub use file::{blocks_of, is_read_only, Image};
-use frames::{runs, Extent, Part, FRAME_BYTES};
+use frames::{Extent, FRAME_BYTES};
 use ledger::Ledger;
 pub use ledger::Owed;
 use nvmesim::{Brought, Need};
 use options::Options;
 use std::collections::{HashMap, VecDeque};
 use std::io::{self, ErrorKind};
-use std::mem;
 use std::os::unix::net::UnixStream;
 use std::sync::Arc;
 use syncs::Syncs;
 pub use workers::Disk;
-use workers::{Done, Job, Reading, Workers, Writing};
+use workers::{Done, Job, Workers};
+use writing::Zeroing;
 
-/// The most bytes of one write.
-const MOST_WRITTEN: usize = 1 << 20;
-/// A write of at most this many bytes is made at once, if the system takes it into its memory and one host is served.
-const SMALL: usize = 16 << 10;
 /// No more commands are taken with this many that wait for writes, this many zeroes, or this many bytes to read.
 const MOST_OPEN: usize = 4096;
 const MOST_ZEROES: usize = 64;
 const MOST_READ: usize = 16 << 20;
-
-/// Zeroes that are in progress, or wait for writes and other zeroes.
-struct Zeroing {
-    extent: Extent,
-    tickets: Vec<u64>,
-    is_running: bool,
-}
 
 /// The disk with its cache.
 pub struct Storage {
@@ -136,37 +124,6 @@ impl Storage {
         }
     }
 
-    fn prepare_read(&mut self, extent: Extent, id: u64) -> bool {
-        if !self.asked.contains_key(&id) {
-            if self.cache.has(extent) {
-                return true;
-            }
-            self.asked.insert(id, extent);
-            self.bytes_asked += extent.bytes();
-            for part in extent.parts() {
-                let place = self.frame(part.number);
-                self.cache.change(place, |frame| {
-                    frame.users += 1;
-                    frame.failed &= !part.mask();
-                });
-            }
-        }
-        self.read_missing(extent);
-        let mut is_ready = true;
-        for part in extent.parts() {
-            let place = self.frame(part.number);
-            self.cache.change(place, |frame| {
-                if frame.coming & part.mask() != 0 {
-                    is_ready = false;
-                    if !frame.waiting.contains(&id) {
-                        frame.waiting.push(id);
-                    }
-                }
-            });
-        }
-        is_ready
-    }
-
     /// The place of a frame in the cache. One that comes into it has the zeros that are on their way to the disk.
     fn frame(&mut self, number: u64) -> usize {
         if let Some(place) = self.cache.find(number) {
@@ -174,36 +131,9 @@ impl Storage {
         }
         let place = self.cache.take(number);
         for zeroing in self.zeroing.iter().filter(|it| it.extent.frames().contains(&number)) {
-            let part = zeroing.extent.part(number);
-            self.cache.change(place, |frame| {
-                frame.bytes[part.range()].fill(0);
-                frame.valid |= part.mask();
-            });
+            self.cache.zero(place, zeroing.extent.part(number));
         }
         place
-    }
-
-    /// Begins to read the blocks that are neither in the cache nor on the way, nor could be read.
-    fn read_missing(&mut self, extent: Extent) {
-        let mut next: Option<Extent> = None;
-        for part in extent.parts() {
-            let place = self.frame(part.number);
-            let missing = self.cache.change(place, |frame| {
-                let missing = frame.missing(part) & !frame.failed;
-                frame.coming |= missing;
-                missing
-            });
-            for run in runs(part.number, missing).map(Part::extent) {
-                match &mut next {
-                    Some(last) if last.end() == run.first => last.blocks += run.blocks,
-                    _ => {
-                        let last = next.replace(run);
-                        last.into_iter().for_each(|it| self.workers.begin(Job::Read(Reading::new(it))));
-                    }
-                }
-            }
-        }
-        next.into_iter().for_each(|it| self.workers.begin(Job::Read(Reading::new(it))));
     }
 
     /// The command with this number waits no more: it is executed, or it is gone.
@@ -240,16 +170,15 @@ impl Storage {
         let mut parts = extent.parts();
         if let (Some(part), None) = (parts.next(), parts.next()) {
             let place = self.frame(part.number);
-            return (self.cache.bytes(place, part), brought);
+            return (self.cache.bytes_mut(place, part), brought);
         }
         self.room.resize(extent.bytes().max(self.room.len()), 0);
         let mut begin = 0;
         for part in extent.front(blocks).parts() {
-            if let Some(frame) = self.cache.of(part) {
-                let bytes = &frame.bytes[part.range()];
-                self.room[begin..begin + bytes.len()].copy_from_slice(bytes);
-                begin += bytes.len();
-            }
+            let place = self.frame(part.number);
+            let bytes = self.cache.bytes(place, part);
+            self.room[begin..begin + bytes.len()].copy_from_slice(bytes);
+            begin += bytes.len();
         }
         (&mut self.room[..extent.bytes()], brought)
     }
@@ -284,55 +213,6 @@ impl Storage {
         }
     }
 
-    fn take_written(&mut self, extent: Extent, at_hand: u64, ticket: u64) {
-        let is_in_room = extent.parts().nth(1).is_some();
-        let mut begin = 0;
-        for part in extent.front(at_hand).parts() {
-            let place = self.frame(part.number);
-            let Storage { cache, room, .. } = self;
-            let is_queued = cache.change(place, |frame| {
-                if is_in_room {
-                    let bytes = part.range().len();
-                    frame.bytes[part.range()].copy_from_slice(&room[begin..begin + bytes]);
-                    begin += bytes;
-                }
-                frame.valid |= part.mask();
-                frame.dirty |= part.mask();
-                frame.failed &= !part.mask();
-                frame.is_recent = true;
-                frame.tickets.push(ticket);
-                mem::replace(&mut frame.is_queued, true)
-            });
-            self.ledger.add(ticket);
-            if !is_queued {
-                self.queued.push(place);
-            }
-        }
-    }
-
-    /// Zeros replace blocks in the cache, and on the disk later. Blocks that were to be written are zeros instead.
-    fn take_zeros(&mut self, extent: Extent, ticket: u64) {
-        if extent.blocks == 0 {
-            return;
-        }
-        let mut tickets = vec![ticket];
-        self.ledger.add(ticket);
-        for part in extent.parts() {
-            if let Some(place) = self.cache.find(part.number) {
-                self.cache.change(place, |frame| {
-                    frame.bytes[part.range()].fill(0);
-                    frame.valid |= part.mask();
-                    frame.dirty &= !part.mask();
-                    frame.failed &= !part.mask();
-                    if frame.dirty == 0 {
-                        tickets.append(&mut frame.tickets);
-                    }
-                });
-            }
-        }
-        self.zeroing.push(Zeroing { extent, tickets, is_running: false });
-    }
-
     /// A command with this ticket is answered so: later, unless nothing of it is on its way to the disk. Then the
     /// answer is given back.
     pub fn close(&mut self, ticket: u64, owed: Owed) -> Option<Owed> {
@@ -362,73 +242,6 @@ impl Storage {
             workers.begin(Job::Sync);
         }
         Ok(())
-    }
-
-    fn begin_writes(&mut self, is_alone: bool) -> Outcome<()> {
-        let mut queued = mem::take(&mut self.queued);
-        queued.sort_unstable_by_key(|place| self.cache.at(*place).number);
-        let mut group: Vec<usize> = Vec::new();
-        for place in queued {
-            let number = self.cache.at(place).number;
-            if !self.may_write(place) {
-                continue;
-            }
-            let is_next = group.last().map_or(true, |last| self.cache.at(*last).number + 1 == number);
-            if !is_next || (group.len() + 1) * FRAME_BYTES > MOST_WRITTEN {
-                self.write(&mem::take(&mut group), is_alone)?;
-            }
-            group.push(place);
-        }
-        if !group.is_empty() {
-            self.write(&group, is_alone)?;
-        }
-        Ok(())
-    }
-
-    /// Takes a frame out of the queue; whether it may be written now. If not, it is queued again when the work that it
-    /// waits for has ended.
-    fn may_write(&mut self, place: usize) -> bool {
-        let (number, may) = self.cache.change(place, |frame| {
-            frame.is_queued = false;
-            (frame.number, frame.dirty != 0 && !frame.is_writing)
-        });
-        may && !self.zeroing.iter().any(|it| it.extent.frames().contains(&number))
-    }
-
-    /// Writes the dirty blocks of frames one after the other.
-    fn write(&mut self, places: &[usize], is_alone: bool) -> Outcome<()> {
-        let blocks: u32 = places.iter().map(|place| self.cache.at(*place).dirty.count_ones()).sum();
-        let mut writing = Writing::new(blocks as usize * BLOCK as usize);
-        for place in places {
-            let number = self.cache.change(*place, |frame| {
-                runs(frame.number, frame.dirty).for_each(|part| writing.put(part, &frame.bytes[part.range()]));
-                frame.dirty = 0;
-                frame.is_writing = true;
-                writing.tickets.append(&mut frame.tickets);
-                frame.number
-            });
-            self.writing.push(number);
-        }
-        writing.frames.extend_from_slice(places);
-        if is_alone && writing.length <= SMALL && self.disk.is_cached() {
-            let result = writing.write(&*self.disk);
-            return self.finish(Done { job: Job::Write(writing), result });
-        }
-        self.workers.begin(Job::Write(writing));
-        Ok(())
-    }
-
-    fn begin_zeros(&mut self) {
-        for at in 0..self.zeroing.len() {
-            let extent = self.zeroing[at].extent;
-            let is_held = self.zeroing[at].is_running
-                || self.zeroing[..at].iter().any(|it| it.extent.meets(extent))
-                || self.writing.iter().any(|number| extent.frames().contains(number));
-            if !is_held {
-                self.zeroing[at].is_running = true;
-                self.workers.begin(Job::Zero(extent));
-            }
-        }
     }
 
     /// Takes back the jobs that have ended.
@@ -461,73 +274,6 @@ impl Storage {
             }
         };
         failure.map_or(Ok(()), |error| self.fail(error))
-    }
-
-    fn finish_read(&mut self, reading: &Reading, result: io::Result<()>) -> Outcome<()> {
-        let mut begin = 0;
-        for part in reading.extent.parts() {
-            let range = begin..begin + (part.to - part.from) as usize;
-            begin = range.end;
-            let place = self.frame(part.number);
-            let waiting = self.cache.change(place, |frame| {
-                for (block, at) in (part.from..part.to).zip(range) {
-                    let part = Part { number: part.number, from: block, to: block + 1 };
-                    frame.coming &= !part.mask();
-                    if frame.valid & part.mask() == 0 && !reading.failed[at] {
-                        let bytes = at * BLOCK as usize..(at + 1) * BLOCK as usize;
-                        frame.bytes[part.range()].copy_from_slice(&reading.bytes[bytes]);
-                        frame.valid |= part.mask();
-                    } else if frame.valid & part.mask() == 0 {
-                        frame.failed |= part.mask();
-                    }
-                }
-                mem::take(&mut frame.waiting)
-            });
-            self.ready.extend(waiting);
-        }
-        match result {
-            Err(error) if self.keeps_run => Err(Fault::Image(error)),
-            Err(error) => {
-                warn(format_args!("{}: blocks of {:?} can't be read: {error}", self.name, reading.extent));
-                Ok(())
-            }
-            Ok(()) => Ok(()),
-        }
-    }
-
-    fn finish_write(&mut self, writing: &Writing, has_succeeded: bool) {
-        for place in &writing.frames {
-            let (number, is_queued) = self.cache.change(*place, |frame| {
-                frame.is_writing = false;
-                (frame.number, frame.dirty == 0 || mem::replace(&mut frame.is_queued, true))
-            });
-            self.writing.retain(|it| *it != number);
-            if !is_queued {
-                self.queued.push(*place);
-            }
-        }
-        if has_succeeded {
-            self.end(&writing.tickets);
-        }
-    }
-
-    fn finish_zeros(&mut self, extent: Extent, has_succeeded: bool) {
-        let found = self.zeroing.iter().position(|it| it.is_running && it.extent == extent);
-        let zeroing = match found {
-            Some(at) => self.zeroing.remove(at),
-            None => return,
-        };
-        for number in extent.frames() {
-            if let Some(place) = self.cache.find(number) {
-                let is_queued = self.cache.change(place, |it| it.dirty == 0 || mem::replace(&mut it.is_queued, true));
-                if !is_queued {
-                    self.queued.push(place);
-                }
-            }
-        }
-        if has_succeeded {
-            self.end(&zeroing.tickets);
-        }
     }
 
     /// The system has a write of each of these commands.

@@ -4,14 +4,11 @@
 //!
 //! Why it is safe: `Event` has the layout of the kernel's `struct epoll_event` on x86-64, which is packed; arrays and
 //! values have the lengths that the calls are given; and nobody else owns a descriptor that a call has returned. The
-//! signal handler stores to an atomic value and calls signal(2), as a handler may. The pages of `Aligned` are plain bytes
-//! one after the other, without padding.
+//! signal handler stores to an atomic value and calls signal(2), as a handler may.
 
 use std::fs::File;
 use std::io;
-use std::ops::{Deref, DerefMut};
 use std::os::unix::io::{AsRawFd, FromRawFd, OwnedFd, RawFd};
-use std::slice;
 use std::sync::atomic::{AtomicBool, Ordering};
 
 /// What a descriptor is waited for.
@@ -149,38 +146,6 @@ pub fn punch_hole(file: &File, place: u64, count: u64) -> io::Result<()> {
     match unsafe { fallocate(file.as_raw_fd(), KEEP_LENGTH | PUNCH_HOLE, place as i64, count as i64) } {
         0 => Ok(()),
         _ => Err(io::Error::last_os_error()),
-    }
-}
-
-/// The size of a page, at a multiple of which memory begins for O_DIRECT.
-pub const PAGE: usize = 4096;
-
-#[repr(C, align(4096))]
-#[derive(Clone)]
-struct Page([u8; PAGE]);
-
-/// Bytes that begin at a multiple of a page, as O_DIRECT requires.
-#[derive(Clone, Default)]
-pub struct Aligned(Vec<Page>);
-
-impl Aligned {
-    /// Zeros, `count` bytes rounded up to whole pages.
-    pub fn zeros(count: usize) -> Aligned {
-        Aligned(vec![Page([0; PAGE]); (count + PAGE - 1) / PAGE])
-    }
-}
-
-impl Deref for Aligned {
-    type Target = [u8];
-
-    fn deref(&self) -> &[u8] {
-        unsafe { slice::from_raw_parts(self.0.as_ptr().cast(), self.0.len() * PAGE) }
-    }
-}
-
-impl DerefMut for Aligned {
-    fn deref_mut(&mut self) -> &mut [u8] {
-        unsafe { slice::from_raw_parts_mut(self.0.as_mut_ptr().cast(), self.0.len() * PAGE) }
     }
 }
 

@@ -1,7 +1,7 @@
 //! The frames of the disk that are in memory, at most a fixed number of them. A frame that no command and no work of
 //! the disk needs is replaced by the CLOCK algorithm: the hand passes frames that were used since it came by last.
 
-use super::frames::{Extent, Frame, Part, MOST_PARTS};
+use super::frames::{Extent, Frame, Part, FRAME_BYTES, MOST_PARTS};
 use std::collections::HashMap;
 use std::hash::{BuildHasherDefault, Hasher};
 
@@ -27,6 +27,8 @@ impl Hasher for Mixer {
 /// The frames in memory.
 pub struct Cache {
     frames: Vec<Frame>,
+    /// Their bytes, one frame after the other. The system has memory only for those that were in use.
+    bytes: Vec<u8>,
     places: HashMap<u64, usize, BuildHasherDefault<Mixer>>,
     most: usize,
     /// How many frames must stay.
@@ -38,7 +40,8 @@ impl Cache {
     /// A cache of at most this many frames, which is at least enough for a few commands.
     pub fn new(most: usize) -> Cache {
         let most = most.max(4 * MOST_PARTS);
-        Cache { frames: Vec::new(), places: HashMap::default(), most, busy: 0, hand: 0 }
+        let bytes = vec![0; most * FRAME_BYTES];
+        Cache { frames: Vec::new(), bytes, places: HashMap::default(), most, busy: 0, hand: 0 }
     }
 
     /// The place of a frame, if it is in memory.
@@ -50,11 +53,15 @@ impl Cache {
         &self.frames[place]
     }
 
-    /// The bytes of a part of a frame, for a command that is executed over them.
-    pub fn bytes(&mut self, place: usize, part: Part) -> &mut [u8] {
-        let frame = &mut self.frames[place];
-        frame.is_recent = true;
-        &mut frame.bytes[part.range()]
+    /// The bytes of a part of a frame.
+    pub fn bytes(&self, place: usize, part: Part) -> &[u8] {
+        &self.bytes[place * FRAME_BYTES..][part.range()]
+    }
+
+    /// The same, for a command that is executed over them.
+    pub fn bytes_mut(&mut self, place: usize, part: Part) -> &mut [u8] {
+        self.frames[place].is_recent = true;
+        &mut self.bytes[place * FRAME_BYTES..][part.range()]
     }
 
     /// The frame of a part of an extent, if it is in memory.
@@ -65,6 +72,25 @@ impl Cache {
     /// Whether all blocks are in memory.
     pub fn has(&self, extent: Extent) -> bool {
         extent.parts().all(|part| self.of(part).map_or(false, |it| part.mask() & !it.valid == 0))
+    }
+
+    /// Blocks of a frame are valid from now on, and these are their bytes.
+    pub fn put(&mut self, place: usize, part: Part, bytes: &[u8]) {
+        self.bytes_mut(place, part).copy_from_slice(bytes);
+        self.make_valid(place, part);
+    }
+
+    /// Blocks of a frame are zeros from now on.
+    pub fn zero(&mut self, place: usize, part: Part) {
+        self.bytes_mut(place, part).fill(0);
+        self.make_valid(place, part);
+    }
+
+    /// Blocks of a frame are valid from now on.
+    pub fn make_valid(&mut self, place: usize, part: Part) {
+        let frame = &mut self.frames[place];
+        frame.valid |= part.mask();
+        frame.failed &= !part.mask();
     }
 
     /// Changes a frame, and counts it again if it must stay.
@@ -98,6 +124,7 @@ impl Cache {
             }
             None => {
                 self.frames.push(Frame::new(number));
+                self.bytes.resize(self.bytes.len().max(self.frames.len() * FRAME_BYTES), 0);
                 self.frames.len() - 1
             }
         };
@@ -159,7 +186,9 @@ mod tests {
         assert!((0..=most).all(|it| cache.find(it).is_some()) && !cache.has_room());
         (0..cache.most).for_each(|it| cache.change(it, |it| it.users = 0));
         assert!(cache.has_room() && cache.busy == 0);
-        (0..9 * most).for_each(|it| drop(cache.take(it)));
+        for number in 0..9 * most {
+            cache.take(number);
+        }
         assert_eq!(cache.frames.len() as u64, most + 1);
     }
 }

@@ -4,11 +4,12 @@
 //! notices a kill between two pages. Blocks do not cross pages, in the file or in the buffer, which begins at a page.
 //! With O_DIRECT the device writes whole sectors.
 
+use super::aligned::{Aligned, PAGE};
 use super::options::Options;
 use super::workers::Disk;
 use crate::locking::{open_disk, open_regular, Lock, ALONE, DIRECT};
 use crate::nvme::BLOCK;
-use crate::system::{punch_hole, Aligned, PAGE};
+use crate::system::punch_hole;
 use crate::watched::{changed, Watched};
 use std::fs::{self, File, OpenOptions};
 use std::io::{self, ErrorKind, Seek, SeekFrom};
@@ -67,11 +68,11 @@ impl Image {
         match options.size {
             Some(size) if size != length => {
                 let text = format!("it exists and has {length} bytes, and --size asks for {size}; leave --size out");
-                return Err(io::Error::new(ErrorKind::AlreadyExists, text));
+                Err(io::Error::new(ErrorKind::AlreadyExists, text))
             }
             _ if options.is_direct && length % UNIT != 0 => {
                 let text = format!("it has {length} bytes, and --direct needs a multiple of {UNIT}");
-                return Err(io::Error::new(ErrorKind::InvalidInput, text));
+                Err(io::Error::new(ErrorKind::InvalidInput, text))
             }
             _ => Ok(Image { path: path.to_owned(), file, locked, length }),
         }

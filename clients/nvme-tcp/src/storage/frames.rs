@@ -2,7 +2,6 @@
 //! each block.
 
 use crate::nvme::BLOCK;
-use crate::system::Aligned;
 use std::ops::Range;
 
 /// The blocks of a frame, and its bytes.
@@ -110,7 +109,6 @@ pub fn runs(number: u64, mask: Mask) -> impl Iterator<Item = Part> {
 pub struct Frame {
     /// Which piece it is.
     pub number: u64,
-    pub bytes: Aligned,
     /// Blocks whose newest bytes are here.
     pub valid: Mask,
     /// Those of them that no write to the disk has taken yet.
@@ -137,7 +135,6 @@ impl Frame {
     pub fn new(number: u64) -> Frame {
         Frame {
             number,
-            bytes: Aligned::zeros(FRAME_BYTES),
             valid: 0,
             dirty: 0,
             coming: 0,

@@ -113,7 +113,7 @@ impl Target<'_> {
         if issued.opcode == DATASET_MANAGEMENT {
             let ticket = self.storage.as_mut().map(|it| it.open());
             let answer = self.deallocate(issued.index, issued.qid, &issued.entry, data, ticket)?;
-            return Ok(ticket.map_or(None, |ticket| self.owe(ticket, &issued, answer)));
+            return Ok(ticket.and_then(|ticket| self.owe(ticket, &issued, answer)));
         }
         let Issued { index, qid, entry, .. } = issued;
         let token = match self.controllers[index].submit(&mut self.machine, qid, &entry, data, Room::AT_ONCE)? {

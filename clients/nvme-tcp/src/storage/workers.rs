@@ -1,8 +1,8 @@
 //! Threads that do the work of the disk, so that the event loop never waits for it.
 
+use super::aligned::Aligned;
 use super::frames::{Extent, Part};
 use crate::nvme::BLOCK;
-use crate::system::Aligned;
 use std::collections::VecDeque;
 use std::io::{self, Read, Write};
 use std::os::unix::net::UnixStream;

@@ -1,0 +1,170 @@
+//! Writes and zeroes: blocks that commands have changed go from the cache to the disk. A frame has one write in progress
+//! at a time, and what overlaps zeroes waits for them, so newer bytes come to the disk after older ones.
+
+use super::frames::{runs, Extent, FRAME_BYTES};
+use super::workers::{Done, Job, Writing};
+use super::Storage;
+use crate::fault::Outcome;
+use crate::nvme::BLOCK;
+use std::mem;
+
+/// The most bytes of one write.
+const MOST_WRITTEN: usize = 1 << 20;
+/// A write of at most this many bytes is made at once, if the system takes it into its memory and one host is served.
+const SMALL: usize = 16 << 10;
+/// Zeroes that are in progress, or wait for writes and other zeroes.
+pub struct Zeroing {
+    pub extent: Extent,
+    tickets: Vec<u64>,
+    is_running: bool,
+}
+
+impl Storage {
+    pub(super) fn take_written(&mut self, extent: Extent, at_hand: u64, ticket: u64) {
+        let is_in_room = extent.parts().nth(1).is_some();
+        let mut begin = 0;
+        for part in extent.front(at_hand).parts() {
+            let place = self.frame(part.number);
+            if is_in_room {
+                let bytes = begin..begin + part.range().len();
+                begin = bytes.end;
+                self.cache.put(place, part, &self.room[bytes]);
+            } else {
+                self.cache.make_valid(place, part);
+            }
+            let is_queued = self.cache.change(place, |frame| {
+                frame.dirty |= part.mask();
+                frame.tickets.push(ticket);
+                mem::replace(&mut frame.is_queued, true)
+            });
+            self.ledger.add(ticket);
+            if !is_queued {
+                self.queued.push(place);
+            }
+        }
+    }
+
+    /// Zeros replace blocks in the cache, and on the disk later. Blocks that were to be written are zeros instead.
+    pub(super) fn take_zeros(&mut self, extent: Extent, ticket: u64) {
+        if extent.blocks == 0 {
+            return;
+        }
+        let mut tickets = vec![ticket];
+        self.ledger.add(ticket);
+        for part in extent.parts() {
+            if let Some(place) = self.cache.find(part.number) {
+                self.cache.zero(place, part);
+                self.cache.change(place, |frame| {
+                    frame.dirty &= !part.mask();
+                    if frame.dirty == 0 {
+                        tickets.append(&mut frame.tickets);
+                    }
+                });
+            }
+        }
+        self.zeroing.push(Zeroing { extent, tickets, is_running: false });
+    }
+
+    pub(super) fn begin_writes(&mut self, is_alone: bool) -> Outcome<()> {
+        let mut queued = mem::take(&mut self.queued);
+        queued.sort_unstable_by_key(|place| self.cache.at(*place).number);
+        let mut group: Vec<usize> = Vec::new();
+        for place in queued {
+            let number = self.cache.at(place).number;
+            if !self.may_write(place) {
+                continue;
+            }
+            let is_next = group.last().map_or(true, |last| self.cache.at(*last).number + 1 == number);
+            if !is_next || (group.len() + 1) * FRAME_BYTES > MOST_WRITTEN {
+                self.write(&mem::take(&mut group), is_alone)?;
+            }
+            group.push(place);
+        }
+        if !group.is_empty() {
+            self.write(&group, is_alone)?;
+        }
+        Ok(())
+    }
+
+    /// Takes a frame out of the queue; whether it may be written now. If not, it is queued again when the work that it
+    /// waits for has ended.
+    fn may_write(&mut self, place: usize) -> bool {
+        let (number, may) = self.cache.change(place, |frame| {
+            frame.is_queued = false;
+            (frame.number, frame.dirty != 0 && !frame.is_writing)
+        });
+        may && !self.zeroing.iter().any(|it| it.extent.frames().contains(&number))
+    }
+
+    /// Writes the dirty blocks of frames one after the other.
+    fn write(&mut self, places: &[usize], is_alone: bool) -> Outcome<()> {
+        let blocks: u32 = places.iter().map(|place| self.cache.at(*place).dirty.count_ones()).sum();
+        let mut writing = Writing::new(blocks as usize * BLOCK as usize);
+        for place in places {
+            let frame = self.cache.at(*place);
+            runs(frame.number, frame.dirty).for_each(|part| writing.put(part, self.cache.bytes(*place, part)));
+            let number = self.cache.change(*place, |frame| {
+                frame.dirty = 0;
+                frame.is_writing = true;
+                writing.tickets.append(&mut frame.tickets);
+                frame.number
+            });
+            self.writing.push(number);
+        }
+        writing.frames.extend_from_slice(places);
+        if is_alone && writing.length <= SMALL && self.disk.is_cached() {
+            let result = writing.write(&*self.disk);
+            return self.finish(Done { job: Job::Write(writing), result });
+        }
+        self.workers.begin(Job::Write(writing));
+        Ok(())
+    }
+
+    pub(super) fn begin_zeros(&mut self) {
+        for at in 0..self.zeroing.len() {
+            let extent = self.zeroing[at].extent;
+            let is_held = self.zeroing[at].is_running
+                || self.zeroing[..at].iter().any(|it| it.extent.meets(extent))
+                || self.writing.iter().any(|number| extent.frames().contains(number));
+            if !is_held {
+                self.zeroing[at].is_running = true;
+                self.workers.begin(Job::Zero(extent));
+            }
+        }
+    }
+
+    pub(super) fn finish_write(&mut self, writing: &Writing, has_succeeded: bool) {
+        for place in &writing.frames {
+            let (number, is_queued) = self.cache.change(*place, |frame| {
+                frame.is_writing = false;
+                (frame.number, frame.dirty == 0 || mem::replace(&mut frame.is_queued, true))
+            });
+            self.writing.retain(|it| *it != number);
+            if !is_queued {
+                self.queued.push(*place);
+            }
+        }
+        if has_succeeded {
+            self.end(&writing.tickets);
+        }
+    }
+
+    pub(super) fn finish_zeros(&mut self, extent: Extent, has_succeeded: bool) {
+        let found = self.zeroing.iter().position(|it| it.is_running && it.extent == extent);
+        let zeroing = match found {
+            Some(at) => self.zeroing.remove(at),
+            None => return,
+        };
+        for number in extent.frames() {
+            if let Some(place) = self.cache.find(number) {
+                let is_queued = self.cache.change(place, |it| it.dirty == 0 || mem::replace(&mut it.is_queued, true));
+                if !is_queued {
+                    self.queued.push(place);
+                }
+            }
+        }
+        if has_succeeded {
+            self.end(&zeroing.tickets);
+        }
+    }
+}
