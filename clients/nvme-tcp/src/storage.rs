@@ -17,6 +17,9 @@ mod syncs;
 mod workers;
 mod writing;
 
+#[cfg(test)]
+mod tests;
+
 use crate::association::ConnectionId;
 use crate::fault::{Fault, Outcome};
 use crate::log::warn;
@@ -32,6 +35,7 @@ use std::collections::{HashMap, VecDeque};
 use std::io::{self, ErrorKind};
 use std::os::unix::net::UnixStream;
 use std::sync::Arc;
+use std::time::Instant;
 use syncs::Syncs;
 pub use workers::Disk;
 use workers::{Done, Job, Workers};
@@ -62,8 +66,9 @@ pub struct Storage {
     failure: Option<io::Error>,
     /// Whether a failure ends the target, since a kept run has no line for it.
     keeps_run: bool,
-    /// What the log calls the disk.
+    /// What the log calls the disk, and when it last had a warning of reads.
     name: String,
+    warned: Option<Instant>,
     pub options: Options,
     /// Commands that may be executed now, and answers that wait no more.
     pub ready: VecDeque<u64>,
@@ -88,6 +93,7 @@ impl Storage {
             failure: None,
             keeps_run,
             name,
+            warned: None,
             options,
             ready: VecDeque::new(),
             answers: VecDeque::new(),

@@ -8,6 +8,10 @@ use crate::log::warn;
 use crate::nvme::BLOCK;
 use std::io;
 use std::mem;
+use std::time::{Duration, Instant};
+
+/// The least time between two warnings.
+const PAUSE: Duration = Duration::from_secs(1);
 
 impl Storage {
     pub(super) fn prepare_read(&mut self, extent: Extent, id: u64) -> bool {
@@ -91,10 +95,19 @@ impl Storage {
         match result {
             Err(error) if self.keeps_run => Err(Fault::Image(error)),
             Err(error) => {
-                warn(format_args!("{}: blocks of {:?} can't be read: {error}", self.name, reading.extent));
+                self.warn_of_read(reading.extent, &error);
                 Ok(())
             }
             Ok(()) => Ok(()),
+        }
+    }
+
+    /// Warns of blocks that can't be read, not more often than once a second.
+    fn warn_of_read(&mut self, extent: Extent, error: &io::Error) {
+        if self.warned.map_or(true, |it| it.elapsed() >= PAUSE) {
+            self.warned = Some(Instant::now());
+            let Extent { first, blocks } = extent;
+            warn(format_args!("{}: can't read all of {blocks} blocks from block {first} on: {error}", self.name));
         }
     }
 }
