@@ -20,10 +20,12 @@ mod writing;
 #[cfg(test)]
 mod tests;
 
+use crate::answer::Answer;
 use crate::association::ConnectionId;
 use crate::fault::{Fault, Outcome};
 use crate::log::warn;
-use crate::status::WRITE_FAULT;
+use crate::nvme::{COMPARE, READ};
+use crate::status::{READ_ERROR, WRITE_FAULT};
 use cache::Cache;
 pub use file::{blocks_of, is_read_only, Image};
 use frames::{Extent, FRAME_BYTES};
@@ -57,6 +59,9 @@ pub struct Storage {
     /// Frames with blocks to write, by their places in the cache, and the numbers of those that are being written.
     queued: Vec<usize>,
     writing: Vec<u64>,
+    bytes_written: usize,
+    /// With `--write-through`, what was written and is not synced, and the numbers of the syncs that it waits for.
+    unsynced: Vec<(u64, Extent)>,
     /// The blocks that commands read which wait for them.
     asked: HashMap<u64, Extent>,
     bytes_asked: usize,
@@ -87,6 +92,8 @@ impl Storage {
             zeroing: Vec::new(),
             queued: Vec::new(),
             writing: Vec::new(),
+            bytes_written: 0,
+            unsynced: Vec::new(),
             asked: HashMap::new(),
             bytes_asked: 0,
             room: Vec::new(),
@@ -273,6 +280,8 @@ impl Storage {
             Job::Sync => {
                 if done.result.is_ok() && self.failure.is_none() {
                     let (owed, ready) = self.syncs.pass();
+                    let next = self.syncs.next();
+                    self.unsynced.retain(|(number, _)| *number >= next);
                     self.answers.extend(owed);
                     self.ready.extend(ready);
                 }
@@ -292,8 +301,8 @@ impl Storage {
         }
     }
 
-    /// The disk has refused a write or a sync. The answers that wait for it are Write Fault, and from now on no block is
-    /// brought: each command on blocks fails. Another program's change of the file ends the target, and so does every
+    /// The disk has refused a write or a sync. The answers that wait for it are Write Fault and Unrecovered Read Error, and
+    /// from now on no block is brought: each command on blocks fails. Another program's change of the file ends the target, and so does every
     /// failure while the run is kept.
     fn fail(&mut self, error: io::Error) -> Outcome<()> {
         if self.keeps_run || error.kind() == ErrorKind::InvalidData {
@@ -307,7 +316,8 @@ impl Storage {
         self.failure = Some(error);
         let (owed, flushes) = self.syncs.give_up();
         for mut it in self.ledger.give_up().into_iter().chain(owed) {
-            it.answer.status = WRITE_FAULT;
+            let is_read = matches!(it.entry[0], READ | COMPARE);
+            it.answer = Answer::of(if is_read { READ_ERROR } else { WRITE_FAULT });
             self.answers.push_back(it);
         }
         self.ready.extend(flushes);

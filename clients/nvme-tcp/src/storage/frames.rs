@@ -57,6 +57,10 @@ impl Extent {
         self.frames().map(move |number| self.part(number))
     }
 
+    pub fn overlaps(self, other: Extent) -> bool {
+        self.first < other.end() && other.first < self.end()
+    }
+
     /// Whether it has blocks of a frame that the other has blocks of too.
     pub fn meets(self, other: Extent) -> bool {
         let (mine, others) = (self.frames(), other.frames());
@@ -116,8 +120,8 @@ pub struct Frame {
     /// Blocks that a read in progress brings, and those that could not be read.
     pub coming: Mask,
     pub failed: Mask,
-    /// Whether a write of blocks of it is in progress: only one at a time is.
-    pub is_writing: bool,
+    /// Blocks of a write in progress: only one at a time is.
+    pub writing: Mask,
     /// Whether it is in the list of frames to write.
     pub is_queued: bool,
     /// How many commands wait for it and need it to stay.
@@ -126,9 +130,11 @@ pub struct Frame {
     pub is_recent: bool,
     /// Whether the cache counts it as one that can't be replaced.
     pub is_busy: bool,
-    /// The commands that wait until a read of it ends, and those whose bytes are dirty.
+    /// The commands that wait until a read of it ends.
     pub waiting: Vec<u64>,
+    /// The tickets of the commands that wait for a write of the dirty blocks, and for the write in progress.
     pub tickets: Vec<u64>,
+    pub written: Vec<u64>,
 }
 
 impl Frame {
@@ -139,19 +145,25 @@ impl Frame {
             dirty: 0,
             coming: 0,
             failed: 0,
-            is_writing: false,
+            writing: 0,
             is_queued: false,
             users: 0,
             is_recent: true,
             is_busy: false,
             waiting: Vec::new(),
             tickets: Vec::new(),
+            written: Vec::new(),
         }
     }
 
     /// Whether it must stay in the cache.
     pub fn must_stay(&self) -> bool {
-        self.dirty != 0 || self.coming != 0 || self.is_writing || self.users != 0
+        self.dirty != 0 || self.coming != 0 || self.writing != 0 || self.users != 0
+    }
+
+    /// Whether the disk does not have some blocks yet as they are here.
+    pub fn is_ahead(&self, part: Part) -> bool {
+        (self.dirty | self.writing) & part.mask() != 0
     }
 
     /// Blocks that are neither here nor on the way.

@@ -1,4 +1,5 @@
-//! Commands that were executed, and whose blocks the system does not have yet. Each has a ticket, the next number.
+//! Commands that were executed, and whose blocks the system does not have yet. Each has a ticket, the next number. An
+//! answer waits for the writes of its own command; only a Flush waits for all commands before it.
 
 use crate::answer::Answer;
 use crate::association::ConnectionId;

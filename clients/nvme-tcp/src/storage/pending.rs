@@ -7,7 +7,7 @@ use crate::association::ConnectionId;
 use crate::bytes::u32_at;
 use crate::controller::{Completed, Data, Token};
 use crate::fault::Outcome;
-use crate::nvme::{DATASET_MANAGEMENT, ENTRY};
+use crate::nvme::{COMPARE, DATASET_MANAGEMENT, ENTRY, READ};
 use crate::status::{COMMAND_SEQUENCE, SUCCESS};
 use crate::target::Target;
 use crate::window::Room;
@@ -209,8 +209,12 @@ impl Target<'_> {
         let watch = self.watch(*index, entry);
         let completed = self.execute_over(*index, token, need, room.start(data.length()), ticket)?;
         let answer = self.answer_of(*index, *qid, entry, data, completed, watch.as_ref())?;
+        let ticket = ticket.or_else(|| self.storage.as_mut().and_then(|it| it.follow_writes(need)));
         Ok(match ticket {
-            Some(ticket) => self.owe(ticket, issued, answer),
+            Some(ticket) => {
+                let answer = self.kept(answer)?;
+                self.owe(ticket, issued, answer)
+            }
             None => Some(answer),
         })
     }
@@ -257,7 +261,8 @@ impl Target<'_> {
             None => return Some(answer),
         };
         let is_forced = issued.opcode != DATASET_MANAGEMENT && u32_at(&issued.entry, 48) & FORCE_UNIT_ACCESS != 0;
-        let is_synced = answer.status == SUCCESS && (is_forced || !has_write_cache);
+        let has_effect = answer.status == SUCCESS || matches!(issued.opcode, READ | COMPARE);
+        let is_synced = has_effect && (is_forced || !has_write_cache);
         let mut entry = issued.entry;
         entry[0] = issued.opcode;
         let owed = Owed { connection: issued.connection, entry, answer, is_synced };

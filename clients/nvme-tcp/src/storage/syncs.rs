@@ -29,9 +29,14 @@ pub struct Syncs {
 }
 
 impl Syncs {
-    /// The number of the next sync, which is asked for.
+    /// The number of the next sync.
+    pub fn next(&self) -> u64 {
+        self.begun + 1
+    }
+
+    /// Asks for the next sync; its number.
     fn ask(&mut self) -> u64 {
-        self.asked = self.begun + 1;
+        self.asked = self.next();
         self.asked
     }
 

@@ -387,6 +387,53 @@ fn zeroes_come_in_order() {
     assert_eq!(it.answered.len(), 5);
 }
 
+impl Trial {
+    /// Reads blocks that are in the cache; whether the answer waits.
+    fn read_and_wait(&mut self, first: u64, blocks: u32) -> bool {
+        let (id, need) = (self.id(), Need::Read { first, blocks });
+        assert!(self.storage.prepare(need, id));
+        let ticket = match self.storage.follow_writes(need) {
+            Some(ticket) => ticket,
+            None => return false,
+        };
+        let is_synced = self.storage.options.writes_through;
+        let owed = Owed { connection: id, entry: [0; ENTRY], answer: Answer::of(SUCCESS), is_synced };
+        assert!(self.storage.close(ticket, owed).is_none());
+        true
+    }
+}
+
+#[test]
+fn what_was_read_is_there_after_a_kill() {
+    let mut it = Trial::new(Fake::new(64), false);
+    it.disk.close(true);
+    it.write(7, 2, 1);
+    it.zero(9, 1);
+    assert!(it.read_and_wait(8, 1));
+    it.storage.begin(false).unwrap();
+    it.write(10, 1, 1);
+    assert!([(7, 1), (8, 2), (10, 1)].iter().all(|(first, blocks)| it.read_and_wait(*first, *blocks)));
+    assert!(it.answered.is_empty());
+    it.disk.close(false);
+    it.settle();
+    assert_eq!(it.answered.len(), 7);
+    assert!(!it.read_and_wait(7, 4));
+}
+
+#[test]
+fn what_was_read_is_there_after_power_loss() {
+    let mut it = Trial::new(Fake::new(64), false);
+    it.storage.options.writes_through = true;
+    it.change(Need::Write { first: 7, blocks: 1 }, 1, true);
+    it.write(8, 1, 1);
+    it.turn();
+    assert_eq!(it.calls(), [('w', 7)]);
+    assert!(it.read_and_wait(7, 1) && it.read_and_wait(7, 2));
+    it.settle();
+    assert_eq!((it.answered.len(), it.read_and_wait(7, 2)), (4, false));
+    assert_eq!(it.calls().last(), Some(&('s', 0)));
+}
+
 /// Random numbers.
 struct Random(u64);
 

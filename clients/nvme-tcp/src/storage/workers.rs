@@ -30,9 +30,8 @@ pub trait Disk: Send + Sync {
 
 /// Blocks of several frames that are written together: runs of adjacent blocks, and their bytes one after the other.
 pub struct Writing {
-    /// The places of the frames in the cache, and the tickets of the commands that wait for these blocks.
+    /// The places of the frames in the cache.
     pub frames: Vec<usize>,
-    pub tickets: Vec<u64>,
     pub runs: Vec<Extent>,
     pub bytes: Aligned,
     pub length: usize,
@@ -40,7 +39,7 @@ pub struct Writing {
 
 impl Writing {
     pub fn new(bytes: usize) -> Writing {
-        Writing { frames: Vec::new(), tickets: Vec::new(), runs: Vec::new(), bytes: Aligned::zeros(bytes), length: 0 }
+        Writing { frames: Vec::new(), runs: Vec::new(), bytes: Aligned::zeros(bytes), length: 0 }
     }
 
     /// Adds blocks, which may be adjacent to the last ones.

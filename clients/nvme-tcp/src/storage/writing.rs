@@ -6,12 +6,16 @@ use super::workers::{Done, Job, Writing};
 use super::Storage;
 use crate::fault::Outcome;
 use crate::nvme::BLOCK;
+use nvmesim::Need;
 use std::mem;
 
 /// The most bytes of one write.
 const MOST_WRITTEN: usize = 1 << 20;
+/// The most bytes of writes that are in progress.
+const MOST_IN_PROGRESS: usize = 16 << 20;
 /// A write of at most this many bytes is made at once, if the system takes it into its memory and one host is served.
 const SMALL: usize = 16 << 10;
+
 /// Zeroes that are in progress, or wait for writes and other zeroes.
 pub struct Zeroing {
     pub extent: Extent,
@@ -70,10 +74,15 @@ impl Storage {
         queued.sort_unstable_by_key(|place| self.cache.at(*place).number);
         let mut group: Vec<usize> = Vec::new();
         for place in queued {
-            let number = self.cache.at(place).number;
+            // The rest waits until some of these end.
+            if self.bytes_written + group.len() * FRAME_BYTES >= MOST_IN_PROGRESS {
+                self.queued.push(place);
+                continue;
+            }
             if !self.may_write(place) {
                 continue;
             }
+            let number = self.cache.at(place).number;
             let is_next = group.last().map_or(true, |last| self.cache.at(*last).number + 1 == number);
             if !is_next || (group.len() + 1) * FRAME_BYTES > MOST_WRITTEN {
                 self.write(&mem::take(&mut group), is_alone)?;
@@ -91,7 +100,7 @@ impl Storage {
     fn may_write(&mut self, place: usize) -> bool {
         let (number, may) = self.cache.change(place, |frame| {
             frame.is_queued = false;
-            (frame.number, frame.dirty != 0 && !frame.is_writing)
+            (frame.number, frame.dirty != 0 && frame.writing == 0)
         });
         may && !self.zeroing.iter().any(|it| it.extent.frames().contains(&number))
     }
@@ -104,9 +113,8 @@ impl Storage {
             let frame = self.cache.at(*place);
             runs(frame.number, frame.dirty).for_each(|part| writing.put(part, self.cache.bytes(*place, part)));
             let number = self.cache.change(*place, |frame| {
-                frame.dirty = 0;
-                frame.is_writing = true;
-                writing.tickets.append(&mut frame.tickets);
+                frame.writing = mem::take(&mut frame.dirty);
+                frame.written.append(&mut frame.tickets);
                 frame.number
             });
             self.writing.push(number);
@@ -114,8 +122,10 @@ impl Storage {
         writing.frames.extend_from_slice(places);
         if is_alone && writing.length <= SMALL && self.disk.is_cached() {
             let result = writing.write(&*self.disk);
+            self.bytes_written += writing.length;
             return self.finish(Done { job: Job::Write(writing), result });
         }
+        self.bytes_written += writing.length;
         self.workers.begin(Job::Write(writing));
         Ok(())
     }
@@ -134,18 +144,24 @@ impl Storage {
     }
 
     pub(super) fn finish_write(&mut self, writing: &Writing, has_succeeded: bool) {
+        self.bytes_written -= writing.length;
+        if self.options.writes_through {
+            let next = self.syncs.next();
+            self.unsynced.extend(writing.runs.iter().map(|it| (next, *it)));
+        }
         for place in &writing.frames {
-            let (number, is_queued) = self.cache.change(*place, |frame| {
-                frame.is_writing = false;
-                (frame.number, frame.dirty == 0 || mem::replace(&mut frame.is_queued, true))
+            let (number, is_queued, tickets) = self.cache.change(*place, |frame| {
+                frame.writing = 0;
+                let is_queued = frame.dirty == 0 || mem::replace(&mut frame.is_queued, true);
+                (frame.number, is_queued, mem::take(&mut frame.written))
             });
             self.writing.retain(|it| *it != number);
             if !is_queued {
                 self.queued.push(*place);
             }
-        }
-        if has_succeeded {
-            self.end(&writing.tickets);
+            if has_succeeded {
+                self.end(&tickets);
+            }
         }
     }
 
@@ -163,8 +179,42 @@ impl Storage {
                 }
             }
         }
+        if self.options.writes_through {
+            self.unsynced.push((self.syncs.next(), extent));
+        }
         if has_succeeded {
             self.end(&zeroing.tickets);
         }
+    }
+
+    /// A command was executed over blocks, and has changed none. If some of them are on their way to the disk, its answer
+    /// waits until they are there: a kill takes back nothing that a host has read. It has a ticket then.
+    pub fn follow_writes(&mut self, need: Need) -> Option<u64> {
+        let extent = match need {
+            Need::Read { first, blocks } if self.failure.is_none() => Extent { first, blocks },
+            _ => return None,
+        };
+        let Storage { cache, ledger, zeroing, unsynced, .. } = self;
+        let mut ticket = None;
+        let mut wait = |list: &mut Vec<u64>| {
+            let number = *ticket.get_or_insert_with(|| ledger.open());
+            ledger.add(number);
+            list.push(number);
+        };
+        for part in extent.parts() {
+            let place = match cache.find(part.number) {
+                Some(place) if cache.at(place).is_ahead(part) => place,
+                _ => continue,
+            };
+            cache.change(place, |frame| {
+                let is_dirty = frame.dirty & part.mask() != 0;
+                wait(if is_dirty { &mut frame.tickets } else { &mut frame.written });
+            });
+        }
+        zeroing.iter_mut().filter(|it| it.extent.overlaps(extent)).for_each(|it| wait(&mut it.tickets));
+        if ticket.is_none() && unsynced.iter().any(|(_, it)| it.overlaps(extent)) {
+            ticket = Some(ledger.open());
+        }
+        ticket
     }
 }
