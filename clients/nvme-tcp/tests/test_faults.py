@@ -68,7 +68,7 @@ class Faults(unittest.TestCase):
 
     def test_an_image_of_a_kept_run(self) -> None:
         """A script has no line for a disk that fails, so the target ends without an answer."""
-        host = self.host("--image", str(self.image()), "--script", "/dev/null")
+        host = self.host("--image", str(self.image()), "--script", str(self.folder / "kept.nvme"))
         self.assertEqual(host.write(98, b"\1" * BLOCK), 0)
         with self.assertRaises(Ended):
             host.write(99, b"\2" * BLOCK * 2)
