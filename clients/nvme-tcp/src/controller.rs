@@ -171,8 +171,8 @@ impl Controller {
         Ok(())
     }
 
-    /// Executes a command that no blocks have to be brought for: stores it, rings, fetches and executes it, and takes its
-    /// completion.
+    /// Executes a command that no blocks have to be brought for: stores it, rings, fetches and executes it, and takes
+    /// its completion.
     #[inline]
     pub fn run(
         &mut self,
@@ -316,8 +316,8 @@ fn placed(entry: &[u8; ENTRY], data: Data<'_>, room: Room) -> [u8; ENTRY] {
     placed
 }
 
-/// Whether the target has to know which blocks a command in memory zeroes, to count them. An admin command, a Read and a
-/// Write zero none.
+/// Whether the target has to know which blocks a command in memory zeroes, to count them. An admin command, a Read and
+/// a Write zero none.
 fn is_followed(qid: u16, entry: &[u8; ENTRY]) -> bool {
     qid != 0 && !matches!(entry[0], READ | WRITE)
 }

@@ -303,8 +303,8 @@ impl<'a> Server<'a> {
         self.apply_effects()
     }
 
-    /// Sends a connection's answers, and takes PDUs that had to wait for that. The kept run is written first, so that it
-    /// has everything that a host was answered. If that takes a while, the connection waits for it.
+    /// Sends a connection's answers, and takes PDUs that had to wait for that. The kept run is written first, so that
+    /// it has everything that a host was answered. If that takes a while, the connection waits for it.
     fn send(&mut self, name: u64, is_handed: bool) -> Outcome<()> {
         let Server { target, connections, waiting, stalled, is_alone, .. } = self;
         let served = match connections.get_mut(&name) {

@@ -301,9 +301,9 @@ impl Storage {
         }
     }
 
-    /// The disk has refused a write or a sync. The answers that wait for it are Write Fault and Unrecovered Read Error, and
-    /// from now on no block is brought: each command on blocks fails. Another program's change of the file ends the target, and so does every
-    /// failure while the run is kept.
+    /// The disk has refused a write or a sync. The answers that wait for it are Write Fault and Unrecovered Read Error,
+    /// and from now on no block is brought: each command on blocks fails. Another program's change of the file ends the
+    /// target, and so does every failure while the run is kept.
     fn fail(&mut self, error: io::Error) -> Outcome<()> {
         if self.keeps_run || error.kind() == ErrorKind::InvalidData {
             return Err(Fault::Image(error));

@@ -42,7 +42,8 @@ class Larger(TargetTest):
                     blocks = rng.choice((1, 8, 31, 256))
                     slba = rng.randrange(65536 - blocks) + 65536 * which
                     place = slice(BLOCK * slba, BLOCK * (slba + blocks))
-                    if rng.random() < 0.4 or any(slba < last and first < slba + blocks for first, last in asked.values()):
+                    meets = any(slba < last and first < slba + blocks for first, last in asked.values())
+                    if meets or rng.random() < 0.4:
                         continue
                     asked[cid] = (slba, slba + blocks)
                     if cid % 2:
@@ -270,13 +271,15 @@ class Sizes(unittest.TestCase):
     def test_what_is_refused(self) -> None:
         image = ("--image", str(self.image))
         for options, text in (((*image, "--size", "512K"), "the 1024 blocks"), (("--size", "1M"), "need --image"),
-                              ((*image, "--size", "1000"), "--size 1000: "), ((*image, "--cache", "1M"), "--cache 1M: "),
+                              ((*image, "--size", "1000"), "--size 1000: "),
+                              ((*image, "--cache", "1M"), "--cache 1M: "),
                               (image, "No such file")):
             self.assertIn(text, self.refused(*options))
             self.assertFalse(self.image.exists())
         self.target(TWO_HOSTS, "--size", "1M").close()
         self.target(TWO_HOSTS, "--size", "1M").close()
-        self.assertIn("it exists and has 1048576 bytes, and --size asks for 2097152", self.refused(*image, "--size", "2M"))
+        self.assertIn("it exists and has 1048576 bytes, and --size asks for 2097152",
+                      self.refused(*image, "--size", "2M"))
         os.truncate(self.image, BLOCK * (BLOCKS + 1))
         self.assertIn("--direct needs a multiple of 4096", self.refused(*image, "--direct"))
         self.assertIn("no regular file and no block device", self.refused("--image", "/dev/null"))

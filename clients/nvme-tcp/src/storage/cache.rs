@@ -132,8 +132,8 @@ impl Cache {
         place
     }
 
-    /// A frame to replace, unless there is memory for one more. If all must stay there is none, and the cache grows: the
-    /// target takes no commands without room for them, but those that were held between fetch and execution.
+    /// A frame to replace, unless there is memory for one more. If all must stay there is none, and the cache grows. The
+    /// target takes no commands without room for them, except those that were held between fetch and execution.
     fn replaceable(&mut self) -> Option<usize> {
         if self.frames.len() < self.most || self.busy == self.frames.len() {
             return None;

@@ -187,8 +187,8 @@ impl Storage {
         }
     }
 
-    /// A command was executed over blocks, and has changed none. If some of them are on their way to the disk, its answer
-    /// waits until they are there: a kill takes back nothing that a host has read. It has a ticket then.
+    /// A command was executed over blocks, and has changed none. If some of them are on their way to the disk, its
+    /// answer waits until they are there: a kill takes back nothing that a host has read. It has a ticket then.
     pub fn follow_writes(&mut self, need: Need) -> Option<u64> {
         let extent = match need {
             Need::Read { first, blocks } if self.failure.is_none() => Extent { first, blocks },
