@@ -49,7 +49,7 @@ impl Lock {
         self.open_by(path, || open_regular(path, options))
     }
 
-    /// The same of a regular file or a block device, with more flags.
+    /// Opens a regular file or a block device with more flags, and locks it.
     pub fn open_disk(&self, path: &Path, options: &OpenOptions, flags: i32) -> io::Result<File> {
         self.open_by(path, || open_disk(path, options, flags))
     }

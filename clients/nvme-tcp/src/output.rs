@@ -1,4 +1,7 @@
-//! Bytes to send. The buffer is kept and reused, so that data are copied once.
+//! Bytes to send. The buffer is kept and reused, so that data are copied once, unless it has become long.
+
+/// The most bytes of a buffer that is kept.
+const LONG: usize = 512 << 10;
 
 /// Bytes in the order in which they go.
 #[derive(Default)]
@@ -24,6 +27,9 @@ impl Output {
         self.begin += count;
         if self.begin == self.end {
             (self.begin, self.end) = (0, 0);
+            if self.bytes.len() > LONG {
+                self.bytes = Vec::new();
+            }
         }
     }
 

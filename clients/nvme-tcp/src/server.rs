@@ -365,7 +365,7 @@ impl<'a> Server<'a> {
         }
     }
 
-    /// The next answer that is due, after the connections that are to be closed before it.
+    /// The next answer that is due. Connections that must be closed before it are closed.
     fn next_answer(&mut self) -> Outcome<Option<(u64, [u8; ENTRY], Answer)>> {
         while let Some(effect) = self.target.effects.pop_front() {
             match effect {

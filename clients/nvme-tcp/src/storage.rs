@@ -46,7 +46,7 @@ use writing::Zeroing;
 /// No more commands are taken with this many that wait for writes, this many zeroes, or this many bytes to read.
 const MOST_OPEN: usize = 4096;
 const MOST_ZEROES: usize = 64;
-const MOST_READ: usize = 16 << 20;
+const MOST_READ: usize = 8 << 20;
 
 /// The disk with its cache.
 pub struct Storage {
@@ -137,7 +137,7 @@ impl Storage {
         }
     }
 
-    /// The place of a frame in the cache. One that comes into it has the zeros that are on their way to the disk.
+    /// The place of a frame in the cache. One that comes into it has the zeros of zeroes that are in progress.
     fn frame(&mut self, number: u64) -> usize {
         if let Some(place) = self.cache.find(number) {
             return place;
@@ -226,8 +226,8 @@ impl Storage {
         }
     }
 
-    /// A command with this ticket is answered so: later, unless nothing of it is on its way to the disk. Then the
-    /// answer is given back.
+    /// A command with this ticket is answered so: later, unless no write of it is in progress. Then the answer is given
+    /// back.
     pub fn close(&mut self, ticket: u64, owed: Owed) -> Option<Owed> {
         let is_synced = owed.is_synced;
         let owed = self.ledger.close(ticket, owed)?;

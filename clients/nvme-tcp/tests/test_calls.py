@@ -87,32 +87,33 @@ class Syncs(Gate):
 
     image = BLOCKS
 
-    def writes_and(self, units) -> None:
-        """Blocks go to the image by a thread, and wait there, when `units` of another queue come, the first of them a
-        Write. When all of these are answered, all blocks are synced."""
+    def writes_and(self, units) -> list:
+        """Blocks go to the image by threads, and wait there, when `units` of another queue come. The calls when all of
+        these are answered, up to the first sync, which is the only one."""
         alone, first, second = [*self.host(queues=2).queues, self.host(0xb2).queues[0]]
-        # While the target waits to write the first block, the others' commands come. So it takes these together.
         alone.send_command(0x01, 1, struct.pack("<QI", 0, 0), bytes(BLOCK))
         self.wait_for(lambda: self.told() == [["writes", "0", str(BLOCK)]])
         first.socket.sendall(b"".join(self.pdu(first, 0x01, cid, 16 * cid + 100, 16) for cid in range(3)))
-        second.socket.sendall(b"".join(units(second)))
-        os.write(self.gate, b"1")
-        self.assertEqual(alone.completion().status, 0)
-        self.wait_for(lambda: ["writes", str(100 * BLOCK), str(48 * BLOCK)] in self.told())
         time.sleep(0.2)
+        second.socket.sendall(b"".join(units(second)))
+        time.sleep(0.2)
+        self.assertNotIn(["syncs"], self.told())
         os.write(self.gate, b"1" * 100)
+        self.assertEqual(alone.completion().status, 0)
         self.assertEqual([second.completion().status for _ in units(second)], [0] * len(units(second)))
-        told = self.told()
-        last = max(at for at, words in enumerate(told) if words[0] == "wrote")
-        self.assertEqual(told[last][1], str(1000 * BLOCK), "the blocks of the other queue")
-        self.assertEqual(told[last + 1:], [["syncs"], ["synced"]])
         self.assertEqual([first.completion().status for _ in range(3)], [0] * 3)
+        told = self.told()
+        self.assertEqual(told.count(["syncs"]), 1)
+        return told[:told.index(["syncs"])]
 
     def test_a_flush(self) -> None:
-        self.writes_and(lambda queue: [self.pdu(queue, 0x01, 7, 1000, 1), self.pdu(queue, 0x00, 8)])
+        """All that was executed before is written before the sync."""
+        told = self.writes_and(lambda queue: [self.pdu(queue, 0x01, 7, 1000, 1), self.pdu(queue, 0x00, 8)])
+        self.assertEqual(sum(int(count) for what, _, count in told if what == "wrote"), BLOCK * (1 + 48 + 1))
 
     def test_force_unit_access(self) -> None:
-        self.writes_and(lambda queue: [self.pdu(queue, 0x01, 7, 1000, 1, FORCE_UNIT_ACCESS)])
+        told = self.writes_and(lambda queue: [self.pdu(queue, 0x01, 7, 1000, 1, FORCE_UNIT_ACCESS)])
+        self.assertIn(["wrote", str(1000 * BLOCK), str(BLOCK)], told)
 
     def test_a_host_without_a_write_cache(self) -> None:
         """Each of its writes is synced before it is answered, and those of others are not."""

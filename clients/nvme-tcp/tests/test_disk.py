@@ -104,7 +104,7 @@ class Larger(TargetTest):
 
 
 class Direct(Larger):
-    """The same without the system's cache."""
+    """Without the system's cache."""
 
     options = ["--cache", "4M", "--direct"]
 

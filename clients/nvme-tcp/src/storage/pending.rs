@@ -19,7 +19,7 @@ const FORCE_UNIT_ACCESS: u32 = 1 << 30;
 /// No more commands of a controller are taken with this many that were fetched, or this many bytes of their data. The
 /// subsystem has room for 64, 16 of which may be held.
 const MOST_FETCHED: usize = 40;
-const MOST_DATA: usize = 2 << 20;
+const MOST_DATA: usize = 1 << 20;
 
 /// A command of a host.
 #[derive(Clone, Copy)]
@@ -253,7 +253,7 @@ impl Target<'_> {
         self.execute_over(index, token, need, Room::AT_ONCE.start(0), Some(ticket))
     }
 
-    /// The answer of a command with a ticket, if nothing of it is on its way to the disk.
+    /// The answer of a command with a ticket, if no write of it is in progress.
     fn owe(&mut self, ticket: u64, issued: &Issued, answer: Answer) -> Option<Answer> {
         let has_write_cache = self.has_write_cache(issued.index);
         let storage = match &mut self.storage {

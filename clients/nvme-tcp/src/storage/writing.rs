@@ -12,7 +12,7 @@ use std::mem;
 /// The most bytes of one write.
 const MOST_WRITTEN: usize = 1 << 20;
 /// The most bytes of writes that are in progress.
-const MOST_IN_PROGRESS: usize = 16 << 20;
+const MOST_IN_PROGRESS: usize = 8 << 20;
 /// A write of at most this many bytes is made at once, if the system takes it into its memory and one host is served.
 const SMALL: usize = 16 << 10;
 
@@ -50,6 +50,10 @@ impl Storage {
 
     /// Zeros replace blocks in the cache, and on the disk later. Blocks that were to be written are zeros instead.
     pub(super) fn take_zeros(&mut self, extent: Extent, ticket: u64) {
+        // A long room is not kept.
+        if self.room.len() > MOST_WRITTEN {
+            self.room = Vec::new();
+        }
         if extent.blocks == 0 {
             return;
         }
@@ -187,8 +191,8 @@ impl Storage {
         }
     }
 
-    /// A command was executed over blocks, and has changed none. If some of them are on their way to the disk, its
-    /// answer waits until they are there: a kill takes back nothing that a host has read. It has a ticket then.
+    /// A command was executed over blocks, and has changed none. If writes of some of them are in progress, its
+    /// answer waits until they end: a kill takes back nothing that a host has read. It has a ticket then.
     pub fn follow_writes(&mut self, need: Need) -> Option<u64> {
         let extent = match need {
             Need::Read { first, blocks } if self.failure.is_none() => Extent { first, blocks },
