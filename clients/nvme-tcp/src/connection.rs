@@ -9,7 +9,7 @@ use crate::counters::Closing;
 use crate::fabrics;
 use crate::fault::{Fault, Outcome};
 use crate::input::{Input, Rooms};
-use crate::nvme::ENTRY;
+use crate::nvme::{ENTRY, FLUSH};
 use crate::output::Output;
 use crate::pdu::{self, Agreed, Fatal, HostData, Kind, Layout, COMMON};
 use crate::pointer::Pointer;
@@ -126,13 +126,20 @@ impl Connection {
 
     /// Whether PDUs can be taken that had to wait.
     pub fn has_more(&self, target: &Target<'_>) -> bool {
-        (self.waits || self.waits_for_disk) && !self.is_full() && !self.is_closed && !self.is_busy(target)
+        (self.waits || self.waits_for_disk)
+            && !self.is_full()
+            && !self.is_closed
+            && !self.is_busy(target, self.input.waiting())
     }
 
-    /// Whether the disk can't take a command of an I/O queue now.
-    fn is_busy(&self, target: &Target<'_>) -> bool {
+    /// Whether the disk can't take the next command of an I/O queue now.
+    fn is_busy(&self, target: &Target<'_>, bytes: &[u8]) -> bool {
+        let opcode = match (bytes.first(), bytes.get(COMMON)) {
+            (Some(&pdu::COMMAND_CAPSULE), Some(opcode)) => *opcode,
+            _ => FLUSH,
+        };
         match self.queue.session {
-            Session::Controller { index, qid } => qid != 0 && target.is_busy(index),
+            Session::Controller { index, qid } => qid != 0 && target.is_busy(index, opcode),
             _ => false,
         }
     }
@@ -172,7 +179,7 @@ impl Connection {
         let mut result = Ok(());
         self.waits_for_disk = false;
         while result.is_ok() && self.phase != Phase::Ending && !self.is_full() {
-            if self.is_busy(target) {
+            if self.is_busy(target, input.waiting()) {
                 self.waits_for_disk = true;
                 break;
             }

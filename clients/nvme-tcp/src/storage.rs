@@ -35,6 +35,7 @@ use nvmesim::{Brought, Need};
 use options::Options;
 use std::collections::{HashMap, VecDeque};
 use std::io::{self, ErrorKind};
+use std::mem;
 use std::os::unix::net::UnixStream;
 use std::sync::Arc;
 use std::time::Instant;
@@ -43,9 +44,9 @@ pub use workers::Disk;
 use workers::{Done, Job, Workers};
 use writing::Zeroing;
 
-/// No more commands are taken with this many that wait for writes, this many zeroes, or this many bytes to read.
+/// Commands wait with this many that wait for writes, this many zeroes, or this many bytes to read.
 const MOST_OPEN: usize = 4096;
-const MOST_ZEROES: usize = 64;
+const MOST_ZEROES: usize = 256;
 const MOST_READ: usize = 8 << 20;
 
 /// The disk with its cache.
@@ -65,6 +66,8 @@ pub struct Storage {
     /// The blocks that commands read which wait for them.
     asked: HashMap<u64, Extent>,
     bytes_asked: usize,
+    /// Commands that wait for frames of the cache.
+    starved: Vec<u64>,
     /// The blocks of a command that are in several frames.
     room: Vec<u8>,
     /// What the disk refused, so that its blocks may be older than those that were written.
@@ -96,6 +99,7 @@ impl Storage {
             unsynced: Vec::new(),
             asked: HashMap::new(),
             bytes_asked: 0,
+            starved: Vec::new(),
             room: Vec::new(),
             failure: None,
             keeps_run,
@@ -118,13 +122,9 @@ impl Storage {
         &self.workers.bell
     }
 
-    /// Whether no more commands may be taken until work of the disk ends.
-    pub fn is_full(&self) -> bool {
-        self.failure.is_none()
-            && (!self.cache.has_room()
-                || self.ledger.len() >= MOST_OPEN
-                || self.zeroing.len() >= MOST_ZEROES
-                || self.bytes_asked >= MOST_READ)
+    /// Whether no more zeroes may be taken until some end.
+    pub fn has_many_zeroes(&self) -> bool {
+        self.failure.is_none() && self.zeroing.len() >= MOST_ZEROES
     }
 
     /// Whether the command with this number can be executed, with what it needs now. If not, it is in `ready` later.
@@ -133,8 +133,19 @@ impl Storage {
             _ if self.failure.is_some() => true,
             Need::Read { first, blocks } => self.prepare_read(Extent { first, blocks }, id),
             Need::Flush => self.syncs.has_flushed(id, self.ledger.next()),
-            Need::Write { .. } | Need::Zero { .. } | Need::Nothing => true,
+            Need::Write { .. } => self.has_room(id),
+            Need::Zero { .. } | Need::Nothing => true,
         }
+    }
+
+    /// Whether a command gets frames of the cache. If not, it waits until work of the disk ends; commands whose blocks
+    /// are in the cache do not wait for it.
+    fn has_room(&mut self, id: u64) -> bool {
+        let has_room = self.cache.has_room() && self.ledger.len() < MOST_OPEN && self.bytes_asked < MOST_READ;
+        if !has_room {
+            self.starved.push(id);
+        }
+        has_room
     }
 
     /// The place of a frame in the cache. One that comes into it has the zeros of zeroes that are in progress.
@@ -211,8 +222,13 @@ impl Storage {
     }
 
     /// Begins a command that may write: its ticket.
-    pub fn open(&mut self) -> u64 {
-        self.ledger.open()
+    pub fn open(&mut self, index: usize) -> u64 {
+        self.ledger.open(index)
+    }
+
+    /// How many commands of a controller are open.
+    pub fn open_of(&self, index: usize) -> usize {
+        self.ledger.open_of(index)
     }
 
     /// A command with this ticket was executed over the blocks that were brought for it. The first `at_hand` blocks of
@@ -263,7 +279,13 @@ impl Storage {
         while let Some(done) = self.workers.take() {
             self.finish(done)?;
         }
+        self.feed();
         Ok(())
+    }
+
+    /// Commands that wait for frames may come again, after those that are executed now and leave theirs.
+    fn feed(&mut self) {
+        self.ready.extend(mem::take(&mut self.starved));
     }
 
     fn finish(&mut self, done: Done) -> Outcome<()> {
@@ -323,6 +345,7 @@ impl Storage {
         self.ready.extend(flushes);
         self.ready.extend(self.asked.keys());
         self.queued.clear();
+        self.feed();
         Ok(())
     }
 

@@ -17,6 +17,7 @@ pub struct Owed {
 
 /// A command: how many writes and zeroes of it the system does not have, and its answer once that is known.
 struct Line {
+    index: usize,
     open: u32,
     owed: Option<Owed>,
 }
@@ -26,13 +27,22 @@ struct Line {
 pub struct Ledger {
     first: u64,
     lines: VecDeque<Line>,
+    /// How many commands of each controller are open.
+    counts: Vec<usize>,
 }
 
 impl Ledger {
-    /// Begins a command, which is open until its answer is known.
-    pub fn open(&mut self) -> u64 {
-        self.lines.push_back(Line { open: 1, owed: None });
+    /// Begins a command of a controller, which is open until its answer is known.
+    pub fn open(&mut self, index: usize) -> u64 {
+        self.lines.push_back(Line { index, open: 1, owed: None });
+        self.counts.resize(self.counts.len().max(index + 1), 0);
+        self.counts[index] += 1;
         self.next() - 1
+    }
+
+    /// How many commands of a controller are open.
+    pub fn open_of(&self, index: usize) -> usize {
+        self.counts.get(index).copied().unwrap_or(0)
     }
 
     /// The next ticket.
@@ -67,7 +77,11 @@ impl Ledger {
     pub fn end(&mut self, ticket: u64) -> Option<Owed> {
         let line = self.line(ticket)?;
         line.open -= 1;
-        let owed = if line.open == 0 { line.owed.take() } else { None };
+        if line.open != 0 {
+            return None;
+        }
+        let (owed, index) = (line.owed.take(), line.index);
+        self.counts[index] -= 1;
         while self.lines.front().map_or(false, |it| it.open == 0) {
             self.lines.pop_front();
             self.first += 1;
@@ -102,7 +116,7 @@ mod tests {
     #[test]
     fn answers_wait_for_their_writes() {
         let mut ledger = Ledger::default();
-        let tickets = [0; 4].map(|_| ledger.open());
+        let tickets = [0; 4].map(|_| ledger.open(1));
         tickets[..3].iter().for_each(|it| ledger.add(*it));
         ledger.add(tickets[1]);
         assert!((0..3).all(|it| ledger.close(tickets[it], owed(it as u64)).is_none()));
@@ -110,6 +124,7 @@ mod tests {
         assert!(ledger.end(tickets[1]).is_none());
         assert_eq!(ledger.end(tickets[2]).map(|it| it.connection), Some(2));
         assert!(!ledger.has_all_before(tickets[1]) && ledger.len() == 4);
+        assert_eq!((ledger.open_of(0), ledger.open_of(1), ledger.open_of(2)), (0, 2, 0));
         assert_eq!(ledger.end(tickets[0]).map(|it| it.connection), Some(0));
         assert!(ledger.has_all_before(tickets[1]) && !ledger.has_all_before(tickets[2]));
         assert_eq!(ledger.end(tickets[1]).map(|it| it.connection), Some(1));
@@ -120,7 +135,7 @@ mod tests {
     #[test]
     fn answers_are_given_up() {
         let mut ledger = Ledger::default();
-        let ticket = ledger.open();
+        let ticket = ledger.open(0);
         ledger.add(ticket);
         assert!(ledger.close(ticket, owed(7)).is_none());
         assert_eq!(ledger.give_up().len(), 1);

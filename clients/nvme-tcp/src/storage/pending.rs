@@ -7,7 +7,7 @@ use crate::association::ConnectionId;
 use crate::bytes::u32_at;
 use crate::controller::{Completed, Data, Token};
 use crate::fault::Outcome;
-use crate::nvme::{COMPARE, DATASET_MANAGEMENT, ENTRY, READ};
+use crate::nvme::{COMPARE, DATASET_MANAGEMENT, ENTRY, READ, WRITE_ZEROES};
 use crate::status::{COMMAND_SEQUENCE, SUCCESS};
 use crate::target::Target;
 use crate::window::Room;
@@ -20,6 +20,8 @@ const FORCE_UNIT_ACCESS: u32 = 1 << 30;
 /// subsystem has room for 64, 16 of which may be held.
 const MOST_FETCHED: usize = 40;
 const MOST_DATA: usize = 1 << 20;
+/// The most commands of a controller that were executed and not answered.
+const MOST_OPEN: usize = 256;
 
 /// A command of a host.
 #[derive(Clone, Copy)]
@@ -91,16 +93,17 @@ impl Waiting {
 }
 
 impl Target<'_> {
-    /// Whether no command of a controller may be taken until work of the disk ends.
-    pub fn is_busy(&self, index: usize) -> bool {
-        match &self.storage {
-            Some(storage) => {
-                storage.is_full()
-                    || self.controllers[index].fetched() >= MOST_FETCHED
-                    || self.waiting.bytes_of(index) >= MOST_DATA
-            }
-            None => false,
-        }
+    /// Whether a controller may take no command with this opcode until work of the disk ends. Those of other controllers
+    /// do not wait for that, except zeroes.
+    pub fn is_busy(&self, index: usize, opcode: u8) -> bool {
+        let storage = match &self.storage {
+            Some(storage) => storage,
+            None => return false,
+        };
+        storage.open_of(index) >= MOST_OPEN
+            || self.controllers[index].fetched() >= MOST_FETCHED
+            || self.waiting.bytes_of(index) >= MOST_DATA
+            || matches!(opcode, WRITE_ZEROES | DATASET_MANAGEMENT) && storage.has_many_zeroes()
     }
 
     /// Whether a connection has commands that will be answered.
@@ -111,7 +114,7 @@ impl Target<'_> {
     /// Executes an I/O command over the disk, or has it wait.
     pub fn io_over_disk(&mut self, issued: Issued, data: Data<'_>) -> Outcome<Option<Answer>> {
         if issued.opcode == DATASET_MANAGEMENT {
-            let ticket = self.storage.as_mut().map(|it| it.open());
+            let ticket = self.storage.as_mut().map(|it| it.open(issued.index));
             let answer = self.deallocate(issued.index, issued.qid, &issued.entry, data, ticket)?;
             return Ok(ticket.and_then(|ticket| self.owe(ticket, &issued, answer)));
         }
@@ -205,11 +208,11 @@ impl Target<'_> {
     ) -> Outcome<Option<Answer>> {
         let Issued { index, qid, entry, .. } = issued;
         let is_write = matches!(need, Need::Write { .. } | Need::Zero { .. });
-        let ticket = if is_write { self.storage.as_mut().map(|it| it.open()) } else { None };
+        let ticket = if is_write { self.storage.as_mut().map(|it| it.open(*index)) } else { None };
         let watch = self.watch(*index, entry);
         let completed = self.execute_over(*index, token, need, room.start(data.length()), ticket)?;
         let answer = self.answer_of(*index, *qid, entry, data, completed, watch.as_ref())?;
-        let ticket = ticket.or_else(|| self.storage.as_mut().and_then(|it| it.follow_writes(need)));
+        let ticket = ticket.or_else(|| self.storage.as_mut().and_then(|it| it.follow_writes(need, *index)));
         Ok(match ticket {
             Some(ticket) => {
                 let answer = self.kept(answer)?;

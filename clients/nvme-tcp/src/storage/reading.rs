@@ -19,6 +19,9 @@ impl Storage {
             if self.cache.has(extent) {
                 return true;
             }
+            if !self.has_room(id) {
+                return false;
+            }
             self.asked.insert(id, extent);
             self.bytes_asked += extent.bytes();
             for part in extent.parts() {

@@ -127,7 +127,7 @@ impl Trial {
     }
 
     fn change(&mut self, need: Need, byte: u8, is_synced: bool) -> u64 {
-        let (id, ticket) = (self.id(), self.storage.open());
+        let (id, ticket) = (self.id(), self.storage.open(0));
         assert!(self.storage.prepare(need, id));
         let (room, brought) = self.storage.bring(need);
         room.fill(byte);
@@ -243,7 +243,7 @@ fn a_cache_is_smaller_than_the_disk() {
     let blocks = 4 * CACHED;
     let mut it = Trial::new(Fake::new(blocks), false);
     for first in (0..blocks - 3).step_by(3) {
-        while it.storage.is_full() {
+        while !it.storage.cache.has_room() {
             it.turn();
         }
         it.write(first, 3, first as u8 | 1);
@@ -254,7 +254,7 @@ fn a_cache_is_smaller_than_the_disk() {
     }
     assert_eq!(it.answered.len() as u64, (blocks - 3 + 2) / 3);
     assert!(it.answered.iter().all(|(_, status)| *status == SUCCESS));
-    assert!(!it.storage.is_full());
+    assert!(it.storage.cache.has_room());
 }
 
 #[test]
@@ -304,7 +304,7 @@ fn a_refused_write_fails_the_disk() {
     it.answered.clear();
     let fourth = it.write(50, 1, 4);
     assert_eq!(it.answered, [(fourth, WRITE_FAULT)]);
-    assert!(!it.storage.is_full() && it.storage.sync().is_err());
+    assert!(it.storage.sync().is_err());
 }
 
 #[test]
@@ -392,7 +392,7 @@ impl Trial {
     fn read_and_wait(&mut self, first: u64, blocks: u32) -> bool {
         let (id, need) = (self.id(), Need::Read { first, blocks });
         assert!(self.storage.prepare(need, id));
-        let ticket = match self.storage.follow_writes(need) {
+        let ticket = match self.storage.follow_writes(need, 0) {
             Some(ticket) => ticket,
             None => return false,
         };
@@ -454,11 +454,11 @@ fn nobody_reads_older_bytes() {
         let (mut random, mut waiting, mut changes) = (Random(seed), Vec::new(), 0);
         for turn in 0..3000_u64 {
             it.storage.begin(false).unwrap();
-            if (turn % 3 == 0 || it.storage.is_full()) && it.storage.workers.under_way != 0 {
+            if (turn % 3 == 0 || !it.storage.cache.has_room()) && it.storage.workers.under_way != 0 {
                 it.turn();
             }
             it.conclude(&mut waiting, &model);
-            if it.storage.is_full() {
+            if !it.storage.cache.has_room() || it.storage.bytes_asked >= MOST_READ {
                 continue;
             }
             // Many of them are on a few frames.

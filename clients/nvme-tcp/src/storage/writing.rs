@@ -193,7 +193,7 @@ impl Storage {
 
     /// A command was executed over blocks, and has changed none. If writes of some of them are in progress, its
     /// answer waits until they end: a kill takes back nothing that a host has read. It has a ticket then.
-    pub fn follow_writes(&mut self, need: Need) -> Option<u64> {
+    pub fn follow_writes(&mut self, need: Need, index: usize) -> Option<u64> {
         let extent = match need {
             Need::Read { first, blocks } if self.failure.is_none() => Extent { first, blocks },
             _ => return None,
@@ -201,7 +201,7 @@ impl Storage {
         let Storage { cache, ledger, zeroing, unsynced, .. } = self;
         let mut ticket = None;
         let mut wait = |list: &mut Vec<u64>| {
-            let number = *ticket.get_or_insert_with(|| ledger.open());
+            let number = *ticket.get_or_insert_with(|| ledger.open(index));
             ledger.add(number);
             list.push(number);
         };
@@ -217,7 +217,7 @@ impl Storage {
         }
         zeroing.iter_mut().filter(|it| it.extent.overlaps(extent)).for_each(|it| wait(&mut it.tickets));
         if ticket.is_none() && unsynced.iter().any(|(_, it)| it.overlaps(extent)) {
-            ticket = Some(ledger.open());
+            ticket = Some(ledger.open(index));
         }
         ticket
     }
