@@ -254,8 +254,8 @@ impl Storage {
         Some(owed)
     }
 
-    /// Begins what can begin of writes, zeroes and syncs. If one host alone is served, small writes into the system's
-    /// memory are made at once: that is faster than to wake a thread.
+    /// Begins what can begin of writes, zeroes and syncs. If there is one host alone, small writes into the system's
+    /// memory are made at once: that is faster than to wake a thread, and no other host waits for it.
     pub fn begin(&mut self, is_alone: bool) -> Outcome<()> {
         if self.failure.is_some() {
             return Ok(());

@@ -230,7 +230,8 @@ impl<'a> Target<'a> {
     /// Begins to write what the commands so far have changed: blocks, and the events of the kept run, which the system
     /// must have before a host hears of them. `is_alone` says that one host is served and waits for that.
     pub fn hand_over(&mut self, is_alone: bool) -> Outcome<Handed> {
-        self.storage.as_mut().map_or(Ok(()), |it| it.begin(is_alone))?;
+        let is_only_host = is_alone && self.associations.iter().flatten().count() == 1;
+        self.storage.as_mut().map_or(Ok(()), |it| it.begin(is_only_host))?;
         self.machine.begin_run(is_alone).map(Handed)
     }
 

@@ -13,7 +13,7 @@ use std::mem;
 const MOST_WRITTEN: usize = 1 << 20;
 /// The most bytes of writes that are in progress.
 const MOST_IN_PROGRESS: usize = 8 << 20;
-/// A write of at most this many bytes is made at once, if the system takes it into its memory and one host is served.
+/// A write of at most this many bytes is made at once, if the system takes it into its memory and there is one host.
 const SMALL: usize = 16 << 10;
 
 /// Zeroes that are in progress, or wait for writes and other zeroes.
