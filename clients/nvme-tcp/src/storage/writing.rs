@@ -76,7 +76,7 @@ impl Storage {
     pub(super) fn begin_writes(&mut self, is_alone: bool) -> Outcome<()> {
         let mut queued = mem::take(&mut self.queued);
         queued.sort_unstable_by_key(|place| self.cache.at(*place).number);
-        let mut group: Vec<usize> = Vec::new();
+        let (mut group, is_cached): (Vec<usize>, bool) = (Vec::new(), self.disk.is_cached());
         for place in queued {
             // The rest waits until some of these end.
             if self.bytes_written + group.len() * FRAME_BYTES >= MOST_IN_PROGRESS {
@@ -87,8 +87,9 @@ impl Storage {
                 continue;
             }
             let number = self.cache.at(place).number;
+            // The system takes all of a batch into its memory by one thread sooner than by several. A device is kept busy.
             let is_next = group.last().map_or(true, |last| self.cache.at(*last).number + 1 == number);
-            if !is_next || (group.len() + 1) * FRAME_BYTES > MOST_WRITTEN {
+            if !is_next && !is_cached || (group.len() + 1) * FRAME_BYTES > MOST_WRITTEN {
                 self.write(&mem::take(&mut group), is_alone)?;
             }
             group.push(place);
