@@ -1,17 +1,19 @@
-//! Reads or writes of a target, as many as it answers: `load ADDRESS CONNECTIONS DEPTH BYTES read|write SECONDS`. It
-//! prints how many commands a second were answered, and the microseconds of each.
+//! Reads or writes of a target, as many as it answers: `load ADDRESS CONNECTIONS DEPTH BYTES read|write SECONDS [BLOCKS
+//! [HOST]]`, at random places of the namespace's BLOCKS, as the host with the identifier HOST. It prints how many
+//! commands a second were answered, the microseconds of each, and the 99th percentile of their latency.
 #![deny(unsafe_code)]
 
 use std::io::{Read, Result, Write};
 use std::net::TcpStream;
-use std::sync::atomic::{AtomicU64, Ordering};
 use std::thread;
 use std::time::{Duration, Instant};
 
 const NAME: &[u8] = b"nqn.2024-01.example:suvmileh";
 /// The most bytes of a write that go into its capsule.
 const IN_CAPSULE: usize = 8192;
+/// Unless the command line has others.
 const BLOCKS: u64 = 32768;
+const HOST: u64 = 0xa1;
 
 /// A queue of a host.
 struct Queue {
@@ -22,7 +24,7 @@ struct Queue {
 }
 
 impl Queue {
-    fn connect(address: &str, qid: u16, cntlid: u16) -> Result<(Queue, u16)> {
+    fn connect(address: &str, qid: u16, cntlid: u16, host: u64) -> Result<(Queue, u16)> {
         let socket = TcpStream::connect(address)?;
         socket.set_nodelay(true)?;
         let mut queue = Queue { socket, input: vec![0; 1 << 20], begin: 0, end: 0 };
@@ -32,7 +34,7 @@ impl Queue {
         queue.socket.write_all(&request)?;
         queue.unit()?;
         let mut data = vec![0; 1024];
-        data[0] = 0xa1;
+        data[..8].copy_from_slice(&host.to_le_bytes());
         data[16..18].copy_from_slice(&cntlid.to_le_bytes());
         data[256..256 + NAME.len()].copy_from_slice(NAME);
         data[512..520].copy_from_slice(b"nqn.load");
@@ -133,28 +135,43 @@ fn capsule(entry: &[u8; 64], data: &[u8]) -> Vec<u8> {
     unit
 }
 
-/// The commands of a queue until time is over; how many were answered.
-fn work(queue: &mut Queue, depth: u16, bytes: usize, writes: bool, last: Instant) -> Result<u64> {
+/// What each queue does.
+#[derive(Clone, Copy)]
+struct Load {
+    depth: u16,
+    bytes: usize,
+    writes: bool,
+    last: Instant,
+    /// Blocks of the namespace.
+    most: u64,
+}
+
+/// The commands of a queue until time is over: the microseconds that each took.
+fn work(queue: &mut Queue, load: Load) -> Result<Vec<u32>> {
+    let Load { depth, bytes, writes, last, most } = load;
     let data = vec![0x5a; if writes && bytes <= IN_CAPSULE { bytes } else { 0 }];
     let kind = if data.is_empty() { 0x5a } else { 0x01 };
     let blocks = bytes as u64 / 512;
-    let (mut place, mut done) = (1u64, 0u64);
+    // Each queue has places of its own.
+    let mut place = queue.socket.local_addr()?.port().into();
     let mut next = |cid: u16| {
-        place = place.wrapping_mul(6_364_136_223_846_793_005).wrapping_add(1_442_695_040_888_963_407);
+        place = u64::wrapping_mul(place, 6_364_136_223_846_793_005).wrapping_add(1_442_695_040_888_963_407);
         let mut entry = entry(if writes { 1 } else { 2 }, cid, 1, bytes as u32, kind);
-        entry[40..48].copy_from_slice(&((place >> 33) % (BLOCKS / blocks) * blocks).to_le_bytes());
+        entry[40..48].copy_from_slice(&((place >> 16) % (most / blocks) * blocks).to_le_bytes());
         entry[48..50].copy_from_slice(&(blocks as u16 - 1).to_le_bytes());
         capsule(&entry, &data)
     };
     let first: Vec<u8> = (0..depth).flat_map(&mut next).collect();
     queue.socket.write_all(&first)?;
-    let mut going = depth;
-    let mut waiting = Vec::new();
+    let (mut going, mut waiting, mut taken) = (depth, Vec::new(), Vec::new());
+    let mut begun = vec![Instant::now(); depth.into()];
     while going > 0 {
         let (cid, _) = queue.completion()?;
-        done += 1;
-        if Instant::now() < last {
+        let now = Instant::now();
+        taken.push((now - begun[usize::from(cid)]).as_micros() as u32);
+        if now < last {
             waiting.extend(next(cid));
+            begun[usize::from(cid)] = now;
         } else {
             going -= 1;
         }
@@ -164,31 +181,30 @@ fn work(queue: &mut Queue, depth: u16, bytes: usize, writes: bool, last: Instant
             waiting.clear();
         }
     }
-    Ok(done)
+    Ok(taken)
 }
 
 fn main() -> Result<()> {
     let words: Vec<String> = std::env::args().collect();
     let number = |at: usize| words[at].parse::<u64>().expect("a number");
-    let (address, connections, depth) = (&words[1], number(2), number(3) as u16);
-    let (bytes, writes) = (number(4) as usize, words[5] == "write");
-    let seconds = Duration::from_secs_f64(words[6].parse().expect("seconds"));
-    let (mut admin, cntlid) = Queue::connect(address, 0, 0xffff)?;
+    let or = |at: usize, other: u64| if at < words.len() { number(at) } else { other };
+    let (address, connections, depth, host) = (&words[1], number(2), number(3) as u16, or(8, HOST));
+    let (mut admin, cntlid) = Queue::connect(address, 0, 0xffff, host)?;
     admin.enable()?;
     let mut queues = Vec::new();
     for qid in 1..=connections as u16 {
-        queues.push(Queue::connect(address, qid, cntlid)?.0);
+        queues.push(Queue::connect(address, qid, cntlid, host)?.0);
     }
-    let (begun, done) = (Instant::now(), AtomicU64::new(0));
-    let last = begun + seconds;
-    thread::scope(|scope| {
-        for queue in &mut queues {
-            scope.spawn(|| {
-                done.fetch_add(work(queue, depth, bytes, writes, last).expect("an answer"), Ordering::Relaxed)
-            });
-        }
+    let begun = Instant::now();
+    let last = begun + Duration::from_secs_f64(words[6].parse().expect("seconds"));
+    let load = Load { depth, bytes: number(4) as usize, writes: words[5] == "write", last, most: or(7, BLOCKS) };
+    let mut taken: Vec<u32> = thread::scope(|scope| {
+        let threads: Vec<_> = queues.iter_mut().map(|queue| scope.spawn(move || work(queue, load))).collect();
+        threads.into_iter().flat_map(|it| it.join().expect("a thread").expect("an answer")).collect()
     });
-    let (took, done) = (begun.elapsed().as_secs_f64(), done.into_inner());
-    println!("{:.0} a second, {:.1} us each", done as f64 / took, took * 1e6 / done as f64);
+    let (took, done) = (begun.elapsed().as_secs_f64(), taken.len());
+    taken.sort_unstable();
+    let each = took * 1e6 / done as f64;
+    println!("{:.0} a second, {each:.1} us each, 99 percent within {} us", done as f64 / took, taken[done * 99 / 100]);
     Ok(())
 }
