@@ -6,8 +6,9 @@ use crate::output::Output;
 use crate::window::MOST_DATA;
 pub use nvmesim::pdu::{Agreed, Fatal, HostData, Kind, Layout};
 
-/// The number of ICReq, with which a connection begins.
+/// The numbers of ICReq, with which a connection begins, and of CapsuleCmd.
 pub const IC_REQUEST: u8 = 0x00;
+pub const COMMAND_CAPSULE: u8 = 0x04;
 /// The sizes of headers: what all have, those of ICReq and ICResp, and those of all others that a controller sends.
 pub const COMMON: usize = 8;
 pub const IC: usize = 128;
