@@ -146,6 +146,7 @@ impl<'a> Server<'a> {
     /// Serves every connection that is ready. If none is, and some wait for the kept run, blocks on the oldest write.
     fn turn(&mut self, ready: &mut Vec<Ready>, look: &mut Instant) -> Outcome<()> {
         let patience = if self.waiting.is_empty() { LOOK } else { Duration::ZERO };
+        self.target.hand_out();
         self.poll.wait(patience.as_millis() as i32, ready).map_err(Fault::System)?;
         let now = Instant::now();
         let is_due = now >= *look;
@@ -168,6 +169,7 @@ impl<'a> Server<'a> {
             }
         }
         if is_idle {
+            self.target.hand_out();
             self.awaited().map_or(Ok(()), |handed| self.target.wait_for(handed))?;
         }
         self.resume()?;

@@ -9,6 +9,7 @@ mod aligned;
 mod cache;
 mod file;
 mod frames;
+mod jobs;
 mod ledger;
 pub mod options;
 pub mod pending;
@@ -29,6 +30,8 @@ use crate::status::{READ_ERROR, WRITE_FAULT};
 use cache::Cache;
 pub use file::{blocks_of, is_read_only, Image};
 use frames::{Extent, FRAME_BYTES};
+pub use jobs::Disk;
+use jobs::{Done, Job};
 use ledger::Ledger;
 pub use ledger::Owed;
 use nvmesim::{Brought, Need};
@@ -40,8 +43,7 @@ use std::os::unix::net::UnixStream;
 use std::sync::Arc;
 use std::time::Instant;
 use syncs::Syncs;
-pub use workers::Disk;
-use workers::{Done, Job, Workers};
+use workers::Workers;
 use writing::Zeroing;
 
 /// Commands wait with this many that wait for writes, this many zeroes, or this many bytes to read.
@@ -68,8 +70,9 @@ pub struct Storage {
     bytes_asked: usize,
     /// Commands that wait for frames of the cache.
     starved: Vec<u64>,
-    /// The blocks of a command that are in several frames.
+    /// The blocks of a command whose frames are not adjacent in memory, and whether the last command has them there.
     room: Vec<u8>,
+    is_in_room: bool,
     /// What the disk refused, so that its blocks may be older than those that were written.
     failure: Option<io::Error>,
     /// Whether a failure ends the target, since a kept run has no line for it.
@@ -101,6 +104,7 @@ impl Storage {
             bytes_asked: 0,
             starved: Vec::new(),
             room: Vec::new(),
+            is_in_room: false,
             failure: None,
             keeps_run,
             name,
@@ -190,11 +194,18 @@ impl Storage {
             return (&mut [], Brought { first, blocks: 0, flushes: false });
         }
         let blocks = if is_read { self.at_hand(extent) } else { 0 };
-        let brought = Brought { first, blocks, flushes: false };
-        let mut parts = extent.parts();
-        if let (Some(part), None) = (parts.next(), parts.next()) {
-            let place = self.frame(part.number);
-            return (self.cache.bytes_mut(place, part), brought);
+        for number in extent.frames() {
+            self.frame(number);
+        }
+        (self.bring_bytes(extent, blocks), Brought { first, blocks, flushes: false })
+    }
+
+    /// The bytes of blocks, the first of which are in the cache: in it, or in a room with copies of those.
+    fn bring_bytes(&mut self, extent: Extent, blocks: u64) -> &mut [u8] {
+        let adjacent = self.cache.adjacent(extent);
+        self.is_in_room = adjacent.is_none();
+        if let Some(range) = adjacent {
+            return self.cache.lend(range);
         }
         self.room.resize(extent.bytes().max(self.room.len()), 0);
         let mut begin = 0;
@@ -204,7 +215,7 @@ impl Storage {
             self.room[begin..begin + bytes.len()].copy_from_slice(bytes);
             begin += bytes.len();
         }
-        (&mut self.room[..extent.bytes()], brought)
+        &mut self.room[..extent.bytes()]
     }
 
     /// How many of the first blocks are in the cache.
@@ -273,6 +284,11 @@ impl Storage {
         Ok(())
     }
 
+    /// Gives the threads what was begun, before the event loop waits.
+    pub fn hand_out(&mut self) {
+        self.workers.hand_out();
+    }
+
     /// Takes back the jobs that have ended.
     pub fn take_finished(&mut self) -> Outcome<()> {
         self.workers.hear();
@@ -290,7 +306,7 @@ impl Storage {
 
     fn finish(&mut self, done: Done) -> Outcome<()> {
         let failure = match done.job {
-            Job::Read(reading) => return self.finish_read(&reading, done.result),
+            Job::Read(reading) => return self.finish_read(reading, done.result),
             Job::Write(writing) => {
                 self.finish_write(&writing, done.result.is_ok());
                 done.result.err()

@@ -235,6 +235,11 @@ impl<'a> Target<'a> {
         self.machine.begin_run(is_alone).map(Handed)
     }
 
+    /// Gives the threads of the disk their work, before the event loop waits.
+    pub fn hand_out(&mut self) {
+        self.storage.iter_mut().for_each(Storage::hand_out);
+    }
+
     /// Whether the system has all events up to `handed`.
     pub fn has(&self, handed: Handed) -> Outcome<bool> {
         Ok(handed.0 <= self.machine.run_done()?)

@@ -21,6 +21,15 @@ impl Aligned {
         aligned.bytes.truncate(begin + count);
         aligned
     }
+
+    /// These bytes, or zeros if they are fewer than `count`.
+    pub fn extended(self, count: usize) -> Aligned {
+        if self.len() < count {
+            Aligned::zeros(count)
+        } else {
+            self
+        }
+    }
 }
 
 impl Deref for Aligned {

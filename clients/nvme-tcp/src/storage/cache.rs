@@ -2,34 +2,18 @@
 //! the disk needs is replaced by the CLOCK algorithm: the hand passes frames that were used since it came by last.
 
 use super::frames::{Extent, Frame, Part, FRAME_BYTES, MOST_PARTS};
+use std::cell::Cell;
 use std::collections::HashMap;
-use std::hash::{BuildHasherDefault, Hasher};
-
-/// Mixes a number, which is all that is hashed here.
-#[derive(Default)]
-pub struct Mixer(u64);
-
-impl Hasher for Mixer {
-    fn finish(&self) -> u64 {
-        self.0
-    }
-
-    fn write(&mut self, bytes: &[u8]) {
-        bytes.iter().for_each(|it| self.write_u64((*it).into()));
-    }
-
-    fn write_u64(&mut self, number: u64) {
-        let mixed = (self.0 ^ number).wrapping_mul(0x9e37_79b9_7f4a_7c15);
-        self.0 = mixed ^ mixed >> 32;
-    }
-}
+use std::ops::Range;
 
 /// The frames in memory.
 pub struct Cache {
     frames: Vec<Frame>,
     /// Their bytes, one frame after the other. The system has memory only for those that were in use.
     bytes: Vec<u8>,
-    places: HashMap<u64, usize, BuildHasherDefault<Mixer>>,
+    places: HashMap<u64, usize>,
+    /// The number and the place of the frame that was found last: a command asks several times for each of its frames.
+    last: Cell<Option<(u64, usize)>>,
     most: usize,
     /// How many frames must stay.
     busy: usize,
@@ -41,12 +25,20 @@ impl Cache {
     pub fn new(most: usize) -> Cache {
         let most = most.max(4 * MOST_PARTS);
         let bytes = vec![0; most * FRAME_BYTES];
-        Cache { frames: Vec::new(), bytes, places: HashMap::default(), most, busy: 0, hand: 0 }
+        let (frames, places, last) = (Vec::new(), HashMap::new(), Cell::new(None));
+        Cache { frames, bytes, places, last, most, busy: 0, hand: 0 }
     }
 
     /// The place of a frame, if it is in memory.
     pub fn find(&self, number: u64) -> Option<usize> {
-        self.places.get(&number).copied()
+        match self.last.get() {
+            Some((last, place)) if last == number => Some(place),
+            _ => {
+                let place = self.places.get(&number).copied()?;
+                self.last.set(Some((number, place)));
+                Some(place)
+            }
+        }
     }
 
     pub fn at(&self, place: usize) -> &Frame {
@@ -58,10 +50,28 @@ impl Cache {
         &self.bytes[place * FRAME_BYTES..][part.range()]
     }
 
-    /// The same, for a command that is executed over them.
-    pub fn bytes_mut(&mut self, place: usize, part: Part) -> &mut [u8] {
+    /// The same, to change them.
+    fn bytes_mut(&mut self, place: usize, part: Part) -> &mut [u8] {
         self.frames[place].is_recent = true;
         &mut self.bytes[place * FRAME_BYTES..][part.range()]
+    }
+
+    /// Where the bytes of an extent are, if its frames are in memory and adjacent there. Most that came in together are.
+    pub fn adjacent(&self, extent: Extent) -> Option<Range<usize>> {
+        let first = extent.part(extent.frames().start);
+        let place = self.find(first.number)?;
+        if extent.frames().zip(place..).any(|(number, place)| self.find(number) != Some(place)) {
+            return None;
+        }
+        let begin = place * FRAME_BYTES + first.range().start;
+        Some(begin..begin + extent.bytes())
+    }
+
+    /// These bytes, for a command that is executed over them.
+    pub fn lend(&mut self, range: Range<usize>) -> &mut [u8] {
+        let places = range.start / FRAME_BYTES..(range.end + FRAME_BYTES - 1) / FRAME_BYTES;
+        self.frames[places].iter_mut().for_each(|frame| frame.is_recent = true);
+        &mut self.bytes[range]
     }
 
     /// The frame of a part of an extent, if it is in memory.
@@ -129,6 +139,7 @@ impl Cache {
             }
         };
         self.places.insert(number, place);
+        self.last.set(Some((number, place)));
         place
     }
 

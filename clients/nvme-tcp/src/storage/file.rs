@@ -6,7 +6,7 @@
 
 use super::aligned::{Aligned, PAGE};
 use super::options::Options;
-use super::workers::Disk;
+use super::jobs::Disk;
 use crate::locking::{open_disk, open_regular, Lock, ALONE, DIRECT};
 use crate::nvme::BLOCK;
 use crate::system::punch_hole;
@@ -123,6 +123,11 @@ fn check_length(found: u64, length: u64) -> io::Result<()> {
     Ok(())
 }
 
+/// Whether O_DIRECT takes bytes as they are: whole pages, in memory too.
+fn is_whole(place: u64, bytes: &[u8]) -> bool {
+    place % UNIT == 0 && bytes.len() % PAGE == 0 && bytes.as_ptr() as usize % PAGE == 0
+}
+
 impl ImageDisk {
     /// The whole pages around bytes, and the place of the bytes in them.
     fn around(place: u64, count: usize) -> (u64, usize, usize) {
@@ -153,7 +158,7 @@ impl ImageDisk {
 
 impl Disk for ImageDisk {
     fn read(&self, place: u64, room: &mut [u8]) -> io::Result<()> {
-        if !self.is_direct {
+        if !self.is_direct || is_whole(place, room) {
             return self.file.read_exact_at(room, place);
         }
         let (first, before, count) = ImageDisk::around(place, room.len());
@@ -165,7 +170,7 @@ impl Disk for ImageDisk {
 
     fn write(&self, place: u64, bytes: &[u8]) -> io::Result<()> {
         self.check_open()?;
-        if !self.is_direct {
+        if !self.is_direct || is_whole(place, bytes) {
             return self.file.write_all_at(bytes, place);
         }
         // The device may have sectors of a page: the rest of the pages is written as it is.

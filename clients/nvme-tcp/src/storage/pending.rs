@@ -68,6 +68,8 @@ impl Pending {
 pub struct Waiting {
     list: BTreeMap<u64, Pending>,
     next: u64,
+    /// How many bytes of data the commands of each controller have.
+    bytes: Vec<usize>,
 }
 
 impl Waiting {
@@ -81,9 +83,22 @@ impl Waiting {
         self.list.values().any(|it| it.issued.connection == connection)
     }
 
+    fn insert(&mut self, id: u64, pending: Pending) {
+        let (index, length) = (pending.issued.index, pending.length);
+        self.bytes.resize(self.bytes.len().max(index + 1), 0);
+        self.bytes[index] += length;
+        self.list.insert(id, pending);
+    }
+
+    fn remove(&mut self, id: u64) -> Option<Pending> {
+        let pending = self.list.remove(&id)?;
+        self.bytes[pending.issued.index] -= pending.length;
+        Some(pending)
+    }
+
     /// How many bytes of data the commands of a controller have.
     fn bytes_of(&self, index: usize) -> usize {
-        self.list.values().filter(|it| it.issued.index == index).map(|it| it.length).sum()
+        self.bytes.get(index).copied().unwrap_or(0)
     }
 
     /// The first command of a controller that was held.
@@ -128,14 +143,14 @@ impl Target<'_> {
         if self.storage.as_mut().map_or(true, |it| it.prepare(need, id)) {
             return self.conclude(&issued, token, need, data, Room::AT_ONCE);
         }
-        self.waiting.list.insert(id, Pending::new(issued, token, data, Room::AT_ONCE));
+        self.waiting.insert(id, Pending::new(issued, token, data, Room::AT_ONCE));
         Ok(None)
     }
 
     /// Has a command that was held wait for its turn.
     pub fn wait(&mut self, pending: Pending) {
         let id = self.waiting.next();
-        self.waiting.list.insert(id, Pending { was_held: true, ..pending });
+        self.waiting.insert(id, Pending { was_held: true, ..pending });
         self.storage.iter_mut().for_each(|it| it.ready.push_back(id));
     }
 
@@ -173,7 +188,7 @@ impl Target<'_> {
         if !storage.prepare(need, id) {
             return Ok(None);
         }
-        let pending = match waiting.list.remove(&id) {
+        let pending = match waiting.remove(id) {
             Some(pending) => pending,
             None => return Ok(None),
         };
@@ -287,7 +302,7 @@ impl Target<'_> {
         let is_dropped = |it: &Pending| it.issued.index == index && qid.map_or(true, |qid| it.issued.qid == qid);
         let dropped: Vec<u64> = self.waiting.list.iter().filter(|(_, it)| is_dropped(it)).map(|(id, _)| *id).collect();
         for id in dropped {
-            if let Some(pending) = self.waiting.list.remove(&id) {
+            if let Some(pending) = self.waiting.remove(id) {
                 self.forget(id, index, pending.was_held);
             }
         }

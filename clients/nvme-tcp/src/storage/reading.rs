@@ -1,13 +1,11 @@
 //! Reads: blocks that the cache lacks come from the disk, while the command that needs them waits.
 
 use super::frames::{runs, Extent, Part};
-use super::workers::{Job, Reading};
+use super::jobs::Reading;
 use super::Storage;
 use crate::fault::{Fault, Outcome};
 use crate::log::warn;
-use crate::nvme::BLOCK;
 use std::io;
-use std::mem;
 use std::time::{Duration, Instant};
 
 /// The least time between two warnings.
@@ -15,37 +13,35 @@ const PAUSE: Duration = Duration::from_secs(1);
 
 impl Storage {
     pub(super) fn prepare_read(&mut self, extent: Extent, id: u64) -> bool {
+        if self.cache.has(extent) {
+            return true;
+        }
         if !self.asked.contains_key(&id) {
-            if self.cache.has(extent) {
-                return true;
-            }
             if !self.has_room(id) {
                 return false;
             }
-            self.asked.insert(id, extent);
-            self.bytes_asked += extent.bytes();
-            for part in extent.parts() {
-                let place = self.frame(part.number);
-                self.cache.change(place, |frame| {
-                    frame.users += 1;
-                    frame.failed &= !part.mask();
-                });
-            }
+            self.ask(extent, id);
         }
         self.read_missing(extent);
-        let mut is_ready = true;
+        let coming = extent.parts().find_map(|part| {
+            let place = self.frame(part.number);
+            (self.cache.at(place).coming & part.mask() != 0).then(|| place)
+        });
+        coming.iter().for_each(|place| self.cache.change(*place, |frame| frame.waiting.push(id)));
+        coming.is_none()
+    }
+
+    /// A command needs blocks, whose frames stay in the cache until it is executed.
+    fn ask(&mut self, extent: Extent, id: u64) {
+        self.asked.insert(id, extent);
+        self.bytes_asked += extent.bytes();
         for part in extent.parts() {
             let place = self.frame(part.number);
             self.cache.change(place, |frame| {
-                if frame.coming & part.mask() != 0 {
-                    is_ready = false;
-                    if !frame.waiting.contains(&id) {
-                        frame.waiting.push(id);
-                    }
-                }
+                frame.users += 1;
+                frame.failed &= !part.mask();
             });
         }
-        is_ready
     }
 
     /// Begins to read the blocks that are neither in the cache nor on the way, nor could be read.
@@ -61,44 +57,34 @@ impl Storage {
             for run in runs(part.number, missing).map(Part::extent) {
                 match &mut next {
                     Some(last) if last.end() == run.first => last.blocks += run.blocks,
-                    _ => {
-                        let last = next.replace(run);
-                        last.into_iter().for_each(|it| self.workers.begin(Job::Read(Reading::new(it))));
-                    }
+                    _ => next.replace(run).into_iter().for_each(|it| self.workers.read(it)),
                 }
             }
         }
-        next.into_iter().for_each(|it| self.workers.begin(Job::Read(Reading::new(it))));
+        next.into_iter().for_each(|it| self.workers.read(it));
     }
 
-    pub(super) fn finish_read(&mut self, reading: &Reading, result: io::Result<()>) -> Outcome<()> {
-        let mut begin = 0;
+    /// The blocks that were read come into the cache, unless it has newer ones.
+    pub(super) fn finish_read(&mut self, reading: Reading, result: io::Result<()>) -> Outcome<()> {
         for part in reading.extent.parts() {
-            let range = begin..begin + (part.to - part.from) as usize;
-            begin = range.end;
-            let place = self.frame(part.number);
-            for (block, at) in (part.from..part.to).zip(range) {
-                let part = Part { number: part.number, from: block, to: block + 1 };
-                if self.cache.at(place).valid & part.mask() != 0 {
-                    continue;
-                }
-                if reading.failed[at] {
-                    self.cache.change(place, |frame| frame.failed |= part.mask());
-                } else {
-                    let begin = at * BLOCK as usize;
-                    self.cache.put(place, part, &reading.bytes[begin..begin + BLOCK as usize]);
-                }
+            let (place, failed) = (self.frame(part.number), reading.failed_of(part));
+            let missing = part.mask() & !self.cache.at(place).valid;
+            for run in runs(part.number, missing & !failed) {
+                self.cache.put(place, run, reading.bytes_of(run));
             }
-            let waiting = self.cache.change(place, |frame| {
+            let Storage { cache, ready, .. } = self;
+            cache.change(place, |frame| {
                 frame.coming &= !part.mask();
-                mem::take(&mut frame.waiting)
+                frame.failed |= missing & failed;
+                ready.extend(frame.waiting.drain(..));
             });
-            self.ready.extend(waiting);
         }
+        let extent = reading.extent;
+        self.workers.keep(reading.bytes);
         match result {
             Err(error) if self.keeps_run => Err(Fault::Image(error)),
             Err(error) => {
-                self.warn_of_read(reading.extent, &error);
+                self.warn_of_read(extent, &error);
                 Ok(())
             }
             Ok(()) => Ok(()),

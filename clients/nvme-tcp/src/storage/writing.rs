@@ -2,7 +2,7 @@
 //! at a time, and what overlaps zeroes waits for them, so newer bytes come to the disk after older ones.
 
 use super::frames::{runs, Extent, FRAME_BYTES};
-use super::workers::{Done, Job, Writing};
+use super::jobs::{Done, Job, Writing};
 use super::Storage;
 use crate::fault::Outcome;
 use crate::nvme::BLOCK;
@@ -25,11 +25,10 @@ pub struct Zeroing {
 
 impl Storage {
     pub(super) fn take_written(&mut self, extent: Extent, at_hand: u64, ticket: u64) {
-        let is_in_room = extent.parts().nth(1).is_some();
         let mut begin = 0;
         for part in extent.front(at_hand).parts() {
             let place = self.frame(part.number);
-            if is_in_room {
+            if self.is_in_room {
                 let bytes = begin..begin + part.range().len();
                 begin = bytes.end;
                 self.cache.put(place, part, &self.room[bytes]);

@@ -1,0 +1,134 @@
+//! Work of the disk: what a job reads, writes, zeroes or syncs, and the calls that it makes.
+
+use super::aligned::Aligned;
+use super::frames::{Extent, Mask, Part};
+use crate::nvme::BLOCK;
+use std::io;
+
+/// A disk. Places and numbers of bytes are multiples of a block.
+pub trait Disk: Send + Sync {
+    /// Fills a room with the bytes from a place on.
+    fn read(&self, place: u64, room: &mut [u8]) -> io::Result<()>;
+    fn write(&self, place: u64, bytes: &[u8]) -> io::Result<()>;
+    /// Replaces bytes by zeros.
+    fn zero(&self, place: u64, count: u64) -> io::Result<()>;
+    /// Has the disk keep what was written, also without power.
+    fn sync(&self) -> io::Result<()>;
+    /// An error of the kind InvalidData if another program has changed it.
+    fn check(&self) -> io::Result<()>;
+    /// Whether the system takes writes into its memory, so that small ones do not wait.
+    fn is_cached(&self) -> bool;
+}
+
+/// Blocks of several frames that are written together: runs of adjacent blocks, and their bytes one after the other.
+pub struct Writing {
+    /// The places of the frames in the cache.
+    pub frames: Vec<usize>,
+    pub runs: Vec<Extent>,
+    pub bytes: Aligned,
+    pub length: usize,
+}
+
+impl Writing {
+    pub fn new(bytes: usize) -> Writing {
+        Writing { frames: Vec::new(), runs: Vec::new(), bytes: Aligned::zeros(bytes), length: 0 }
+    }
+
+    /// Adds blocks, which may be adjacent to the last ones.
+    pub fn put(&mut self, part: Part, bytes: &[u8]) {
+        let extent = part.extent();
+        match self.runs.last_mut() {
+            Some(last) if last.end() == extent.first => last.blocks += extent.blocks,
+            _ => self.runs.push(extent),
+        }
+        self.bytes[self.length..self.length + bytes.len()].copy_from_slice(bytes);
+        self.length += bytes.len();
+    }
+
+    /// Writes them.
+    pub fn write(&self, disk: &dyn Disk) -> io::Result<()> {
+        let mut begin = 0;
+        for run in &self.runs {
+            disk.write(run.place(), &self.bytes[begin..begin + run.bytes()])?;
+            begin += run.bytes();
+        }
+        Ok(())
+    }
+}
+
+/// Blocks that are read together.
+pub struct Reading {
+    pub extent: Extent,
+    /// Their bytes, at the front of a buffer that may be longer.
+    pub bytes: Aligned,
+    /// Which blocks could not be read, if there are any.
+    failed: Vec<bool>,
+    /// Whether they were read before a command needs them.
+    pub is_ahead: bool,
+}
+
+impl Reading {
+    pub fn new(extent: Extent, bytes: Aligned) -> Reading {
+        Reading { extent, bytes: bytes.extended(extent.bytes()), failed: Vec::new(), is_ahead: false }
+    }
+
+    /// Reads them. If that fails, it reads each block by itself, so that one that can't be read does not hide others.
+    fn read(&mut self, disk: &dyn Disk) -> io::Result<()> {
+        let bytes = &mut self.bytes[..self.extent.bytes()];
+        let error = match disk.read(self.extent.place(), bytes) {
+            Ok(()) => return Ok(()),
+            Err(error) => error,
+        };
+        let blocks = (self.extent.first..).zip(bytes.chunks_exact_mut(BLOCK as usize));
+        let is_failed = |(block, room): (u64, &mut [u8])| self.is_ahead || disk.read(block * BLOCK, room).is_err();
+        self.failed = blocks.map(is_failed).collect();
+        if self.failed.contains(&true) {
+            return Err(error);
+        }
+        Ok(())
+    }
+
+    /// The bytes of a part.
+    pub fn bytes_of(&self, part: Part) -> &[u8] {
+        let Extent { first, .. } = part.extent();
+        &self.bytes[(first - self.extent.first) as usize * BLOCK as usize..][..part.range().len()]
+    }
+
+    /// The blocks of a part that could not be read.
+    pub fn failed_of(&self, part: Part) -> Mask {
+        let begin = (part.extent().first - self.extent.first) as usize;
+        let failed = self.failed.iter().skip(begin).zip(part.from..part.to);
+        failed.filter(|(is_failed, _)| **is_failed).fold(0, |mask, (_, block)| mask | 1 << block)
+    }
+}
+
+/// Work of the disk.
+pub enum Job {
+    Read(Reading),
+    Write(Writing),
+    Zero(Extent),
+    Sync,
+}
+
+impl Job {
+    /// Whether it is a read that no command waits for.
+    pub fn is_ahead(&self) -> bool {
+        matches!(self, Job::Read(Reading { is_ahead: true, .. }))
+    }
+
+    pub fn run(&mut self, disk: &dyn Disk) -> io::Result<()> {
+        match self {
+            Job::Read(reading) => reading.read(disk),
+            Job::Write(writing) => writing.write(disk),
+            Job::Zero(extent) => disk.zero(extent.place(), extent.bytes() as u64),
+            Job::Sync => disk.sync(),
+        }
+    }
+}
+
+/// A job that has ended.
+pub struct Done {
+    pub job: Job,
+    pub result: io::Result<()>,
+}
+
