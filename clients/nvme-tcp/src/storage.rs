@@ -193,6 +193,12 @@ impl Storage {
         if self.failure.is_some() {
             return (&mut [], Brought { first, blocks: 0, flushes: false });
         }
+        if let Some(part) = extent.only_part() {
+            let place = self.frame(part.number);
+            let blocks = if is_read { self.cache.at(place).front_of(part).into() } else { 0 };
+            self.is_in_room = false;
+            return (self.cache.lend(place, part), Brought { first, blocks, flushes: false });
+        }
         let blocks = if is_read { self.at_hand(extent) } else { 0 };
         for number in extent.frames() {
             self.frame(number);
@@ -205,7 +211,7 @@ impl Storage {
         let adjacent = self.cache.adjacent(extent);
         self.is_in_room = adjacent.is_none();
         if let Some(range) = adjacent {
-            return self.cache.lend(range);
+            return self.cache.lend_all(range);
         }
         self.room.resize(extent.bytes().max(self.room.len()), 0);
         let mut begin = 0;
@@ -222,8 +228,7 @@ impl Storage {
     fn at_hand(&self, extent: Extent) -> u64 {
         let mut count = 0;
         for part in extent.parts() {
-            let valid = self.cache.of(part).map_or(0, |it| it.valid);
-            let there = (!(valid >> part.from)).trailing_zeros().min(part.to - part.from);
+            let there = self.cache.of(part).map_or(0, |it| it.front_of(part));
             count += u64::from(there);
             if there < part.to - part.from {
                 break;

@@ -50,8 +50,8 @@ impl Cache {
         &self.bytes[place * FRAME_BYTES..][part.range()]
     }
 
-    /// The same, to change them.
-    fn bytes_mut(&mut self, place: usize, part: Part) -> &mut [u8] {
+    /// The same, for a command that is executed over them.
+    pub fn lend(&mut self, place: usize, part: Part) -> &mut [u8] {
         self.frames[place].is_recent = true;
         &mut self.bytes[place * FRAME_BYTES..][part.range()]
     }
@@ -68,7 +68,7 @@ impl Cache {
     }
 
     /// These bytes, for a command that is executed over them.
-    pub fn lend(&mut self, range: Range<usize>) -> &mut [u8] {
+    pub fn lend_all(&mut self, range: Range<usize>) -> &mut [u8] {
         let places = range.start / FRAME_BYTES..(range.end + FRAME_BYTES - 1) / FRAME_BYTES;
         self.frames[places].iter_mut().for_each(|frame| frame.is_recent = true);
         &mut self.bytes[range]
@@ -86,13 +86,13 @@ impl Cache {
 
     /// Blocks of a frame are valid from now on, and these are their bytes.
     pub fn put(&mut self, place: usize, part: Part, bytes: &[u8]) {
-        self.bytes_mut(place, part).copy_from_slice(bytes);
+        self.lend(place, part).copy_from_slice(bytes);
         self.make_valid(place, part);
     }
 
     /// Blocks of a frame are zeros from now on.
     pub fn zero(&mut self, place: usize, part: Part) {
-        self.bytes_mut(place, part).fill(0);
+        self.lend(place, part).fill(0);
         self.make_valid(place, part);
     }
 

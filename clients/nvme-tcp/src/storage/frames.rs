@@ -57,6 +57,12 @@ impl Extent {
         self.frames().map(move |number| self.part(number))
     }
 
+    /// The only part, if all its blocks are in one frame.
+    pub fn only_part(self) -> Option<Part> {
+        let Range { start, end } = self.frames();
+        (end - start == 1).then(|| self.part(start))
+    }
+
     pub fn overlaps(self, other: Extent) -> bool {
         self.first < other.end() && other.first < self.end()
     }
@@ -164,6 +170,11 @@ impl Frame {
     /// Whether the disk does not have some blocks yet as they are here.
     pub fn is_ahead(&self, part: Part) -> bool {
         (self.dirty | self.writing) & part.mask() != 0
+    }
+
+    /// How many of the first blocks of a part are here.
+    pub fn front_of(&self, part: Part) -> u32 {
+        (!(self.valid >> part.from)).trailing_zeros().min(part.to - part.from)
     }
 
     /// Blocks that are neither here nor on the way.
