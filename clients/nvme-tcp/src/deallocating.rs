@@ -17,9 +17,16 @@ const NOWHERE: u64 = u64::MAX;
 
 /// Blocks of a namespace.
 #[derive(Clone, Copy, Debug, PartialEq, Eq)]
-struct Range {
-    slba: u64,
-    count: u64,
+pub struct Range {
+    pub slba: u64,
+    pub count: u64,
+}
+
+impl Range {
+    /// Whether a namespace with this number of blocks has all of them.
+    pub fn is_within(self, blocks: u64) -> bool {
+        self.slba <= blocks && self.count <= blocks - self.slba
+    }
 }
 
 /// The result of a Dataset Management.
@@ -47,7 +54,7 @@ fn plan_of<'d>(entry: &[u8; ENTRY], data: Data<'d>, blocks: u64) -> Plan<'d> {
     if u32_at(entry, 44) & DEALLOCATE == 0 || ranges_of(bytes).next().is_none() {
         return Plan::Nothing(SUCCESS);
     }
-    if ranges_of(bytes).any(|it| it.slba > blocks || it.count > blocks - it.slba) {
+    if !ranges_of(bytes).all(|it| it.is_within(blocks)) {
         return Plan::Nothing(OUT_OF_RANGE);
     }
     if ranges_of(bytes).map(|it| it.count).sum::<u64>() > MOST_BLOCKS {
@@ -58,13 +65,21 @@ fn plan_of<'d>(entry: &[u8; ENTRY], data: Data<'d>, blocks: u64) -> Plan<'d> {
 
 /// The Write Zeroes of a range, in the name of a command. A range within a namespace has no more blocks than one
 /// zeroes.
-fn zeroing(entry: &[u8; ENTRY], range: Range) -> [u8; ENTRY] {
+pub fn zeroing(entry: &[u8; ENTRY], range: Range) -> [u8; ENTRY] {
     let mut zeroing = *entry;
     zeroing[0] = WRITE_ZEROES;
     zeroing[24..].fill(0);
     put(&mut zeroing, 40, &range.slba.to_le_bytes());
     put(&mut zeroing, 48, &((range.count - 1) as u16).to_le_bytes());
     zeroing
+}
+
+/// The ranges that a command zeroes.
+pub fn ranges_to_zero<R: FromIterator<Range>>(entry: &[u8; ENTRY], data: Data<'_>, blocks: u64) -> R {
+    match plan_of(entry, data, blocks) {
+        Plan::Zero(bytes) => ranges_of(bytes).collect(),
+        Plan::Nothing(_) => R::from_iter([]),
+    }
 }
 
 /// The Write Zeroes that a command comes to, if it is one alone.
@@ -107,7 +122,8 @@ impl Target<'_> {
         Ok(Answer::of(SUCCESS))
     }
 
-    fn zero(&mut self, index: usize, qid: u16, entry: &[u8; ENTRY], ticket: Option<u64>) -> Outcome<Completed> {
+    /// Zeroes a range. Over a disk it has a ticket.
+    pub fn zero(&mut self, index: usize, qid: u16, entry: &[u8; ENTRY], ticket: Option<u64>) -> Outcome<Completed> {
         let data = Data::FromController(0);
         let completed = match ticket {
             Some(ticket) => self.run_over(index, qid, entry, ticket)?,

@@ -145,7 +145,8 @@ impl<'a> Server<'a> {
 
     /// Serves every connection that is ready. If none is, and some wait for the kept run, blocks on the oldest write.
     fn turn(&mut self, ready: &mut Vec<Ready>, look: &mut Instant) -> Outcome<()> {
-        let patience = if self.waiting.is_empty() { LOOK } else { Duration::ZERO };
+        let is_patient = self.waiting.is_empty() && !self.target.has_piece();
+        let patience = if is_patient { LOOK } else { Duration::ZERO };
         self.target.hand_out();
         self.poll.wait(patience.as_millis() as i32, ready).map_err(Fault::System)?;
         let now = Instant::now();
@@ -168,7 +169,10 @@ impl<'a> Server<'a> {
                 name => is_idle &= !self.serve(name, *it)?,
             }
         }
-        if is_idle {
+        if self.target.has_piece() {
+            self.target.zero_piece()?;
+            self.apply_effects()?;
+        } else if is_idle {
             self.target.hand_out();
             self.awaited().map_or(Ok(()), |handed| self.target.wait_for(handed))?;
         }

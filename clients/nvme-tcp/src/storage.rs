@@ -13,6 +13,7 @@ mod jobs;
 mod ledger;
 pub mod options;
 pub mod pending;
+pub mod pieces;
 mod reading;
 mod syncs;
 mod workers;

@@ -19,6 +19,7 @@ use crate::nvme::{AUTHENTICATION_RECEIVE, DATASET_MANAGEMENT, ENTRY, FABRICS, NA
 use crate::proving::Prover;
 use crate::status::{AUTHENTICATION_REQUIRED, COMMAND_SEQUENCE, INACCESSIBLE, SUCCESS};
 use crate::storage::pending::{Issued, Waiting};
+use crate::storage::pieces::Pieces;
 use crate::storage::Storage;
 use nvmesim::{Attachment, Need};
 use std::collections::VecDeque;
@@ -92,6 +93,7 @@ pub struct Target<'a> {
     /// The disk, unless the blocks are in memory; and the commands that wait for it.
     pub storage: Option<Storage>,
     pub waiting: Waiting,
+    pub pieces: Pieces,
     pub journal: Option<Journal>,
     /// In the order in which they came about.
     pub effects: VecDeque<Effect>,
@@ -127,6 +129,7 @@ impl<'a> Target<'a> {
             identity,
             storage,
             waiting: Waiting::default(),
+            pieces: Pieces::default(),
             journal: None,
             effects: VecDeque::new(),
         }

@@ -2,6 +2,7 @@
 import os
 import random
 import shutil
+import signal
 import struct
 import subprocess
 import tempfile
@@ -76,11 +77,15 @@ class Larger(TargetTest):
         queue.send_command(0x08, 1, self.words(8, 65536), cid=1)
         self.assertEqual(b.write(4000, b"\2" * 512), 0)
         self.assertEqual(queue.completion().status, 0)
+        self.assertEqual(b.write(4001, b"\3" * 512), 0)
         self.assertEqual(a.discard((65544, 65528), (0, 8)), 0)
-        self.assertEqual([b.read(slba, 1).data[:1] for slba in (0, 7, 8, 4000, 4001, 65543)],
-                         [b"\0", b"\0", b"\0", b"\2", b"\0", b"\0"])
+        # The write of block 4000 came before its zeroes or after them.
+        middle = b.read(4000, 1).data
+        self.assertIn(middle, (bytes(512), b"\2" * 512))
+        self.assertEqual([b.read(slba, 1).data[:1] for slba in (0, 7, 8, 4001, 4002, 65543)],
+                         [b"\0", b"\0", b"\0", b"\3", b"\0", b"\0"])
         wanted = bytearray(BLOCK * self.image)
-        wanted[4000 * BLOCK:4001 * BLOCK] = b"\2" * BLOCK
+        wanted[4000 * BLOCK:4002 * BLOCK] = middle + b"\3" * BLOCK
         self.assertEqual(self.target.image.read_bytes(), wanted)
         self.assertLess(os.stat(self.target.image).st_blocks * 512, MEBIBYTE, "the file has holes")
 
@@ -115,6 +120,68 @@ class Direct(Larger):
             except OSError as error:
                 self.skipTest(f"O_DIRECT: {error}")
         super().setUp()
+
+
+class Pieces(TargetTest):
+    """Commands that zero many blocks, of which each piece is an event of its own."""
+
+    image, config = 131072, config_of(131072)
+
+    def setUp(self) -> None:
+        room = tempfile.TemporaryDirectory()
+        self.addCleanup(room.cleanup)
+        self.script = Path(room.name) / "run.nvme"
+        self.options = ["--script", str(self.script), "--force"]
+        super().setUp()
+
+    def test_others_are_served_between_two(self) -> None:
+        a, b = self.host(queues=2), self.host(0xb2)
+        self.assertEqual(b.write(131064, b"\1" * 4096), 0)
+        # The target receives all of these at once.
+        self.target.process.send_signal(signal.SIGSTOP)
+        for cid in range(4):
+            a.queues[0].send_command(0x08, 1, struct.pack("<QI", 0, 65535), cid=cid)
+            a.queues[1].send_command(0x09, 1, struct.pack("<II", 0, 4), struct.pack("<IIQ", 0, 65536, 4096), cid=cid)
+        b.queues[0].send_command(0x02, 1, struct.pack("<QI", 131064, 7), length=4096)
+        self.target.process.send_signal(signal.SIGCONT)
+        self.assertEqual(b.queues[0].completion().data, b"\1" * 4096)
+        self.assertEqual([queue.completion().status for queue in a.queues for _ in range(4)], [0] * 8)
+        self.target.close()
+        events = [it.split()[1] for it in self.script.read_text().splitlines() if it.startswith("execute ")]
+        last = len(events) - events[::-1].index("2")
+        self.assertGreater(events[last:].count("1"), 8 * 32 - 16)
+        self.target.start()
+
+    def test_a_host_that_is_fenced_meanwhile(self) -> None:
+        """Its pieces from then on are denied, and the answer says so."""
+        a, b = self.host(), self.host(0xb2)
+        self.assertEqual(b.register(0, 0xb), 0)
+        firsts = range(0, 65536, 2048)
+        for attempt in range(200):
+            self.assertEqual({a.write(slba, b"\1" * 512) for slba in firsts}, {0})
+            a.queues[0].send_command(0x08, 1, struct.pack("<QI", 0, 65535))
+            time.sleep(attempt % 10 * 0.0005)
+            self.assertEqual(b.acquire(0xb), 0)
+            status = a.queues[0].completion().status
+            zeroed = [b.read(slba, 1).data == bytes(512) for slba in firsts]
+            self.assertEqual(zeroed, sorted(zeroed, reverse=True))
+            self.assertEqual(status, 0 if all(zeroed) else 0x4083)
+            self.assertEqual(b.reserve(0x15, 1 << 8, 0xb), 0)
+            if any(zeroed) and not all(zeroed):
+                return
+        self.fail("it was never fenced in the middle")
+
+    def test_a_host_that_goes(self) -> None:
+        """No piece is zeroed for it from then on, and the next host has its controller."""
+        a, b = self.host(), self.host(0xb2)
+        self.assertEqual(b.write(65535, b"\1" * 512), 0)
+        self.target.process.send_signal(signal.SIGSTOP)
+        a.queues[0].send_command(0x08, 1, struct.pack("<QI", 0, 65535))
+        a.queues[0].socket.close()
+        a.close()
+        self.target.process.send_signal(signal.SIGCONT)
+        self.assertEqual(self.host().write(0, b"\2" * 512), 0)
+        self.assertEqual([b.read(slba, 1).data[:1] for slba in (0, 65535)], [b"\2", b"\1"])
 
 
 @unittest.skipUnless(shutil.which("cc"), "there is no cc")

@@ -67,10 +67,15 @@ impl Ledger {
         }
     }
 
-    /// The answer of a command is known: it is given back if nothing is open.
+    /// The answer of a command is known: it is given back if nothing is open, or all were given up.
     pub fn close(&mut self, ticket: u64, owed: Owed) -> Option<Owed> {
-        self.line(ticket)?.owed = Some(owed);
-        self.end(ticket)
+        match self.line(ticket) {
+            Some(line) => {
+                line.owed = Some(owed);
+                self.end(ticket)
+            }
+            None => Some(owed),
+        }
     }
 
     /// The system has a write of a command: its answer, if that was the last.
@@ -89,9 +94,11 @@ impl Ledger {
         owed
     }
 
-    /// The answers of all commands that are open: none of these gets its blocks to the disk.
+    /// The answers of all commands that are open: none of these gets its blocks to the disk. None is open then.
     pub fn give_up(&mut self) -> Vec<Owed> {
-        self.lines.iter_mut().filter_map(|it| it.owed.take()).collect()
+        self.first = self.next();
+        self.counts.clear();
+        self.lines.drain(..).filter_map(|it| it.owed).collect()
     }
 
     /// The answers that wait.
@@ -135,10 +142,11 @@ mod tests {
     #[test]
     fn answers_are_given_up() {
         let mut ledger = Ledger::default();
-        let ticket = ledger.open(0);
-        ledger.add(ticket);
-        assert!(ledger.close(ticket, owed(7)).is_none());
+        let tickets = [0; 2].map(|_| ledger.open(0));
+        tickets.iter().for_each(|it| ledger.add(*it));
+        assert!(ledger.close(tickets[0], owed(7)).is_none());
         assert_eq!(ledger.give_up().len(), 1);
-        assert!(ledger.end(ticket).is_none() && ledger.len() == 0);
+        assert!(ledger.end(tickets[0]).is_none() && ledger.len() == 0 && ledger.open_of(0) == 0);
+        assert!(ledger.close(tickets[1], owed(8)).is_some(), "what was executed before and has no answer yet");
     }
 }

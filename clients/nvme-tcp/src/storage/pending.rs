@@ -118,16 +118,22 @@ impl Target<'_> {
         storage.open_of(index) >= MOST_OPEN
             || self.controllers[index].fetched() >= MOST_FETCHED
             || self.waiting.bytes_of(index) >= MOST_DATA
-            || matches!(opcode, WRITE_ZEROES | DATASET_MANAGEMENT) && storage.has_many_zeroes()
+            || matches!(opcode, WRITE_ZEROES | DATASET_MANAGEMENT)
+                && (storage.has_many_zeroes() || self.pieces.is_full())
     }
 
     /// Whether a connection has commands that will be answered.
     pub fn owes(&self, connection: ConnectionId) -> bool {
-        self.waiting.has_of(connection) || self.storage.as_ref().map_or(false, |it| it.owes(connection))
+        self.waiting.has_of(connection)
+            || self.pieces.has_of(connection)
+            || self.storage.as_ref().map_or(false, |it| it.owes(connection))
     }
 
     /// Executes an I/O command over the disk, or has it wait.
     pub fn io_over_disk(&mut self, issued: Issued, data: Data<'_>) -> Outcome<Option<Answer>> {
+        if self.begin_pieces(&issued, data) {
+            return Ok(None);
+        }
         if issued.opcode == DATASET_MANAGEMENT {
             let ticket = self.storage.as_mut().map(|it| it.open(issued.index));
             let answer = self.deallocate(issued.index, issued.qid, &issued.entry, data, ticket)?;
@@ -272,7 +278,7 @@ impl Target<'_> {
     }
 
     /// The answer of a command with a ticket, if no write of it is in progress.
-    fn owe(&mut self, ticket: u64, issued: &Issued, answer: Answer) -> Option<Answer> {
+    pub fn owe(&mut self, ticket: u64, issued: &Issued, answer: Answer) -> Option<Answer> {
         let has_write_cache = self.has_write_cache(issued.index);
         let storage = match &mut self.storage {
             Some(storage) => storage,
@@ -306,5 +312,6 @@ impl Target<'_> {
                 self.forget(id, index, pending.was_held);
             }
         }
+        self.drop_pieces(index, qid);
     }
 }
