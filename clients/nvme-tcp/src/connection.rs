@@ -353,6 +353,7 @@ impl Connection {
         if answer.status != SUCCESS {
             target.say(format_args!("command {cid} has status {}", answer.status));
         }
+        self.output.take_from(&mut target.buffers);
         let (out, agreed) = (&mut self.output, self.agreed);
         match answer.data {
             Payload::None => (),
@@ -391,7 +392,7 @@ impl Connection {
     }
 
     /// Sends as much as the system takes. A connection that has ended waits for the answers that are due.
-    pub fn send(&mut self, target: &Target<'_>) {
+    pub fn send(&mut self, target: &mut Target<'_>) {
         while self.output.len() != 0 && !self.is_closed {
             match self.socket.write(self.output.waiting()) {
                 Ok(count) => self.output.sent(count),
@@ -400,6 +401,7 @@ impl Connection {
                 Err(_) => self.is_closed = true,
             }
         }
+        self.output.leave_to(&mut target.buffers);
         let is_over = self.phase == Phase::Ending && !target.owes(self.queue.connection);
         if is_over && self.socket.shutdown(Shutdown::Write).is_err() {
             self.is_closed = true;

@@ -1,7 +1,17 @@
-//! Bytes to send. The buffer is kept and reused, so that data are copied once, unless it has become long.
+//! Bytes to send. Connections share buffers: one without bytes to send has none, and the next bytes go into a buffer
+//! that the processor has in its cache.
 
-/// The most bytes of a buffer that is kept.
+use std::mem;
+
+/// The most bytes of a buffer that is kept, and how many are.
 const LONG: usize = 512 << 10;
+const MOST_KEPT: usize = 4;
+
+/// Buffers that no connection has.
+#[derive(Default)]
+pub struct Buffers {
+    free: Vec<Vec<u8>>,
+}
 
 /// Bytes in the order in which they go.
 #[derive(Default)]
@@ -27,8 +37,22 @@ impl Output {
         self.begin += count;
         if self.begin == self.end {
             (self.begin, self.end) = (0, 0);
-            if self.bytes.len() > LONG {
-                self.bytes = Vec::new();
+        }
+    }
+
+    /// Takes a buffer, unless there is one.
+    pub fn take_from(&mut self, buffers: &mut Buffers) {
+        if self.bytes.is_empty() {
+            self.bytes = buffers.free.pop().unwrap_or_default();
+        }
+    }
+
+    /// Returns the buffer, if all bytes were sent.
+    pub fn leave_to(&mut self, buffers: &mut Buffers) {
+        if self.len() == 0 {
+            let bytes = mem::take(&mut self.bytes);
+            if !bytes.is_empty() && bytes.len() <= LONG && buffers.free.len() < MOST_KEPT {
+                buffers.free.push(bytes);
             }
         }
     }
@@ -87,5 +111,27 @@ mod tests {
             assert_eq!(output.fill(most, put), wanted.map(|_| ()));
         }
         assert_eq!(output.waiting(), [1, 5, 5, 3, 3, 3]);
+    }
+
+    #[test]
+    fn buffers_are_shared() {
+        let mut buffers = Buffers::default();
+        let mut outputs: Vec<Output> = (0..2 * MOST_KEPT).map(|_| Output::default()).collect();
+        for output in &mut outputs {
+            output.take_from(&mut buffers);
+            output.put(&[7; 100]);
+            output.leave_to(&mut buffers);
+            assert_eq!((output.waiting(), buffers.free.len()), (&[7; 100][..], 0), "they are not sent yet");
+        }
+        for output in &mut outputs {
+            output.sent(100);
+            output.leave_to(&mut buffers);
+        }
+        assert_eq!((buffers.free.len(), outputs[0].bytes.capacity()), (MOST_KEPT, 0));
+        outputs[0].take_from(&mut buffers);
+        outputs[0].put(&vec![1; LONG + 1]);
+        outputs[0].sent(LONG + 1);
+        outputs[0].leave_to(&mut buffers);
+        assert_eq!(buffers.free.len(), MOST_KEPT - 1);
     }
 }

@@ -50,7 +50,7 @@ use writing::Zeroing;
 /// Commands wait with this many that wait for writes, this many zeroes, or this many bytes to read.
 const MOST_OPEN: usize = 4096;
 const MOST_ZEROES: usize = 256;
-const MOST_READ: usize = 8 << 20;
+const MOST_READ: usize = 4 << 20;
 
 /// The disk with its cache.
 pub struct Storage {
@@ -290,7 +290,7 @@ impl Storage {
         Ok(())
     }
 
-    /// Gives the threads what was begun, before the event loop waits.
+    /// Has the threads take what was begun, before the event loop waits.
     pub fn hand_out(&mut self) {
         self.workers.hand_out();
     }

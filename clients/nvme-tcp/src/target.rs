@@ -16,6 +16,7 @@ use crate::log::{Form, Log};
 use crate::machine::Machine;
 use crate::notices::Watch;
 use crate::nvme::{AUTHENTICATION_RECEIVE, DATASET_MANAGEMENT, ENTRY, FABRICS, NAMESPACE_ATTACHMENT};
+use crate::output::Buffers;
 use crate::proving::Prover;
 use crate::status::{AUTHENTICATION_REQUIRED, COMMAND_SEQUENCE, INACCESSIBLE, SUCCESS};
 use crate::storage::pending::{Issued, Waiting};
@@ -94,6 +95,8 @@ pub struct Target<'a> {
     pub storage: Option<Storage>,
     pub waiting: Waiting,
     pub pieces: Pieces,
+    /// Buffers of answers.
+    pub buffers: Buffers,
     pub journal: Option<Journal>,
     /// In the order in which they came about.
     pub effects: VecDeque<Effect>,
@@ -130,6 +133,7 @@ impl<'a> Target<'a> {
             storage,
             waiting: Waiting::default(),
             pieces: Pieces::default(),
+            buffers: Buffers::default(),
             journal: None,
             effects: VecDeque::new(),
         }
@@ -238,7 +242,7 @@ impl<'a> Target<'a> {
         self.machine.begin_run(is_alone).map(Handed)
     }
 
-    /// Gives the threads of the disk their work, before the event loop waits.
+    /// Has the threads of the disk take their work, before the event loop waits.
     pub fn hand_out(&mut self) {
         self.storage.iter_mut().for_each(Storage::hand_out);
     }

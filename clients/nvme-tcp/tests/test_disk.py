@@ -153,7 +153,7 @@ class Pieces(TargetTest):
         self.target.start()
 
     def test_a_host_that_is_fenced_meanwhile(self) -> None:
-        """Its pieces from then on are denied, and the answer says so."""
+        """Its pieces from then on are denied, and so is the command."""
         a, b = self.host(), self.host(0xb2)
         self.assertEqual(b.register(0, 0xb), 0)
         firsts = range(0, 65536, 2048)

@@ -56,7 +56,7 @@ impl Cache {
         &mut self.bytes[place * FRAME_BYTES..][part.range()]
     }
 
-    /// Where the bytes of an extent are, if its frames are in memory and adjacent there. Most that came in together are.
+    /// The place of an extent's bytes, if its frames are in memory and adjacent there. Most that came in together are.
     pub fn adjacent(&self, extent: Extent) -> Option<Range<usize>> {
         let first = extent.part(extent.frames().start);
         let place = self.find(first.number)?;

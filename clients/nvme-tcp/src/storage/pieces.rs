@@ -96,7 +96,7 @@ impl Target<'_> {
         true
     }
 
-    /// Whether a piece is to be zeroed now.
+    /// Whether a piece can be zeroed now.
     pub fn has_piece(&self) -> bool {
         !self.pieces.is_empty() && self.storage.as_ref().map_or(false, |it| !it.has_many_zeroes())
     }

@@ -16,7 +16,7 @@ const THREADS: usize = 8;
 /// How many of them read ahead at a time.
 const AHEAD_THREADS: usize = 2;
 /// The most buffers of reads that are kept for the next ones.
-const MOST_SPARE: usize = 64;
+const MOST_SPARE: usize = 32;
 
 /// Jobs that no thread has taken yet.
 #[derive(Default)]
@@ -141,7 +141,7 @@ impl Workers {
         self.begin(Job::Read(Reading::new(extent, bytes)));
     }
 
-    /// Gives the threads the jobs that were begun.
+    /// Has the threads take the jobs that were begun.
     pub fn hand_out(&mut self) {
         if self.begun.is_empty() && self.ahead.is_empty() {
             return;
