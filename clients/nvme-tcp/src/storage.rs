@@ -15,6 +15,7 @@ pub mod options;
 pub mod pending;
 pub mod pieces;
 mod reading;
+mod streams;
 mod syncs;
 mod workers;
 mod writing;
@@ -43,6 +44,7 @@ use std::mem;
 use std::os::unix::net::UnixStream;
 use std::sync::Arc;
 use std::time::Instant;
+use streams::Streams;
 use syncs::Syncs;
 use workers::Workers;
 use writing::Zeroing;
@@ -69,6 +71,9 @@ pub struct Storage {
     /// The blocks that commands read which wait for them.
     asked: HashMap<u64, Extent>,
     bytes_asked: usize,
+    /// The reads in order of each controller, and how many bytes are being read ahead of commands.
+    streams: Streams,
+    bytes_ahead: usize,
     /// Commands that wait for frames of the cache.
     starved: Vec<u64>,
     /// The blocks of a command whose frames are not adjacent in memory, and whether the last command has them there.
@@ -90,10 +95,12 @@ pub struct Storage {
 impl Storage {
     /// Starts the threads of a disk.
     pub fn start(name: String, disk: Arc<dyn Disk>, options: Options, keeps_run: bool) -> io::Result<Storage> {
+        let cache = Cache::new(usize::try_from(options.cache).unwrap_or(usize::MAX) / FRAME_BYTES);
         Ok(Storage {
             workers: Workers::start(&disk)?,
             disk,
-            cache: Cache::new(usize::try_from(options.cache).unwrap_or(usize::MAX) / FRAME_BYTES),
+            streams: Streams::new(cache.blocks()),
+            cache,
             ledger: Ledger::default(),
             syncs: Syncs::default(),
             zeroing: Vec::new(),
@@ -103,6 +110,7 @@ impl Storage {
             unsynced: Vec::new(),
             asked: HashMap::new(),
             bytes_asked: 0,
+            bytes_ahead: 0,
             starved: Vec::new(),
             room: Vec::new(),
             is_in_room: false,

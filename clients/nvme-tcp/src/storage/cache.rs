@@ -1,7 +1,7 @@
 //! The frames of the disk that are in memory, at most a fixed number of them. A frame that no command and no work of
 //! the disk needs is replaced by the CLOCK algorithm: the hand passes frames that were used since it came by last.
 
-use super::frames::{Extent, Frame, Part, FRAME_BYTES, MOST_PARTS};
+use super::frames::{Extent, Frame, Part, FRAME, FRAME_BYTES, MOST_PARTS};
 use std::cell::Cell;
 use std::collections::HashMap;
 use std::ops::Range;
@@ -27,6 +27,11 @@ impl Cache {
         let bytes = vec![0; most * FRAME_BYTES];
         let (frames, places, last) = (Vec::new(), HashMap::new(), Cell::new(None));
         Cache { frames, bytes, places, last, most, busy: 0, hand: 0 }
+    }
+
+    /// How many blocks it can have.
+    pub fn blocks(&self) -> usize {
+        self.most * FRAME as usize
     }
 
     /// The place of a frame, if it is in memory.
@@ -118,6 +123,11 @@ impl Cache {
     /// Whether any command can get its frames.
     pub fn has_room(&self) -> bool {
         self.busy + MOST_PARTS <= self.most
+    }
+
+    /// Whether more than half of the frames can be replaced.
+    pub fn is_mostly_free(&self) -> bool {
+        self.busy < self.most / 2
     }
 
     /// The frame with this number. If it is not in memory it replaces another, and has no valid block.

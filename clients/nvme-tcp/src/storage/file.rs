@@ -5,8 +5,8 @@
 //! With O_DIRECT the device writes whole sectors.
 
 use super::aligned::{Aligned, PAGE};
-use super::options::Options;
 use super::jobs::Disk;
+use super::options::Options;
 use crate::locking::{open_disk, open_regular, Lock, ALONE, DIRECT};
 use crate::nvme::BLOCK;
 use crate::system::punch_hole;
@@ -198,6 +198,10 @@ impl Disk for ImageDisk {
     fn sync(&self) -> io::Result<()> {
         self.file.sync_data()?;
         self.check()
+    }
+
+    fn blocks(&self) -> u64 {
+        self.length / BLOCK
     }
 
     fn check(&self) -> io::Result<()> {

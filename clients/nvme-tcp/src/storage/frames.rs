@@ -57,6 +57,17 @@ impl Extent {
         self.frames().map(move |number| self.part(number))
     }
 
+    /// Its blocks before this one.
+    pub fn before(self, end: u64) -> Extent {
+        self.front(end.saturating_sub(self.first))
+    }
+
+    /// It, in pieces of at most `most` blocks.
+    pub fn pieces(self, most: u32) -> impl Iterator<Item = Extent> {
+        let begins = (0..self.blocks).step_by(most as usize);
+        begins.map(move |at| Extent { first: self.first + u64::from(at), blocks: most.min(self.blocks - at) })
+    }
+
     /// The only part, if all its blocks are in one frame.
     pub fn only_part(self) -> Option<Part> {
         let Range { start, end } = self.frames();

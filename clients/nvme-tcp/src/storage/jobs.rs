@@ -14,6 +14,8 @@ pub trait Disk: Send + Sync {
     fn zero(&self, place: u64, count: u64) -> io::Result<()>;
     /// Has the disk keep what was written, also without power.
     fn sync(&self) -> io::Result<()>;
+    /// How many blocks it has.
+    fn blocks(&self) -> u64;
     /// An error of the kind InvalidData if another program has changed it.
     fn check(&self) -> io::Result<()>;
     /// Whether the system takes writes into its memory, so that small ones do not wait.
@@ -68,8 +70,8 @@ pub struct Reading {
 }
 
 impl Reading {
-    pub fn new(extent: Extent, bytes: Aligned) -> Reading {
-        Reading { extent, bytes: bytes.extended(extent.bytes()), failed: Vec::new(), is_ahead: false }
+    pub fn new(extent: Extent, bytes: Aligned, is_ahead: bool) -> Reading {
+        Reading { extent, bytes: bytes.extended(extent.bytes()), failed: Vec::new(), is_ahead }
     }
 
     /// Reads them. If that fails, it reads each block by itself, so that one that can't be read does not hide others.
@@ -131,4 +133,3 @@ pub struct Done {
     pub job: Job,
     pub result: io::Result<()>,
 }
-

@@ -146,6 +146,7 @@ impl Target<'_> {
         };
         let need = self.controllers[index].need(&mut self.machine, token)?;
         let id = self.waiting.next();
+        self.storage.iter_mut().for_each(|it| it.read_ahead(index, need));
         if self.storage.as_mut().map_or(true, |it| it.prepare(need, id)) {
             return self.conclude(&issued, token, need, data, Room::AT_ONCE);
         }

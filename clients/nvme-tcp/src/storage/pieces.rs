@@ -82,7 +82,7 @@ impl Target<'_> {
             DATASET_MANAGEMENT => ranges_to_zero(entry, data, blocks),
             WRITE_ZEROES => {
                 let range = Range { slba: u64_at(entry, 40), count: u64::from(u16_at(entry, 48)) + 1 };
-                range.is_within(blocks).then(|| range).into_iter().collect()
+                range.is_within(blocks).then_some(range).into_iter().collect()
             }
             _ => return false,
         };

@@ -9,6 +9,8 @@ use std::sync::{Condvar, Mutex};
 use std::thread;
 use std::time::Duration;
 
+mod ahead;
+
 const SIZE: usize = BLOCK as usize;
 /// Frames of the smallest cache, in blocks.
 const CACHED: u64 = 4 * frames::MOST_PARTS as u64 * frames::FRAME as u64;
@@ -83,6 +85,10 @@ impl Disk for Fake {
 
     fn sync(&self) -> io::Result<()> {
         self.call('s', 0, 0)
+    }
+
+    fn blocks(&self) -> u64 {
+        (self.bytes.lock().unwrap().len() / SIZE) as u64
     }
 
     fn check(&self) -> io::Result<()> {
@@ -464,6 +470,10 @@ fn nobody_reads_older_bytes() {
             // Many of them are on a few frames.
             let first = random.below(if turn % 2 == 0 { 100 } else { blocks - 300 });
             let count = [1, 8, 3, 256][random.below(4) as usize];
+            if turn % 7 == 0 {
+                // Blocks may be read ahead at any time.
+                (0..3).for_each(|at| it.storage.read_ahead(1, Need::Read { first: first + at, blocks: 1 }));
+            }
             let place = first as usize * SIZE..(first as usize + count) * SIZE;
             match random.below(8) {
                 0..=2 => {

@@ -138,7 +138,27 @@ impl Workers {
     /// Begins to read blocks.
     pub fn read(&mut self, extent: Extent) {
         let bytes = self.spare.pop().unwrap_or_default();
-        self.begin(Job::Read(Reading::new(extent, bytes)));
+        self.begin(Job::Read(Reading::new(extent, bytes, false)));
+    }
+
+    /// The same, before a command needs the blocks.
+    pub fn read_ahead(&mut self, extent: Extent) {
+        let bytes = self.spare.pop().unwrap_or_default();
+        self.under_way += 1;
+        self.ahead.push(Reading::new(extent, bytes, true));
+    }
+
+    /// A command waits for blocks: if they were to be read ahead and no thread does yet, they are read like others. The
+    /// bytes of these reads.
+    pub fn hasten(&mut self, extent: Extent) -> usize {
+        let mut jobs = self.queue.jobs();
+        let all = jobs.ahead.drain(..).chain(self.ahead.drain(..));
+        let (mut hastened, rest): (Vec<_>, Vec<_>) = all.partition(|it: &Reading| it.extent.overlaps(extent));
+        jobs.ahead = rest.into();
+        let bytes = hastened.iter().map(|it| it.extent.bytes()).sum();
+        hastened.iter_mut().for_each(|it| it.is_ahead = false);
+        self.begun.extend(hastened.into_iter().map(Job::Read));
+        bytes
     }
 
     /// Has the threads take the jobs that were begun.

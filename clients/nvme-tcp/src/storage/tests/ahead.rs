@@ -1,0 +1,106 @@
+//! Reads ahead of commands: how many calls the disk has.
+
+use super::*;
+
+impl Trial {
+    /// Reads, of which the disk may see others before; how many calls the disk has had for it and before.
+    fn read_in_order(&mut self, index: usize, first: u64, blocks: u32) -> usize {
+        self.storage.read_ahead(index, Need::Read { first, blocks });
+        let wanted: Vec<u8> = (first..first + u64::from(blocks)).flat_map(|it| vec![it as u8; SIZE]).collect();
+        assert!(self.read(first, blocks) == wanted);
+        self.calls().len()
+    }
+
+    /// Reads the first 24 blocks by three commands. The next ones are read ahead then.
+    fn read_begin_in_order(&mut self) {
+        for turn in 0..3 {
+            self.read_in_order(0, 8 * turn, 8);
+        }
+    }
+}
+
+#[test]
+fn reads_in_order_are_few() {
+    let mut it = Trial::new(Fake::new(4 * CACHED), false);
+    let mut calls = 0;
+    for first in (0..4 * CACHED).step_by(8) {
+        calls = it.read_in_order(0, first, 8);
+    }
+    it.settle();
+    // Three reads, and then at least half of what may be ahead, a sixteenth of the cache.
+    assert_eq!(it.calls().len(), calls);
+    assert!(calls as u64 <= 3 + 4 * CACHED / (CACHED / 32) + 1, "{calls} calls");
+}
+
+#[test]
+fn other_reads_are_not_read_ahead() {
+    let mut it = Trial::new(Fake::new(4 * CACHED), false);
+    let mut random = Random(1);
+    for done in 1..200 {
+        // No two of these are next to each other.
+        let first = 64 * (done * 37 % (CACHED / 64)) + random.below(5) * 8;
+        assert_eq!(it.read_in_order(0, first, 8) as u64, done.min(it.calls().len() as u64));
+    }
+    it.settle();
+    assert!(it.calls().len() < 200 && it.storage.bytes_ahead == 0);
+}
+
+#[test]
+fn few_blocks_are_read_ahead_and_only_of_the_disk() {
+    let mut it = Trial::new(Fake::new(4 * CACHED), false);
+    it.read_begin_in_order();
+    it.settle();
+    assert_eq!(it.calls().len(), 4, "three reads, and one ahead of the third");
+    let is_recent = |it: &Trial, frame| it.storage.cache.at(it.storage.cache.find(frame).unwrap()).is_recent;
+    assert!(is_recent(&it, 0) && !is_recent(&it, 2), "what no command has used leaves the cache before others");
+    for turn in 0..3 {
+        it.read_in_order(0, 4 * CACHED - 24 + 8 * turn, 8);
+    }
+    it.settle();
+    assert_eq!(it.calls().len(), 7);
+}
+
+#[test]
+fn reads_ahead_delay_no_others() {
+    let mut it = Trial::new(Fake::new(4 * CACHED), false);
+    [0, 8].into_iter().for_each(|first| assert!(it.read_in_order(0, first, 8) != 0));
+    it.disk.close(true);
+    // All of these wait at the gate, which no thread has passed, and are begun before what is ahead of them.
+    let ids: Vec<u64> = (0..12).map(|_| it.id()).collect();
+    it.storage.read_ahead(0, Need::Read { first: 16, blocks: 8 });
+    for (at, id) in (0..).zip(&ids) {
+        assert!(!it.storage.prepare(Need::Read { first: CACHED + 64 * at, blocks: 8 }, *id));
+    }
+    it.disk.close(false);
+    it.settle();
+    let calls = it.calls();
+    // Each of the other threads may have one of the twelve that has not reached the disk yet.
+    assert!(calls.iter().position(|it| it.1 == 24) >= Some(2 + 12 - 7), "{calls:?}");
+}
+
+#[test]
+fn a_read_that_waits_for_one_ahead_is_next() {
+    let mut it = Trial::new(Fake::new(4 * CACHED), false);
+    [0, 8].into_iter().for_each(|first| assert!(it.read_in_order(0, first, 8) != 0));
+    it.storage.read_ahead(0, Need::Read { first: 16, blocks: 8 });
+    assert!(it.storage.bytes_ahead != 0);
+    let (id, need) = (it.id(), Need::Read { first: 24, blocks: 8 });
+    assert!(!it.storage.prepare(need, id));
+    assert_eq!(it.storage.bytes_ahead, 0, "it is a read like others");
+    it.settle();
+    assert!(it.storage.prepare(need, id));
+    assert_eq!(it.bring(id, need).len(), 8 * SIZE);
+}
+
+#[test]
+fn a_read_ahead_that_fails_is_forgotten() {
+    for keeps_run in [false, true] {
+        let mut it = Trial::new(Fake::new(4 * CACHED), keeps_run);
+        it.disk.refuse('r', 60);
+        it.read_begin_in_order();
+        it.settle();
+        assert!(it.calls().iter().any(|it| it.1 == 24));
+        it.disk.refused.lock().unwrap().clear();
+        assert_eq!(it.read(56, 8).len(), 8 * SIZE);
+    }
+}
