@@ -13,7 +13,7 @@ use std::path::Path;
 const MOST_TEXT: u64 = (4 << 20) + 1;
 
 /// A subsystem as CONFIG describes it. Its hosts have no drivers, since Linux is theirs.
-#[derive(Debug, PartialEq, Eq)]
+#[derive(Clone, Debug, PartialEq, Eq)]
 pub struct Configuration {
     pub config: Config,
     /// The lines of a script that describe the same.

@@ -1,45 +1,34 @@
 //! The journal: the commands that changed reservations, write protection or attachments, the power cycles and the
 //! starts of targets, so that a target that is started again has what persists.
 //!
-//! It begins with the configuration. A record is synced before the completion of its command is sent. So an incomplete
-//! record was never answered, and is dropped; any other fault refuses the journal. A target that finds records of
-//! another after its own has been taken over: it ends without an answer.
+//! The event loop gives its records to a thread, which writes and syncs all that it has. Nothing that was executed
+//! after a change is answered or written to the disk before the record of that change is synced. So an incomplete record
+//! was never answered, and is dropped.
 
-use crate::configuration::Configuration;
+pub mod folder;
+
 use crate::controller::Data;
 use crate::fault::{Fault, Outcome};
 use crate::identity::Identity;
-use crate::locking::open_regular;
 use crate::nvme::{
     ENTRY, NAMESPACE_ATTACHMENT, RESERVATION_ACQUIRE, RESERVATION_NOTIFICATION, RESERVATION_REGISTER,
     RESERVATION_RELEASE, SET_FEATURES, WRITE_PROTECTION,
 };
-use crate::record::{current, heads, newest, records_of, Current, Event, Record};
-use crate::state::{self, Folder};
-use crate::watched::{changed, Watched};
-use std::fs::{File, OpenOptions};
-use std::io::{self, ErrorKind, Read, Seek, SeekFrom, Write};
-use std::os::unix::fs::FileExt;
+use crate::record::{newest, push_command, push_cycle, Current, Record};
+use crate::watched::changed;
+use std::io::{self, ErrorKind, Read, Write};
+use std::mem;
+use std::os::unix::net::UnixStream;
+use std::sync::atomic::{AtomicU64, Ordering};
+use std::sync::{Arc, Condvar, Mutex, MutexGuard, PoisonError};
+use std::thread::{self, JoinHandle};
 
 /// Features: Reservation Notification Mask, Reservation Persistence and Namespace Write Protection.
 const LASTING_FEATURES: std::ops::RangeInclusive<u8> = RESERVATION_NOTIFICATION..=WRITE_PROTECTION;
-/// The most bytes that are read of what another target has appended.
-const MOST_OF_OTHERS: u64 = 64 << 10;
-/// Why a journal that isn't whole is refused.
-const WAS_USED: &str = "a target has used this folder, and what it kept is lost: put the journal back from a copy, or \
-                        begin anew with another folder";
-
-/// A journal that is kept.
-pub struct Journal {
-    file: File,
-    watched: Watched,
-    /// How long the file is, unless another target writes to it.
-    length: u64,
-    pub epoch: u64,
-    pub identity: Identity,
-    /// No other target has its folder.
-    _folder: Folder,
-}
+/// Memory for records that wait for the thread.
+const ROOM: usize = 256 << 10;
+/// Replaces the number of synced records after a failure.
+const FAILED: u64 = u64::MAX;
 
 /// The content of a journal that was opened.
 pub struct Found {
@@ -48,72 +37,187 @@ pub struct Found {
     pub torn: usize,
 }
 
-/// Opens the journal of a folder, and appends that a target has started. It is created if no target has used the
-/// folder.
-pub fn open(mut folder: Folder, configuration: &Configuration) -> io::Result<(Journal, Found)> {
-    let path = folder.path.join(state::JOURNAL);
-    let mut options = OpenOptions::new();
-    options.read(true).append(true).create(folder.identity.is_none());
-    let mut file = open_regular(&path, &options).map_err(|error| match error.kind() {
-        ErrorKind::NotFound => changed(format!("there is no journal: {WAS_USED}")),
-        kind => io::Error::new(kind, format!("the journal: {error}")),
-    })?;
-    let (bytes, begin) = read_or_begin(&mut file, &folder, configuration)?;
-    let (mut records, end) = records_of(&bytes, begin)?;
-    let torn = bytes.len() - end;
-    let epoch = newest_of(&records)?.saturating_add(1);
-    let identity = folder.use_it()?;
-    if torn != 0 {
-        file.set_len(end as u64)?;
+/// Keeps records. A thread of its own calls it, which may wait for the disk.
+pub trait Log: Send {
+    /// Adds whole records and syncs them, unless another target has taken over.
+    fn append(&mut self, records: &[u8]) -> io::Result<()>;
+
+    /// The target ends in order, and has synced everything.
+    fn close(&mut self) -> io::Result<()> {
+        Ok(())
     }
-    file.write_all(&Record { epoch, event: Event::Start }.bytes())?;
-    file.sync_all()?;
-    let length = join(&mut records, &read_from(&mut file, end as u64)?, epoch)?;
-    let (watched, length) = (Watched::new(&path, &file)?, (end + length) as u64);
-    Ok((Journal { file, watched, length, epoch, identity, _folder: folder }, Found { current: current(records), torn }))
 }
 
-/// Adds what is in a journal from the start of this target on, and before it what a target that has not ended appended
-/// meanwhile: that counts, since its hosts were answered. How many bytes these are. An error if another target has
-/// started too.
-fn join(records: &mut Vec<Record>, bytes: &[u8], epoch: u64) -> io::Result<usize> {
-    let (newer, length) = records_of(bytes, 0)?;
-    records.extend(newer);
-    if length != bytes.len() || records.iter().filter(|it| it.epoch >= epoch).count() != 1 {
-        return Err(changed("another target has started over this folder at the same time".to_owned()));
+/// Whether a target still has what it serves. The event loop calls it.
+pub trait Hold {
+    /// An error if another target has taken over. That is quick: it is called before anything is served.
+    fn check(&self) -> io::Result<()>;
+
+    /// An error also if another program has changed the files.
+    fn check_files(&self) -> io::Result<()> {
+        self.check()
     }
-    newest_of(records)?;
-    Ok(length)
+
+    /// An error if another target may have taken over. It makes no system call: it is called before each answer.
+    fn check_time(&self) -> io::Result<()> {
+        Ok(())
+    }
 }
 
-/// The bytes of a journal, and the place of its first record. If no target has used the folder, a journal shorter than
-/// its head is begun anew.
-fn read_or_begin(file: &mut File, folder: &Folder, configuration: &Configuration) -> io::Result<(Vec<u8>, usize)> {
-    let (bytes, heads) = (read_from(file, 0)?, heads(&configuration.lines));
-    if let Some(head) = heads.iter().find(|head| bytes.starts_with(head)) {
-        return Ok((bytes, head.len()));
-    }
-    if !heads.iter().any(|head| head.starts_with(&bytes)) {
-        return Err(changed("the journal is of another configuration".to_owned()));
-    }
-    if folder.identity.is_some() {
-        return Err(changed(format!("the journal has {} bytes, fewer than its head: {WAS_USED}", bytes.len())));
-    }
-    file.set_len(0)?;
-    file.write_all(&heads[0])?;
-    file.sync_all()?;
-    File::open(&folder.path)?.sync_all()?;
-    Ok((heads[0].clone(), heads[0].len()))
+/// What the thread has not taken yet.
+struct Given {
+    records: Vec<u8>,
+    /// The number of records up to their end.
+    count: u64,
+    is_over: bool,
 }
 
-fn read_from(file: &mut File, place: u64) -> io::Result<Vec<u8>> {
-    let mut bytes = Vec::new();
-    file.seek(SeekFrom::Start(place))?;
-    file.read_to_end(&mut bytes)?;
-    Ok(bytes)
+/// The records in flight to the log.
+struct Way {
+    given: Mutex<Given>,
+    has_more: Condvar,
+    /// How many records are synced, or `FAILED`.
+    synced: AtomicU64,
+    failure: Mutex<Option<io::Error>>,
 }
 
-fn newest_of(records: &[Record]) -> io::Result<u64> {
+impl Way {
+    fn given(&self) -> MutexGuard<'_, Given> {
+        self.given.lock().unwrap_or_else(PoisonError::into_inner)
+    }
+
+    /// Takes the records that wait in exchange for an empty buffer; the number of records up to their end. `None` once
+    /// the target ends.
+    fn take(&self, records: &mut Vec<u8>) -> Option<u64> {
+        let waited = self.has_more.wait_while(self.given(), |it| it.records.is_empty() && !it.is_over);
+        let mut given = waited.unwrap_or_else(PoisonError::into_inner);
+        mem::swap(&mut given.records, records);
+        if records.is_empty() {
+            return None;
+        }
+        Some(given.count)
+    }
+
+    /// Appends records until the target ends, or one can't be kept.
+    fn serve(&self, log: &mut dyn Log, mut rope: &UnixStream) {
+        let mut records = Vec::with_capacity(ROOM);
+        while let Some(count) = self.take(&mut records) {
+            let result = log.append(&records);
+            records.clear();
+            let has_failed = result.is_err();
+            if let Err(error) = result {
+                *self.failure.lock().unwrap_or_else(PoisonError::into_inner) = Some(error);
+            }
+            self.synced.store(if has_failed { FAILED } else { count }, Ordering::Release);
+            // If the socket is full, the loop has something to read already.
+            let _ = rope.write(&[1]);
+            if has_failed {
+                return;
+            }
+        }
+    }
+}
+
+/// A journal that is kept.
+pub struct Journal {
+    way: Arc<Way>,
+    thread: JoinHandle<Box<dyn Log>>,
+    hold: Box<dyn Hold>,
+    /// Readable when records are synced.
+    pub bell: UnixStream,
+    /// How many records were given to the thread.
+    pub count: u64,
+    pub epoch: u64,
+    pub identity: Identity,
+}
+
+impl Journal {
+    /// Starts the thread.
+    pub fn start(mut log: Box<dyn Log>, hold: Box<dyn Hold>, epoch: u64, identity: Identity) -> io::Result<Journal> {
+        let given = Given { records: Vec::with_capacity(ROOM), count: 0, is_over: false };
+        let way = Arc::new(Way {
+            given: Mutex::new(given),
+            has_more: Condvar::new(),
+            synced: AtomicU64::new(0),
+            failure: Mutex::new(None),
+        });
+        let (bell, rope) = UnixStream::pair()?;
+        bell.set_nonblocking(true)?;
+        rope.set_nonblocking(true)?;
+        let theirs = Arc::clone(&way);
+        let serve = move || {
+            theirs.serve(&mut *log, &rope);
+            log
+        };
+        let thread = thread::Builder::new().name("journal".to_owned()).spawn(serve)?;
+        Ok(Journal { way, thread, hold, bell, count: 0, epoch, identity })
+    }
+
+    /// Appends a command that has succeeded, if it changes what is to last.
+    pub fn follow(&mut self, cntlid: u16, qid: u16, entry: &[u8; ENTRY], data: Data<'_>) {
+        if lasts(qid, entry) {
+            let data = if let Data::ToController(bytes) = data { bytes } else { &[] };
+            let epoch = self.epoch;
+            self.give(|records| push_command(records, epoch, (cntlid, qid), entry, data));
+        }
+    }
+
+    /// Appends a power cycle.
+    pub fn cycle(&mut self) {
+        let epoch = self.epoch;
+        self.give(|records| push_cycle(records, epoch));
+    }
+
+    fn give(&mut self, push: impl FnOnce(&mut Vec<u8>)) {
+        self.count += 1;
+        let mut given = self.way.given();
+        push(&mut given.records);
+        given.count = self.count;
+        drop(given);
+        self.way.has_more.notify_one();
+    }
+
+    /// How many records are synced.
+    pub fn synced(&self) -> Outcome<u64> {
+        match self.way.synced.load(Ordering::Acquire) {
+            FAILED => {
+                let failure = self.way.failure.lock().unwrap_or_else(PoisonError::into_inner).take();
+                Err(Fault::Journal(failure.unwrap_or_else(|| ErrorKind::BrokenPipe.into())))
+            }
+            count => Ok(count),
+        }
+    }
+
+    /// Silences the bell.
+    pub fn hear(&self) {
+        let mut rings = [0; 64];
+        while matches!((&self.bell).read(&mut rings), Ok(count) if count == rings.len()) {}
+    }
+
+    /// An error if another target has taken over, and with `all` also if another program has changed the files.
+    pub fn check(&self, all: bool) -> Outcome<()> {
+        let checked = if all { self.hold.check_files() } else { self.hold.check() };
+        checked.map_err(Fault::Journal)
+    }
+
+    /// An error if another target may have taken over by now.
+    pub fn check_time(&self) -> Outcome<()> {
+        self.hold.check_time().map_err(Fault::Journal)
+    }
+
+    /// Waits until all records are synced, at the end; what they are in.
+    pub fn end(self) -> Outcome<Box<dyn Log>> {
+        self.way.given().is_over = true;
+        self.way.has_more.notify_one();
+        let Journal { way, thread, .. } = self;
+        let log = thread.join().map_err(|_| Fault::Journal(ErrorKind::Other.into()))?;
+        let failure = way.failure.lock().unwrap_or_else(PoisonError::into_inner).take();
+        failure.map_or(Ok(log), |error| Err(Fault::Journal(error)))
+    }
+}
+
+/// The newest epoch of records. An error if one of them is of an epoch that no target has started.
+pub fn newest_of(records: &[Record]) -> io::Result<u64> {
     newest(records).map_err(|number| changed(format!("record {number} is of an epoch that no target has started")))
 }
 
@@ -126,88 +230,11 @@ fn lasts(qid: u16, entry: &[u8; ENTRY]) -> bool {
     }
 }
 
-impl Journal {
-    /// Appends a command that has succeeded, if it changes what is to last.
-    pub fn follow(&mut self, cntlid: u16, qid: u16, entry: &[u8; ENTRY], data: Data<'_>) -> Outcome<()> {
-        if !lasts(qid, entry) {
-            return Ok(());
-        }
-        let data = if let Data::ToController(bytes) = data { bytes.to_vec() } else { Vec::new() };
-        self.append(Event::Command { cntlid, qid, entry: *entry, data })
-    }
-
-    /// Appends a power cycle.
-    pub fn cycle(&mut self) -> Outcome<()> {
-        self.append(Event::Cycle)
-    }
-
-    /// Appends a record, unless another target has taken the folder over. If one does so meanwhile, that is an error
-    /// too: it may not have read the record.
-    fn append(&mut self, event: Event) -> Outcome<()> {
-        self.check()?;
-        let record = Record { epoch: self.epoch, event }.bytes();
-        self.file.write_all(&record).and_then(|()| self.file.sync_data()).map_err(Fault::Journal)?;
-        self.length += record.len() as u64;
-        self.check()
-    }
-
-    /// An error if the file is not as this target has left it.
-    pub fn check(&self) -> Outcome<()> {
-        self.watched.length().and_then(|found| self.check_length(found)).map_err(Fault::Journal)
-    }
-
-    /// An error if another target has started over it. That is quick: it is called before anything is served.
-    pub fn check_epoch(&self) -> Outcome<()> {
-        let found = self.file.metadata().map(|it| it.len());
-        found.and_then(|found| self.check_length(found)).map_err(Fault::Journal)
-    }
-
-    fn check_length(&self, found: u64) -> io::Result<()> {
-        if found == self.length {
-            return Ok(());
-        }
-        if found < self.length {
-            return Err(changed(format!("it was cut to {found} bytes, of {}", self.length)));
-        }
-        let mut bytes = vec![0; (found - self.length).min(MOST_OF_OTHERS) as usize];
-        self.file.read_exact_at(&mut bytes, self.length)?;
-        let records = records_of(&bytes, 0).map_or(Vec::new(), |(records, _)| records);
-        let newest = records.iter().map(|it| it.epoch).max().unwrap_or(0);
-        Err(changed(if newest < self.epoch {
-            "another program has written to it".to_owned()
-        } else {
-            format!("another target has taken its folder over: it began epoch {newest}, this one {}", self.epoch)
-        }))
-    }
-}
-
 #[cfg(test)]
 mod tests {
     use super::*;
-
-    #[test]
-    fn what_another_target_appends_at_a_start() {
-        let [start, cycle] =
-            [Event::Start, Event::Cycle].map(|event| move |epoch| Record { epoch, event: event.clone() });
-        for (appended, counted) in [
-            (vec![start(2)], Some(2)),
-            (vec![cycle(1), start(2)], Some(3)),
-            (vec![start(2), cycle(1)], Some(2)),
-            (vec![start(2), start(2)], None),
-            (vec![start(2), cycle(2)], None),
-            (vec![start(3), start(2)], None),
-            (vec![], None),
-        ] {
-            let bytes: Vec<u8> = appended.iter().flat_map(Record::bytes).collect();
-            let mut records = vec![start(1)];
-            let length = join(&mut records, &bytes, 2).ok();
-            assert_eq!(length, counted.map(|_| bytes.len()), "{appended:?}");
-            if let Some(count) = counted {
-                assert_eq!(current(records).events.len(), count);
-                assert!(join(&mut vec![start(1)], &[&bytes[..], &[7]].concat(), 2).is_err());
-            }
-        }
-    }
+    use crate::record::{records_of, Event};
+    use std::sync::mpsc::{sync_channel, Receiver, SyncSender};
 
     #[test]
     fn what_lasts() {
@@ -223,5 +250,61 @@ mod tests {
             entry[40] = dw10;
             assert_eq!(lasts(qid, &entry), wanted);
         }
+    }
+
+    /// A log whose appends wait until they are allowed, and pass on what they got.
+    struct Gate {
+        passes: Receiver<bool>,
+        got: SyncSender<Vec<u8>>,
+    }
+
+    impl Log for Gate {
+        fn append(&mut self, records: &[u8]) -> io::Result<()> {
+            if !self.passes.recv().unwrap_or(false) {
+                return Err(ErrorKind::StorageFull.into());
+            }
+            self.got.send(records.to_owned()).map_err(|_| ErrorKind::BrokenPipe.into())
+        }
+    }
+
+    struct Always;
+
+    impl Hold for Always {
+        fn check(&self) -> io::Result<()> {
+            Ok(())
+        }
+    }
+
+    #[test]
+    fn records_are_synced_together_and_in_order() {
+        let ((pass, passes), (got, gets)) = (sync_channel(9), sync_channel(9));
+        let identity = Identity([0; 16]);
+        let mut journal = Journal::start(Box::new(Gate { passes, got }), Box::new(Always), 3, identity).unwrap();
+        let mut entry = [0; ENTRY];
+        entry[0] = RESERVATION_REGISTER;
+        journal.follow(1, 1, &[0; ENTRY], Data::None);
+        assert_eq!(journal.count, 0);
+        for cntlid in 1..=5 {
+            journal.follow(cntlid, 1, &entry, Data::ToController(&[7; 16]));
+        }
+        assert_eq!((journal.count, journal.synced().unwrap()), (5, 0));
+        let mut bytes = Vec::new();
+        // Each pass is for one batch.
+        while records_of(&bytes, 0).unwrap().0.len() < 5 {
+            pass.send(true).unwrap();
+            bytes.extend(gets.recv().unwrap());
+        }
+        while journal.synced().unwrap() != 5 {
+            thread::yield_now();
+        }
+        let records = records_of(&bytes, 0).unwrap().0;
+        let cntlids = records.iter().map(|it| match (&it.event, it.epoch) {
+            (Event::Command { cntlid, .. }, 3) => *cntlid,
+            _ => 0,
+        });
+        assert_eq!(cntlids.collect::<Vec<_>>(), [1, 2, 3, 4, 5]);
+        pass.send(false).unwrap();
+        journal.cycle();
+        assert!(journal.end().is_err());
     }
 }

@@ -13,6 +13,7 @@ mod association;
 mod authentication;
 mod behind;
 mod bytes;
+mod checkpoint;
 mod configuration;
 mod connection;
 mod control;
@@ -75,6 +76,7 @@ mod storage;
 mod system;
 mod target;
 mod transfers;
+mod volume;
 mod watched;
 mod window;
 mod worker;
@@ -105,6 +107,7 @@ use std::process::ExitCode;
 use std::sync::Arc;
 use storage::{Disk, Image, Storage};
 use target::Target;
+use volume::{Owned, Volume, VolumeDisk};
 
 /// Exit statuses: the configuration is refused, a file or the system failed, the command line is wrong.
 const REFUSED: u8 = 1;
@@ -137,6 +140,7 @@ fn main() -> ExitCode {
         Some("--check") => check(&words[1..]),
         Some("ctl") => control_line(&words[1..]),
         Some("expand") => expand::expand(&words[1..]),
+        Some(command @ ("format" | "check" | "dump" | "copy")) => volume::commands::run(command, &words[1..]),
         _ => serve(words),
     };
     match done {
@@ -210,14 +214,32 @@ fn serve(words: Vec<OsString>) -> Result<(), End> {
         log::begin(Form::Json);
     }
     let keys = read_keys(&options)?;
+    let bad = |text: String| End { status: BAD_COMMAND_LINE, text: format!("{text}; see --help") };
+    let is_volume = volume::is_volume(&options.config);
+    options.check_source(is_volume).map_err(bad)?;
+    if is_volume {
+        let volume = Volume::open(&options.config, options.waits, &mut options.storage);
+        let volume = volume.map_err(|refusal| refusal.end(&options.config))?;
+        let configuration = volume.configuration.clone();
+        check_options(&options, &configuration)?;
+        return serve_over(options, configuration, Source::Volume(volume), keys);
+    }
     let config = options.config.as_path();
     let text = configuration::text_of(config).map_err(end(FAILED, config.display()))?;
     let configuration = judge(config, &text, ANY_BLOCKS)?;
+    check_options(&options, &configuration)?;
+    options.settings.is_read_only |= tells_read_only(&options);
+    // Locks and port come first: what is read afterwards stays as it is.
+    let image = open_image(&options, &text)?;
+    let folder = optional(&options.state, |path| state::open(path, options.waits))?;
+    serve_over(options, configuration, Source::Files { image, folder }, keys)
+}
+
+/// Refuses options that don't fit the configuration or each other.
+fn check_options(options: &Options, configuration: &Configuration) -> Result<(), End> {
     let bad = |text| End { status: BAD_COMMAND_LINE, text };
     options.settings.admission.check(&configuration.hosts(), &options.listen).map_err(bad)?;
-    outputs::check(&options).map_err(|text| End { status: FAILED, text })?;
-    options.settings.is_read_only |= tells_read_only(&options);
-    serve_over(options, configuration, &text, keys)
+    outputs::check(options).map_err(|text| End { status: FAILED, text })
 }
 
 /// Reads the keys, if the options name a file. From here on no other process can read the memory of this one.
@@ -234,26 +256,46 @@ fn read_keys(options: &Options) -> Result<Option<Keys>, End> {
     Keys::read(path).map(Some).map_err(|text| End { status: REFUSED, text })
 }
 
-/// Serves what a text describes until something ends it.
-fn serve_over(options: Options, configuration: Configuration, text: &[u8], keys: Option<Keys>) -> Result<(), End> {
-    // Locks and port come first: what is read afterwards stays as it is.
-    let image = open_image(&options, text)?;
-    let folder = optional(&options.state, |path| state::open(path, options.waits))?;
+/// What is served: a volume, or an image and a state folder, of which each may be missing.
+enum Source {
+    Volume(Volume),
+    Files { image: Option<Image>, folder: Option<Folder> },
+}
+
+impl Source {
+    /// How many blocks its disk has, if there is one.
+    fn blocks(&self) -> Option<u64> {
+        match self {
+            Source::Volume(volume) => Some(volume.blocks()),
+            Source::Files { image, .. } => image.as_ref().map(Image::blocks),
+        }
+    }
+}
+
+/// What a target has of its source.
+#[derive(Default)]
+struct Taken {
+    journal: Option<(Journal, Vec<Event>)>,
+    disk: Option<(String, Arc<dyn Disk>)>,
+    identity: Option<Identity>,
+}
+
+/// Serves a subsystem until something ends it.
+fn serve_over(options: Options, configuration: Configuration, source: Source, keys: Option<Keys>) -> Result<(), End> {
     let listeners = listen(&options)?;
-    let identity = image.as_ref().map_or_else(Identity::random, |it| it.file.metadata().map(Identity::of_file));
-    let identity = identity.map_err(end(FAILED, "the identity"))?;
-    let mut bytes = if image.is_none() { zeros(&configuration)? } else { Vec::new() };
-    let subsystem = match &image {
-        Some(image) => Subsystem::open_brought(&configuration.config, image.blocks()),
+    let mut bytes = if source.blocks().is_none() { zeros(&configuration)? } else { Vec::new() };
+    let subsystem = match source.blocks() {
+        Some(blocks) => Subsystem::open_brought(&configuration.config, blocks),
         None => Subsystem::open_lent(&configuration.config, &mut bytes[BLOCKS_AT..]),
     };
     let subsystem = subsystem.map_err(end(REFUSED, options.config.display()))?;
     let control =
         optional(&options.control, |path| locking::bind(path.display(), options.waits, || control::listen(path)))?;
-    let journal = folder.map(|it| open_journal(it, &configuration)).transpose()?;
+    let Taken { journal, disk, identity } = take(source, &options, &configuration)?;
+    let identity = identity.map_or_else(Identity::random, Ok).map_err(end(FAILED, "the identity"))?;
     // It comes last, so that a start that fails leaves none.
     let run = keep_run(&options, &configuration)?;
-    let storage = image.map(|it| start_disk(it, &options, run.is_some())).transpose()?;
+    let storage = disk.map(|it| start_disk(it, &options, run.is_some())).transpose()?;
     let machine = Machine::new(subsystem, run);
     let mut target = Target::new(machine, configuration, options.settings, identity, storage);
     begin(&mut target, journal)?;
@@ -269,6 +311,36 @@ fn serve_over(options: Options, configuration: Configuration, text: &[u8], keys:
     announce(&mut target, &listeners);
     let server = Server::new(target, listeners, control).map_err(end(FAILED, "the system"))?;
     server.run().map_err(|fault| End { status: FAILED, text: fault.to_string() })
+}
+
+/// Begins to use a source: opens its journal, and its disk.
+fn take(source: Source, options: &Options, configuration: &Configuration) -> Result<Taken, End> {
+    let (image, folder) = match source {
+        Source::Files { image, folder } => (image, folder),
+        Source::Volume(volume) => return take_volume(volume, options),
+    };
+    let journal = folder.map(|it| open_journal(it, configuration)).transpose()?;
+    let mut taken = Taken { journal, ..Taken::default() };
+    if let Some(image) = image {
+        let name = image.path.display().to_string();
+        let identity = image.file.metadata().map(Identity::of_file);
+        taken.identity = Some(identity.map_err(end(FAILED, "the identity"))?);
+        let disk = image.disk(&options.storage).map_err(end(FAILED, &name))?;
+        taken.disk = Some((name, Arc::new(disk)));
+    }
+    Ok(taken)
+}
+
+fn take_volume(mut volume: Volume, options: &Options) -> Result<Taken, End> {
+    let Owned { journal, found, lease } = volume.take().map_err(|refusal| refusal.end(&options.config))?;
+    let name = options.config.display().to_string();
+    let events = told(&name, found);
+    let disk = volume.image.disk(&options.storage).map_err(end(FAILED, &name))?;
+    Ok(Taken {
+        journal: Some((journal, events)),
+        disk: Some((name, Arc::new(VolumeDisk::new(disk, lease)))),
+        identity: None,
+    })
 }
 
 /// Begins to keep the run as a script or as a recording, if an option asks for it.
@@ -309,11 +381,8 @@ fn open_image(options: &Options, text: &[u8]) -> Result<Option<Image>, End> {
     Ok(image)
 }
 
-/// Starts the threads that read and write an image.
-fn start_disk(image: Image, options: &Options, keeps_run: bool) -> Result<Storage, End> {
-    let name = image.path.display().to_string();
-    let disk = image.disk(&options.storage).map_err(end(FAILED, &name))?;
-    let disk: Arc<dyn Disk> = Arc::new(disk);
+/// Starts the threads that read and write a disk.
+fn start_disk((name, disk): (String, Arc<dyn Disk>), options: &Options, keeps_run: bool) -> Result<Storage, End> {
     Storage::start(name.clone(), disk, options.storage, keeps_run).map_err(end(FAILED, name))
 }
 
@@ -344,19 +413,23 @@ fn begin(target: &mut Target<'_>, journal: Option<(Journal, Vec<Event>)>) -> Res
     journal.map_or(Ok(()), |(journal, events)| restore(target, journal, &events))
 }
 
-/// Opens the journal of a folder, and reports which part of it is dropped; the other events.
+/// Opens the journal of a folder; the events that count.
 fn open_journal(folder: Folder, configuration: &Configuration) -> Result<(Journal, Vec<Event>), End> {
-    let path = folder.path.clone();
-    let what = path.display();
-    let (journal, Found { current, torn }) = journal::open(folder, configuration).map_err(end(FAILED, &what))?;
+    let name = folder.path.display().to_string();
+    let (journal, found) = journal::folder::open(folder, configuration).map_err(end(FAILED, &name))?;
+    Ok((journal, told(&name, found)))
+}
+
+/// The events of a journal that count; reports which others there are.
+fn told(name: &str, Found { current, torn }: Found) -> Vec<Event> {
     if torn != 0 {
-        warn(format_args!("{what}: dropped the last {torn} bytes, an incomplete record that was never answered"));
+        warn(format_args!("{name}: dropped the last {torn} bytes, an incomplete record that was never answered"));
     }
     if current.stale != 0 {
         let why = "of an older epoch than those before them: their target had continued after another took over";
-        warn(format_args!("{what}: {} records are ignored, since they are {why}", current.stale));
+        warn(format_args!("{name}: {} records are ignored, since they are {why}", current.stale));
     }
-    Ok((journal, current.events))
+    current.events
 }
 
 /// Has a target begin with what persists of those that kept their state in its journal before.

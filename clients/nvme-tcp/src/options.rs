@@ -134,9 +134,6 @@ impl Options {
         if options.listen.is_empty() {
             options.listen.push((Ipv4Addr::LOCALHOST, 4420).into());
         }
-        if options.storage != storage::Options::default() && options.image.is_none() {
-            return Err("--size, --cache, --direct and --write-through need --image".to_owned());
-        }
         if options.choice.is_some() && options.keys.is_none() {
             return Err("--dhchap needs --keys".to_owned());
         }
@@ -147,6 +144,18 @@ impl Options {
             Some(config) if configs.is_empty() => Ok(Options { config, ..options }),
             _ => Err("one CONFIG is needed".to_owned()),
         }
+    }
+
+    /// Refuses options on the blocks that need an image, or that a volume has in itself.
+    pub fn check_source(&self, is_volume: bool) -> Result<(), String> {
+        let has_own = self.image.is_some() || self.state.is_some() || self.storage.size.is_some();
+        if is_volume && has_own {
+            return Err("a volume has its blocks and its state: leave --image, --size and --state out".to_owned());
+        }
+        if !is_volume && self.image.is_none() && self.storage != storage::Options::default() {
+            return Err("--size, --cache, --direct and --write-through need --image".to_owned());
+        }
+        Ok(())
     }
 
     fn take(&mut self, option: &str, value: OsString) -> Result<(), String> {
@@ -242,11 +251,24 @@ mod tests {
             "c --keys",
             "c --record",
             "c --record r --script s",
-            "c --write-through",
             "c --image i --size 1",
             "c --image i --cache 1",
         ] {
             assert!(read(wrong).is_err(), "{wrong}");
+        }
+    }
+
+    #[test]
+    fn sources() {
+        for (words, is_volume, fits) in [
+            ("c", false, true),
+            ("c --write-through", false, false),
+            ("c --image i --write-through", false, true),
+            ("v --cache 8M", true, true),
+            ("v --image i", true, false),
+            ("v --state s", true, false),
+        ] {
+            assert_eq!(read(words).ok().unwrap().check_source(is_volume).is_ok(), fits, "{words}");
         }
     }
 }

@@ -1,9 +1,11 @@
-//! The records of a journal, as bytes: commands that changed what lasts, power cycles, and starts of targets.
+//! The records of a journal, as bytes: commands that changed what lasts, power cycles, starts of targets, and
+//! checkpoints.
 //!
 //! Each start raises the epoch, and each record has that of the target that wrote it. So a record that a target appends
 //! when another has taken its folder over is known by its older epoch.
 
-use crate::bytes::{u16_at, u32_at, u64_at};
+use crate::bytes::{put, u16_at, u32_at, u64_at};
+use crate::checkpoint::Checkpoint;
 use crate::digest::crc32c;
 use crate::nvme::ENTRY;
 use crate::window::MOST_DATA;
@@ -17,6 +19,7 @@ const HEAD: usize = 12;
 const COMMAND: u8 = 3;
 const CYCLE: u8 = 4;
 const START: u8 = 5;
+const CHECKPOINT: u8 = 6;
 /// Kinds of the first version.
 const FIRST_COMMAND: u8 = 1;
 const FIRST_CYCLE: u8 = 2;
@@ -33,6 +36,8 @@ pub enum Event {
     Cycle,
     /// A target has started, so power was lost.
     Start,
+    /// What persists of all that happened before.
+    Checkpoint(Checkpoint),
 }
 
 /// An event, and the epoch of the target in which it happened.
@@ -58,6 +63,7 @@ impl Record {
             }
             CYCLE | FIRST_CYCLE if fields.is_empty() => Event::Cycle,
             START if fields.is_empty() => Event::Start,
+            CHECKPOINT => Event::Checkpoint(Checkpoint::of(fields)?),
             _ => return None,
         };
         Some(Record { epoch, event })
@@ -65,21 +71,38 @@ impl Record {
 
     /// Its bytes in a journal.
     pub fn bytes(&self) -> Vec<u8> {
-        let kind = match self.event {
-            Event::Command { .. } => COMMAND,
-            Event::Cycle => CYCLE,
-            Event::Start => START,
-        };
-        let mut content = vec![kind];
-        content.extend(self.epoch.to_le_bytes());
-        if let Event::Command { cntlid, qid, entry, data } = &self.event {
-            content.extend(cntlid.to_le_bytes());
-            content.extend(qid.to_le_bytes());
-            content.extend(entry);
-            content.extend(data);
+        let mut bytes = Vec::new();
+        match &self.event {
+            Event::Command { cntlid, qid, entry, data } => {
+                push_command(&mut bytes, self.epoch, (*cntlid, *qid), entry, data);
+            }
+            Event::Cycle => push_cycle(&mut bytes, self.epoch),
+            Event::Start => push(&mut bytes, &[&[START], &self.epoch.to_le_bytes()]),
+            Event::Checkpoint(it) => push(&mut bytes, &[&[CHECKPOINT], &self.epoch.to_le_bytes(), &it.bytes()]),
         }
-        framed(&content)
+        bytes
     }
+}
+
+/// Appends the record of a command of a controller's queue.
+pub fn push_command(bytes: &mut Vec<u8>, epoch: u64, (cntlid, qid): (u16, u16), entry: &[u8; ENTRY], data: &[u8]) {
+    let parts = [&[COMMAND], &epoch.to_le_bytes()[..], &cntlid.to_le_bytes(), &qid.to_le_bytes(), entry, data];
+    push(bytes, &parts);
+}
+
+/// Appends the record of a power cycle.
+pub fn push_cycle(bytes: &mut Vec<u8>, epoch: u64) {
+    push(bytes, &[&[CYCLE], &epoch.to_le_bytes()]);
+}
+
+/// Appends a content, which is given in parts, with its length and digests.
+fn push(bytes: &mut Vec<u8>, parts: &[&[u8]]) {
+    let at = bytes.len();
+    bytes.extend([0; HEAD]);
+    parts.iter().for_each(|it| bytes.extend_from_slice(it));
+    let length = ((bytes.len() - at - HEAD) as u32).to_le_bytes();
+    let digests = [crc32c(&length), crc32c(&bytes[at + HEAD..])].map(u32::to_le_bytes);
+    [length, digests[0], digests[1]].iter().enumerate().for_each(|(number, it)| put(bytes, at + 4 * number, it));
 }
 
 /// What the journal of a configuration begins with, in this version and in the first.
@@ -88,9 +111,9 @@ pub fn heads(configuration: &str) -> [Vec<u8>; 2] {
 }
 
 fn framed(content: &[u8]) -> Vec<u8> {
-    let length = (content.len() as u32).to_le_bytes();
-    let digests = [crc32c(&length), crc32c(content)].map(u32::to_le_bytes);
-    [&length, &digests[0], &digests[1], content].concat()
+    let mut bytes = Vec::new();
+    push(&mut bytes, &[content]);
+    bytes
 }
 
 /// The records from a place on, and the end of the last.
@@ -128,7 +151,7 @@ fn content_at(bytes: &[u8], at: usize) -> Option<&[u8]> {
 pub fn newest(records: &[Record]) -> Result<u64, usize> {
     let mut newest = 0;
     for (number, record) in records.iter().enumerate() {
-        if record.epoch > newest && record.event != Event::Start {
+        if record.epoch > newest && !matches!(record.event, Event::Start | Event::Checkpoint(_)) {
             return Err(number);
         }
         newest = record.epoch.max(newest);
@@ -172,11 +195,12 @@ mod tests {
 
     #[test]
     fn records_are_read() {
-        let others = [Event::Cycle, Event::Start].map(|event| Record { epoch: u64::MAX - 1, event });
+        let others = [Event::Cycle, Event::Start, Event::Checkpoint(Checkpoint::default())]
+            .map(|event| Record { epoch: u64::MAX - 1, event });
         let records = [&[command(1, 2), command(1 << 40, 0xffef)][..], &others].concat();
         let bytes: Vec<u8> = records.iter().flat_map(Record::bytes).collect();
         assert_eq!(records_of(&bytes, 0).unwrap(), (records, bytes.len()));
-        for wrong in [&[COMMAND][..], &[CYCLE, 0, 0, 0, 0, 0, 0, 0], &[START; 10], &[6; 9], &[0; 9]] {
+        for wrong in [&[COMMAND][..], &[CYCLE, 0, 0, 0, 0, 0, 0, 0], &[START; 10], &[7; 9], &[6; 10], &[0; 9]] {
             assert!(records_of(&framed(wrong), 0).is_err(), "{wrong:?}");
         }
     }

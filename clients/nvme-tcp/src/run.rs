@@ -133,7 +133,7 @@ where
 pub struct Run {
     /// What goes to the files next.
     events: Events,
-    files: Box<dyn Batches>,
+    files: Box<dyn Batches + Send>,
     /// What it is if the files can't be written.
     fault: fn(io::Error) -> Fault,
     /// Whether one connection alone is served. All events of its commands are written together, by the target's thread.

@@ -7,6 +7,7 @@ use crate::control::Console;
 use crate::counters::Closing;
 use crate::fault::{Fault, Outcome};
 use crate::input::Rooms;
+use crate::journal::Journal;
 use crate::listening::{plain, Listener};
 use crate::log::Topic;
 use crate::nvme::ENTRY;
@@ -23,9 +24,10 @@ use std::time::{Duration, Instant};
 
 /// The name of the listener for lines of control. Those for hosts have the numbers from 1 on, and then connections.
 const CONTROL: u64 = 0;
-/// That of the thread which computes for proofs, and that of the threads of the disk.
+/// That of the thread which computes for proofs, that of the threads of the disk, and that of the journal.
 const WORK: u64 = u64::MAX;
 const DISK: u64 = u64::MAX - 1;
+const JOURNAL: u64 = u64::MAX - 2;
 /// Interval between timeout checks.
 const LOOK: Duration = Duration::from_millis(100);
 /// The most connections without a controller's queue. A new one closes one of them.
@@ -39,7 +41,8 @@ const TO_READ: Interest = Interest { read: true, write: false };
 struct Served {
     connection: Connection,
     interest: Interest,
-    /// The system must have all events of the batch before its answers are sent and more is received.
+    /// The journal must have synced all records, and the system must have all events of the batch, before its answers
+    /// are sent and more is received.
     waits_for: Option<Handed>,
 }
 
@@ -65,7 +68,7 @@ pub struct Server<'a> {
     connections: HashMap<u64, Served>,
     /// Receive buffers.
     rooms: Rooms,
-    /// The connections that wait for the kept run, in the order in which they have begun to.
+    /// The connections that wait for the journal or the kept run, in the order in which they have begun to.
     waiting: VecDeque<u64>,
     /// Those that wait until the disk can take commands.
     stalled: Vec<u64>,
@@ -92,6 +95,7 @@ impl<'a> Server<'a> {
         let control = control.map(|it| Listener::new(it, CONTROL, &poll)).transpose()?;
         target.prover.as_ref().map_or(Ok(()), |it| poll.add(it.bell(), WORK, TO_READ))?;
         target.storage.as_ref().map_or(Ok(()), |it| poll.add(it.bell(), DISK, TO_READ))?;
+        target.journal.as_ref().map_or(Ok(()), |it| poll.add(&it.bell, JOURNAL, TO_READ))?;
         Ok(Server {
             target,
             poll,
@@ -120,7 +124,7 @@ impl<'a> Server<'a> {
         while !self.connections.is_empty() {
             self.turn(&mut ready, &mut look)?;
         }
-        self.target.sync()
+        self.target.end()
     }
 
     /// Takes no more connections and no more commands. Those that are there get the answers that are due, and are
@@ -145,7 +149,7 @@ impl<'a> Server<'a> {
 
     /// Serves every connection that is ready. If none is, and some wait for the kept run, blocks on the oldest write.
     fn turn(&mut self, ready: &mut Vec<Ready>, look: &mut Instant) -> Outcome<()> {
-        let is_patient = self.waiting.is_empty() && !self.target.has_piece();
+        let is_patient = self.awaited().is_none() && !self.target.has_piece();
         let patience = if is_patient { LOOK } else { Duration::ZERO };
         self.target.hand_out();
         self.poll.wait(patience.as_millis() as i32, ready).map_err(Fault::System)?;
@@ -164,6 +168,7 @@ impl<'a> Server<'a> {
                 CONTROL => self.accept_consoles()?,
                 WORK => self.take_work()?,
                 DISK => self.take_blocks()?,
+                JOURNAL => self.take_records()?,
                 name if name <= self.hosts.len() as u64 => self.accept_hosts(name as usize - 1)?,
                 name if self.consoles.contains_key(&name) => self.serve_console(name)?,
                 name => is_idle &= !self.serve(name, *it)?,
@@ -189,9 +194,10 @@ impl<'a> Server<'a> {
         Ok(())
     }
 
-    /// The batches after which the first waiting connection continues.
+    /// The batches after which the first connection continues that waits for some.
     fn awaited(&self) -> Option<Handed> {
-        self.waiting.front().and_then(|name| self.connections.get(name)).and_then(|served| served.waits_for)
+        let mut handed = self.waiting.iter().filter_map(|name| self.connections.get(name)?.waits_for);
+        handed.find(|it| !self.target.has_events(*it).unwrap_or(true))
     }
 
     /// Whether only one connection can be served, as before, so that others are probably idle. With many hosts there
@@ -281,7 +287,14 @@ impl<'a> Server<'a> {
         Ok(())
     }
 
-    /// Sends the answers for which the system has all that had to be written.
+    /// Begins the writes that have waited for records of the journal. The answers that have are sent at the end of the
+    /// turn.
+    fn take_records(&mut self) -> Outcome<()> {
+        self.target.journal.iter().for_each(Journal::hear);
+        self.apply_effects()
+    }
+
+    /// Sends the answers for which the disk has all records, and the system all that had to be written.
     fn resume(&mut self) -> Outcome<()> {
         for _ in 0..self.waiting.len() {
             let name = self.waiting.pop_front().unwrap_or_default();
@@ -309,8 +322,9 @@ impl<'a> Server<'a> {
         self.apply_effects()
     }
 
-    /// Sends a connection's answers, and takes PDUs that had to wait for that. The kept run is written first, so that
-    /// it has everything that a host was answered. If that takes a while, the connection waits for it.
+    /// Sends a connection's answers, and takes PDUs that had to wait for that. The journal is synced and the kept run is
+    /// written first, so that they have everything that a host was answered. If that takes a while, the connection waits
+    /// for it.
     fn send(&mut self, name: u64, is_handed: bool) -> Outcome<()> {
         let Server { target, connections, waiting, stalled, is_alone, .. } = self;
         let served = match connections.get_mut(&name) {
@@ -326,6 +340,7 @@ impl<'a> Server<'a> {
                 }
                 return Ok(());
             }
+            target.check_time()?;
             served.connection.send(target);
             if !served.connection.has_more(target) {
                 if served.connection.waits_for_disk && !stalled.contains(&name) {

@@ -73,7 +73,7 @@ fn identity_of(path: &Path) -> io::Result<Option<Identity>> {
 }
 
 /// The line that names this target to others, which may run on another machine.
-fn me() -> String {
+pub fn me() -> String {
     let machine = fs::read_to_string("/proc/sys/kernel/hostname").unwrap_or_default();
     format!("process {} (nvmetcp) of machine {}\n", std::process::id(), machine.trim())
 }

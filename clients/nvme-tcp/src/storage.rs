@@ -5,7 +5,7 @@
 //! command wrote goes into the cache when it is executed, and to the disk by a thread. It is answered when the system
 //! has its blocks. So the order of commands is that of their executions, and nobody reads older bytes.
 
-mod aligned;
+pub mod aligned;
 mod cache;
 mod file;
 mod frames;
@@ -30,7 +30,7 @@ use crate::log::warn;
 use crate::nvme::{COMPARE, READ};
 use crate::status::{READ_ERROR, WRITE_FAULT};
 use cache::Cache;
-pub use file::{blocks_of, is_read_only, Image};
+pub use file::{blocks_of, is_read_only, Image, ImageDisk};
 use frames::{Extent, FRAME_BYTES};
 pub use jobs::Disk;
 use jobs::{Done, Job};

@@ -8,8 +8,10 @@
 
 use std::fs::File;
 use std::io;
+use std::os::raw::c_long;
 use std::os::unix::io::{AsRawFd, FromRawFd, OwnedFd, RawFd};
 use std::sync::atomic::{AtomicBool, Ordering};
+use std::time::Duration;
 
 /// What a descriptor is waited for.
 #[derive(Clone, Copy, Debug, PartialEq, Eq)]
@@ -58,6 +60,25 @@ extern "C" {
     fn signal(number: i32, action: usize) -> usize;
     fn prctl(what: i32, value: usize, _: usize, _: usize, _: usize) -> i32;
     fn geteuid() -> u32;
+    fn clock_gettime(clock: i32, time: *mut Time) -> i32;
+}
+
+/// struct timespec.
+#[repr(C)]
+struct Time {
+    seconds: c_long,
+    nanoseconds: c_long,
+}
+
+/// The time since the machine was started, also while it sleeps: CLOCK_BOOTTIME.
+pub fn time_since_boot() -> Duration {
+    const BOOT_TIME: i32 = 7;
+    let mut time = Time { seconds: 0, nanoseconds: 0 };
+    match unsafe { clock_gettime(BOOT_TIME, &mut time) } {
+        0 => Duration::new(time.seconds as u64, time.nanoseconds as u32),
+        // A lease has ended by then.
+        _ => Duration::MAX,
+    }
 }
 
 /// SIGINT and SIGTERM.

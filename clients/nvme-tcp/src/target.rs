@@ -7,7 +7,7 @@ use crate::association::{Association, ConnectionId, HostQueue, Session};
 use crate::configuration::Configuration;
 use crate::controller::{Completed, Controller, Data, CSTS};
 use crate::counters::{Closing, Counters};
-use crate::fault::Outcome;
+use crate::fault::{Fault, Outcome};
 use crate::health::Health;
 use crate::holding::Held;
 use crate::identity::Identity;
@@ -62,9 +62,12 @@ pub enum Effect {
     Answer(ConnectionId, [u8; ENTRY], Answer),
 }
 
-/// The number of batches of the run begun so far.
+/// How many batches of the run and records of the journal were begun.
 #[derive(Clone, Copy, Debug, Default, PartialEq, Eq)]
-pub struct Handed(u64);
+pub struct Handed {
+    batches: u64,
+    records: u64,
+}
 
 /// The subsystem and its hosts.
 pub struct Target<'a> {
@@ -228,18 +231,31 @@ impl<'a> Target<'a> {
         if let (Need::Zero { blocks, .. }, true) = (completed.need, has_succeeded) {
             self.health[index].zero(blocks);
         }
-        match &mut self.journal {
-            Some(journal) if has_succeeded => journal.follow(self.controllers[index].cntlid, qid, entry, data),
-            _ => Ok(()),
+        if let (Some(journal), true) = (&mut self.journal, has_succeeded) {
+            journal.follow(self.controllers[index].cntlid, qid, entry, data);
         }
+        Ok(())
     }
 
-    /// Begins to write what the commands so far have changed: blocks, and the events of the kept run, which the system
-    /// must have before a host hears of them. `is_alone` says that one host is served and waits for that.
+    /// Begins to write what the commands so far have changed: blocks, once the journal has the records before them, and
+    /// the events of the kept run, which the system must have before a host hears of them. `is_alone` says that one host
+    /// is served and waits for that.
     pub fn hand_over(&mut self, is_alone: bool) -> Outcome<Handed> {
-        let is_only_host = is_alone && self.associations.iter().flatten().count() == 1;
-        self.storage.as_mut().map_or(Ok(()), |it| it.begin(is_only_host))?;
-        self.machine.begin_run(is_alone).map(Handed)
+        let records = self.journal.as_ref().map_or(0, |it| it.count);
+        if self.has_records(records)? {
+            let is_only_host = is_alone && self.associations.iter().flatten().count() == 1;
+            self.storage.as_mut().map_or(Ok(()), |it| it.begin(is_only_host))?;
+        }
+        Ok(Handed { batches: self.machine.begin_run(is_alone)?, records })
+    }
+
+    /// Whether the journal has synced all records up to `handed`, and the system has all events.
+    pub fn has(&self, handed: Handed) -> Outcome<bool> {
+        Ok(self.has_records(handed.records)? && self.has_events(handed)?)
+    }
+
+    fn has_records(&self, count: u64) -> Outcome<bool> {
+        self.journal.as_ref().map_or(Ok(true), |it| Ok(count <= it.synced()?))
     }
 
     /// Has the threads of the disk take their work, before the event loop waits.
@@ -248,19 +264,21 @@ impl<'a> Target<'a> {
     }
 
     /// Whether the system has all events up to `handed`.
-    pub fn has(&self, handed: Handed) -> Outcome<bool> {
-        Ok(handed.0 <= self.machine.run_done()?)
+    pub fn has_events(&self, handed: Handed) -> Outcome<bool> {
+        Ok(handed.batches <= self.machine.run_done()?)
     }
 
     /// Waits until the system has them.
     pub fn wait_for(&self, handed: Handed) -> Outcome<()> {
-        self.machine.wait_for_run(handed.0)
+        self.machine.wait_for_run(handed.batches)
     }
 
-    /// Has the disk hold all that happened: blocks and events. Each record of the journal was synced when it was made.
-    pub fn sync(&mut self) -> Outcome<()> {
+    /// Has the disk hold all that happened, at the end: records, blocks and events.
+    pub fn end(&mut self) -> Outcome<()> {
+        let log = self.journal.take().map(Journal::end).transpose()?;
         self.storage.as_mut().map_or(Ok(()), Storage::sync)?;
-        self.machine.sync_run()
+        self.machine.sync_run()?;
+        log.map_or(Ok(()), |mut it| it.close().map_err(Fault::Journal))
     }
 
     /// An error if another target has taken the journal over, and with `all` also if another program has changed the
@@ -268,9 +286,13 @@ impl<'a> Target<'a> {
     pub fn check_files(&self, all: bool) -> Outcome<()> {
         if all {
             self.storage.as_ref().map_or(Ok(()), Storage::check)?;
-            return self.journal.as_ref().map_or(Ok(()), Journal::check);
         }
-        self.journal.as_ref().map_or(Ok(()), Journal::check_epoch)
+        self.journal.as_ref().map_or(Ok(()), |it| it.check(all))
+    }
+
+    /// An error if another target may have taken over by now, so that nothing may be answered.
+    pub fn check_time(&self) -> Outcome<()> {
+        self.journal.as_ref().map_or(Ok(()), Journal::check_time)
     }
 
     /// Has the list of attachments follow a command that has attached a namespace to controllers, or detached it: the
@@ -378,6 +400,7 @@ impl<'a> Target<'a> {
             self.controllers[index].forget();
         }
         self.machine.power_cycle();
-        self.journal.as_mut().map_or(Ok(()), Journal::cycle)
+        self.journal.iter_mut().for_each(Journal::cycle);
+        Ok(())
     }
 }

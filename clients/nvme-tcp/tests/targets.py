@@ -48,7 +48,8 @@ class Target:
                  options: Sequence[str] = (), port: int = 0) -> None:
         self.folder, self.config, self.options = folder, config, list(options)
         self.environment: Dict[str, str] = {}
-        (folder / "config.nvme").write_text(config)
+        self.served = folder / "config.nvme"
+        self.served.write_text(config)
         (folder / "control").mkdir(mode=0o700, exist_ok=True)
         self.image = folder / "disk.img"
         if image is not None:
@@ -59,7 +60,7 @@ class Target:
 
     def start(self, port: int = 0) -> None:
         words = [PROGRAM, "--listen", f"127.0.0.1:{port}", "--control", str(self.folder / "control/socket"),
-                 *self.options, str(self.folder / "config.nvme")]
+                 *self.options, str(self.served)]
         self.errors = open(self.folder / "errors", "a", encoding="utf-8")
         self.process = subprocess.Popen(words, stdout=subprocess.PIPE, stderr=self.errors, text=True,
                                         env={**os.environ, **self.environment})

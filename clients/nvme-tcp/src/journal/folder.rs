@@ -1,0 +1,185 @@
+//! The journal of a state folder: a file that grows. It begins with the configuration.
+//!
+//! An incomplete record at its end is dropped; any other fault refuses the journal. A target that finds records of
+//! another after its own has been taken over: it ends without an answer.
+
+use super::{newest_of, Found, Hold, Journal, Log};
+use crate::configuration::Configuration;
+use crate::locking::open_regular;
+use crate::record::{current, heads, records_of, Event, Record};
+use crate::state::{self, Folder};
+use crate::watched::{changed, Watched};
+use std::fs::{File, OpenOptions};
+use std::io::{self, ErrorKind, Read, Seek, SeekFrom, Write};
+use std::os::unix::fs::FileExt;
+use std::sync::atomic::{AtomicU64, Ordering};
+use std::sync::Arc;
+
+/// The most bytes that are read of what another target has appended.
+const MOST_OF_OTHERS: u64 = 64 << 10;
+/// Why a journal that isn't whole is refused.
+const WAS_USED: &str = "a target has used this folder, and what it kept is lost: put the journal back from a copy, or \
+                        begin anew with another folder";
+
+/// The file, as this target has left it.
+struct Own {
+    file: File,
+    watched: Watched,
+    /// How long it is, unless another target writes to it; and how long it may be while a record is written.
+    length: AtomicU64,
+    limit: AtomicU64,
+    epoch: u64,
+}
+
+struct FolderLog {
+    own: Arc<Own>,
+    /// No other target has the folder.
+    _folder: Folder,
+}
+
+/// Opens the journal of a folder, and appends that a target has started. It is created if no target has used the
+/// folder.
+pub fn open(mut folder: Folder, configuration: &Configuration) -> io::Result<(Journal, Found)> {
+    let path = folder.path.join(state::JOURNAL);
+    let mut options = OpenOptions::new();
+    options.read(true).append(true).create(folder.identity.is_none());
+    let mut file = open_regular(&path, &options).map_err(|error| match error.kind() {
+        ErrorKind::NotFound => changed(format!("there is no journal: {WAS_USED}")),
+        kind => io::Error::new(kind, format!("the journal: {error}")),
+    })?;
+    let (bytes, begin) = read_or_begin(&mut file, &folder, configuration)?;
+    let (mut records, end) = records_of(&bytes, begin)?;
+    let torn = bytes.len() - end;
+    let epoch = newest_of(&records)?.saturating_add(1);
+    let identity = folder.use_it()?;
+    if torn != 0 {
+        file.set_len(end as u64)?;
+    }
+    file.write_all(&Record { epoch, event: Event::Start }.bytes())?;
+    file.sync_all()?;
+    let length = join(&mut records, &read_from(&mut file, end as u64)?, epoch)?;
+    let (watched, length) = (Watched::new(&path, &file)?, (end + length) as u64);
+    let own = Own { file, watched, length: length.into(), limit: length.into(), epoch };
+    let log = FolderLog { own: Arc::new(own), _folder: folder };
+    let hold = Box::new(Arc::clone(&log.own));
+    Ok((Journal::start(Box::new(log), hold, epoch, identity)?, Found { current: current(records), torn }))
+}
+
+/// Adds what is in a journal from the start of this target on, and before it what a target that has not ended appended
+/// meanwhile: that counts, since its hosts were answered. How many bytes these are. An error if another target has
+/// started too.
+fn join(records: &mut Vec<Record>, bytes: &[u8], epoch: u64) -> io::Result<usize> {
+    let (newer, length) = records_of(bytes, 0)?;
+    records.extend(newer);
+    if length != bytes.len() || records.iter().filter(|it| it.epoch >= epoch).count() != 1 {
+        return Err(changed("another target has started over this folder at the same time".to_owned()));
+    }
+    newest_of(records)?;
+    Ok(length)
+}
+
+/// The bytes of a journal, and the place of its first record. If no target has used the folder, a journal shorter than
+/// its head is begun anew.
+fn read_or_begin(file: &mut File, folder: &Folder, configuration: &Configuration) -> io::Result<(Vec<u8>, usize)> {
+    let (bytes, heads) = (read_from(file, 0)?, heads(&configuration.lines));
+    if let Some(head) = heads.iter().find(|head| bytes.starts_with(head)) {
+        return Ok((bytes, head.len()));
+    }
+    if !heads.iter().any(|head| head.starts_with(&bytes)) {
+        return Err(changed("the journal is of another configuration".to_owned()));
+    }
+    if folder.identity.is_some() {
+        return Err(changed(format!("the journal has {} bytes, fewer than its head: {WAS_USED}", bytes.len())));
+    }
+    file.set_len(0)?;
+    file.write_all(&heads[0])?;
+    file.sync_all()?;
+    File::open(&folder.path)?.sync_all()?;
+    Ok((heads[0].clone(), heads[0].len()))
+}
+
+fn read_from(file: &mut File, place: u64) -> io::Result<Vec<u8>> {
+    let mut bytes = Vec::new();
+    file.seek(SeekFrom::Start(place))?;
+    file.read_to_end(&mut bytes)?;
+    Ok(bytes)
+}
+
+impl Log for FolderLog {
+    /// If another target takes the folder over meanwhile, that is an error too: it may not have read the records.
+    fn append(&mut self, records: &[u8]) -> io::Result<()> {
+        let own = &self.own;
+        own.check_files()?;
+        let end = own.length.load(Ordering::Relaxed) + records.len() as u64;
+        own.limit.store(end, Ordering::Release);
+        (&own.file).write_all(records)?;
+        own.file.sync_data()?;
+        own.length.store(end, Ordering::Release);
+        own.check_files()
+    }
+}
+
+impl Hold for Arc<Own> {
+    fn check(&self) -> io::Result<()> {
+        self.check_length(|| Ok(self.file.metadata()?.len()))
+    }
+
+    fn check_files(&self) -> io::Result<()> {
+        self.check_length(|| self.watched.length())
+    }
+}
+
+impl Own {
+    /// An error if the file is not as this target has left it. While the thread writes a record, the file may be longer
+    /// by a part of it.
+    fn check_length(&self, find: impl FnOnce() -> io::Result<u64>) -> io::Result<()> {
+        let least = self.length.load(Ordering::Acquire);
+        let found = find()?;
+        if (least..=self.limit.load(Ordering::Acquire)).contains(&found) {
+            return Ok(());
+        }
+        if found < least {
+            return Err(changed(format!("it was cut to {found} bytes, of {least}")));
+        }
+        let mut bytes = vec![0; (found - least).min(MOST_OF_OTHERS) as usize];
+        self.file.read_exact_at(&mut bytes, least)?;
+        let records = records_of(&bytes, 0).map_or(Vec::new(), |(records, _)| records);
+        // Its own records have no start.
+        let newest = records.iter().filter(|it| it.event == Event::Start).map(|it| it.epoch).max();
+        Err(changed(match newest {
+            Some(newest) if newest >= self.epoch => {
+                format!("another target has taken its folder over: it began epoch {newest}, this one {}", self.epoch)
+            }
+            _ => "another program has written to it".to_owned(),
+        }))
+    }
+}
+
+#[cfg(test)]
+mod tests {
+    use super::*;
+
+    #[test]
+    fn what_another_target_appends_at_a_start() {
+        let [start, cycle] =
+            [Event::Start, Event::Cycle].map(|event| move |epoch| Record { epoch, event: event.clone() });
+        for (appended, counted) in [
+            (vec![start(2)], Some(2)),
+            (vec![cycle(1), start(2)], Some(3)),
+            (vec![start(2), cycle(1)], Some(2)),
+            (vec![start(2), start(2)], None),
+            (vec![start(2), cycle(2)], None),
+            (vec![start(3), start(2)], None),
+            (vec![], None),
+        ] {
+            let bytes: Vec<u8> = appended.iter().flat_map(Record::bytes).collect();
+            let mut records = vec![start(1)];
+            let length = join(&mut records, &bytes, 2).ok();
+            assert_eq!(length, counted.map(|_| bytes.len()), "{appended:?}");
+            if let Some(count) = counted {
+                assert_eq!(current(records).events.len(), count);
+                assert!(join(&mut vec![start(1)], &[&bytes[..], &[7]].concat(), 2).is_err());
+            }
+        }
+    }
+}
