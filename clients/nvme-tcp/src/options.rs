@@ -14,6 +14,12 @@ use std::path::PathBuf;
 /// What `--help` prints.
 pub const HELP: &str = "\
 nvmetcp [OPTIONS] CONFIG       serve the subsystem that CONFIG describes as an NVMe/TCP target
+nvmetcp [OPTIONS] VOLUME       serve a volume, which has its blocks, its state and its CONFIG
+nvmetcp format VOLUME          make a volume of a file or block device, with --config CONFIG; --size SIZE creates a
+                               larger file, --force overwrites what is there
+nvmetcp check VOLUME           report whether VOLUME would be refused
+nvmetcp dump VOLUME            print superblock, CONFIG and state of a volume
+nvmetcp copy VOLUME FILE       copy a volume that no target has; --force overwrites what is in FILE
 nvmetcp ctl SOCKET LINE        ask a running target a control line
 nvmetcp expand FILE [OUTPUT]   print the script of the recording FILE as --script would have kept it, or write it to
                                OUTPUT; with --transcript its results, with --force also if OUTPUT exists
@@ -60,9 +66,9 @@ Control lines: powercycle, hold C, held C, go C, ana C STATE, hosts, counts, met
 ?reservation N, ?attached, ?namespaces, ?blocks N SLBA COUNT, ?fetched C, ?queues C, ?registers C, ?register C OFF,
 ?window C ADDR LEN, ?help [WORD], ?line TEXT.
 Runs until SIGTERM or SIGINT: it then sends the answers that are due, syncs its files and closes its connections; a
-second signal ends it at once. Exit status: 0 ended by a signal; 1 the configuration, the keys or the recording are
-refused, the end of the recording is torn, or there is no such line; 2 a file, a socket or the system failed; 3 bad
-command line.
+second signal ends it at once. Exit status: 0 ended by a signal; 1 the configuration, the volume, the keys or the
+recording are refused, the end of the recording is torn, or there is no such line; 2 a file, a socket or the system
+failed; 3 bad command line.
 ";
 
 /// The words of a command line.

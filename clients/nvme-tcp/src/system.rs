@@ -60,23 +60,14 @@ extern "C" {
     fn signal(number: i32, action: usize) -> usize;
     fn prctl(what: i32, value: usize, _: usize, _: usize, _: usize) -> i32;
     fn geteuid() -> u32;
-    fn clock_gettime(clock: i32, time: *mut Time) -> i32;
+    fn clock_gettime(clock: i32, time: *mut [c_long; 2]) -> i32;
 }
 
-/// struct timespec.
-#[repr(C)]
-struct Time {
-    seconds: c_long,
-    nanoseconds: c_long,
-}
-
-/// The time since the machine was started, also while it sleeps: CLOCK_BOOTTIME.
+/// The time since the machine was started, also while it sleeps: CLOCK_BOOTTIME. If it is unknown, all leases have ended.
 pub fn time_since_boot() -> Duration {
-    const BOOT_TIME: i32 = 7;
-    let mut time = Time { seconds: 0, nanoseconds: 0 };
-    match unsafe { clock_gettime(BOOT_TIME, &mut time) } {
-        0 => Duration::new(time.seconds as u64, time.nanoseconds as u32),
-        // A lease has ended by then.
+    let mut time = [0; 2];
+    match unsafe { clock_gettime(7, &mut time) } {
+        0 => Duration::new(time[0] as u64, time[1] as u32),
         _ => Duration::MAX,
     }
 }

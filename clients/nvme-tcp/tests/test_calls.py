@@ -158,6 +158,50 @@ class Takeover(CallsTest):
         self.assertIn("another target has taken its folder over", (self.folder / "errors").read_text())
 
 
+class Records(CallsTest):
+    """A record of the journal is not synced for a while: the target serves, and answers nothing that came after it."""
+
+    image = BLOCKS
+
+    def environment(self) -> dict:
+        os.mkfifo(self.kept / "gate")
+        self.gate = os.open(self.kept / "gate", os.O_RDWR)
+        self.addCleanup(os.close, self.gate)
+        self.options = ["--state", str(self.kept / "state")]
+        return {"CALLS_SYNC_GATE": str(self.kept / "gate")}
+
+    def end(self) -> None:
+        os.write(self.gate, b"1" * 9)
+        super().end()
+
+    def test_the_loop_does_not_wait(self) -> None:
+        a, b = self.host(), self.host(0xb2)
+        self.assertEqual(b.write(7, b"\7" * BLOCK), 0)
+        before = len(self.told())
+        a.queues[0].send_command(0x0d, 1, struct.pack("<I", 3 << 30), struct.pack("<QQ", 0, 0xa))
+        self.wait_for(lambda: self.told()[before:] == [["syncs"]])
+        b.queues[0].send_command(0x01, 1, struct.pack("<QI", 9, 0), b"\1" * BLOCK)
+        self.assertIn('"host":"', self.target.ask("hosts").replace(" ", ""))
+        self.assertEqual(select.select([a.queues[0].socket, b.queues[0].socket], [], [], 0.5)[0], [])
+        self.assertEqual(self.told()[before:], [["syncs"]], "a write came before the record")
+        os.write(self.gate, b"1")
+        self.assertEqual([it.queues[0].completion().status for it in (a, b)], [0, 0])
+        calls = ["syncs", "synced", "writes", "wrote"]
+        self.assertEqual([words[0] for words in self.told()[before:]], calls)
+
+    def test_records_are_synced_together(self) -> None:
+        """Those that come during a sync share the next one."""
+        a, b = self.host(queues=2), self.host(0xb2)
+        before = len(self.told())
+        queues = [*a.queues, *b.queues]
+        for queue in queues:
+            queue.send_command(0x0d, 1, struct.pack("<I", 2 | 8 | 3 << 30), struct.pack("<QQ", 0, 0xa))
+            time.sleep(0.1)
+        os.write(self.gate, b"11")
+        self.assertEqual([it.completion().status for it in queues], [0] * 3)
+        self.assertEqual([words[0] for words in self.told()[before:]], ["syncs", "synced"] * 2)
+
+
 class Rooms(CallsTest):
     """A kept script, and the room on the disk that is reserved for it."""
 

@@ -5,13 +5,17 @@ import random
 import shutil
 import signal
 import struct
+import subprocess
 import threading
 import time
 import unittest
 from contextlib import closing
+from pathlib import Path
+from unittest import mock
 
 from tests.host import BLOCK, Ended, Host, Queue
-from tests.targets import BLOCKS, Target
+from tests.targets import BLOCKS, PROGRAM, Target
+from tests.test_power_cuts import cut, unsynced
 from tests.volumes import BLOCKS_AT, FENCED, VolumeTarget, VolumeTest
 
 KILLS = int(os.environ.get("NVMETCP_VOLUME_KILLS", "12"))
@@ -99,6 +103,33 @@ class Takeovers(VolumeTest):
         self.ends("has taken the volume over: it began epoch 2, this one 1")
         self.assertEqual(self.host(other).write(0, bytes(BLOCK)), 0)
 
+    def test_two_at_once(self) -> None:
+        """Targets of two machines start at once over a volume that nobody has: one of them serves."""
+        self.first.close()
+        words = [PROGRAM, "--listen", "127.0.0.1:0", str(self.volume)]
+        environments = [dict(os.environ), {**os.environ, "LD_PRELOAD": self.elsewhere()}]
+        processes = [subprocess.Popen(words, env=it, stdout=subprocess.DEVNULL, stderr=subprocess.PIPE, text=True)
+                     for it in environments]
+        time.sleep(7)
+        ended = [it for it in processes if it.poll() is not None]
+        [it.kill() for it in processes if it not in ended]
+        errors = [it.communicate(timeout=9)[1] for it in processes]
+        self.assertEqual([it.returncode for it in ended], [2], errors)
+        self.assertIn("has taken the volume over", errors[processes.index(ended[0])])
+
+    def test_read_only(self) -> None:
+        host = self.host(self.first)
+        self.assertEqual(host.write(5, b"\5" * BLOCK), 0)
+        self.first.close()
+        self.first.options = ["--read-only"]
+        self.first.start()
+        host = self.host(self.first)
+        self.assertEqual((host.write(5, bytes(BLOCK)), host.read(5, 1).data), (0x4020, b"\5" * BLOCK))
+        self.first.close()
+        self.first.options = []
+        self.first.start()
+        self.assertEqual(self.host(self.first).write(5, bytes(BLOCK)), 0)
+
     def test_a_short_stop(self) -> None:
         """A target that was stopped for less than a lease serves, and one that was stopped for longer ends."""
         host = self.host(self.first)
@@ -116,11 +147,16 @@ class Takeovers(VolumeTest):
 class Kills(VolumeTest):
     """Two hosts write, one fences the other at times, and the target is killed at any moment."""
 
+    turns, library = KILLS, ""
+
+    def fail(self, target: VolumeTarget, rng: random.Random) -> None:
+        target.kill()
+
     def test_kills(self) -> None:
         self.format()
         self.may = {}
-        target, rng = self.target(), random.Random(9)
-        for turn in range(KILLS):
+        target, rng = self.target(library=self.library), random.Random(9)
+        for turn in range(self.turns):
             a, b = Host(target.port, 0xa1), Host(target.port, 0xb2)
             self.assertEqual(b.reserve(0x0d, 2 | 8 | 3 << 30, 0, 0xb), 0)
             b.reserve(0x15, 1, 0xb)
@@ -134,7 +170,7 @@ class Kills(VolumeTest):
                 fencing.start()
                 threads.append(fencing)
             time.sleep(rng.uniform(0, 0.03))
-            target.kill()
+            self.fail(target, rng)
             [thread.join() for thread in threads]
             [queue.close() for host in (a, b) for queue in (host.admin, *host.queues)]
             self.judge()
@@ -183,6 +219,34 @@ class Kills(VolumeTest):
             found = content[BLOCK * place:BLOCK * (place + 1)]
             self.assertIn(found, pieces, "what was answered is lost, or a block is torn")
             self.may[place] = [found]
+
+
+@unittest.skipUnless(shutil.which("cc"), "there is no cc")
+class PowerCuts(Kills):
+    """The machine loses its power: of what no sync has followed, a part is lost."""
+
+    turns = max(4, KILLS // 3)
+
+    def setUp(self) -> None:
+        super().setUp()
+        library, self.log, self.lost = self.room / "unsynced.so", self.room / "unsynced", 0
+        source = Path(__file__).parent / "unsynced.c"
+        subprocess.run(["cc", "-O1", "-shared", "-fPIC", "-o", library, source, "-ldl", "-pthread"], check=True)
+        self.library = str(library)
+        named = {"UNSYNCED": str(self.log), "UNSYNCED_IMAGE": str(self.volume)}
+        patched = mock.patch.dict(os.environ, named)
+        patched.start()
+        self.addCleanup(patched.stop)
+
+    def fail(self, target: VolumeTarget, rng: random.Random) -> None:
+        target.kill()
+        self.lost += cut(self.volume, unsynced(self.log.read_bytes()), rng, rng.random() < 0.5)
+        self.log.write_bytes(b"")
+
+    def test_kills(self) -> None:
+        super().test_kills()
+        # Else nothing was tested.
+        self.assertGreater(self.lost, 0)
 
 
 del VolumeTest
