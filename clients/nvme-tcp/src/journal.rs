@@ -261,7 +261,7 @@ mod tests {
     impl Log for Gate {
         fn append(&mut self, records: &[u8]) -> io::Result<()> {
             if !self.passes.recv().unwrap_or(false) {
-                return Err(ErrorKind::StorageFull.into());
+                return Err(ErrorKind::Other.into());
             }
             self.got.send(records.to_owned()).map_err(|_| ErrorKind::BrokenPipe.into())
         }

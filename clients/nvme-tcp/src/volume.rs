@@ -22,6 +22,7 @@ use crate::record::Event;
 use crate::state::me;
 use crate::storage::options::Options;
 use crate::storage::{Disk, Image, ImageDisk};
+use crate::system::time_since_boot;
 use content::Content;
 use lease::{Lease, LEASE};
 pub use refusal::Refusal;
@@ -31,7 +32,7 @@ use std::os::unix::fs::{FileExt, FileTypeExt};
 use std::path::Path;
 use std::sync::Arc;
 use std::thread;
-use std::time::{Duration, Instant};
+use std::time::Duration;
 use superblock::{Chosen, Owner, Superblock, BLOCKS_AT, COPIES, HALF, MAGIC};
 
 /// How long an owner that has ended in order is waited for: another target may have read that at the same time.
@@ -100,7 +101,7 @@ impl Volume {
     /// Makes this target the owner: raises the epoch, waits until the last owner's lease has ended, and reads the
     /// journal.
     pub fn take(&mut self) -> Result<Owned, Refusal> {
-        let begun = Instant::now();
+        let begun = time_since_boot();
         let Chosen { superblock: before, are_whole } = superblock::read(&self.file)?;
         if before.configuration != self.chosen.superblock.configuration {
             return Err(Refusal::Taken("format".to_owned()));
@@ -138,10 +139,10 @@ impl Volume {
 
     /// Waits until the last owner serves no more. A process of this machine has ended, since its lock has. An owner that
     /// has begun at the same time, without seeing this one, is seen after the wait.
-    fn wait_out(&self, before: &Superblock, me: &Owner, begun: Instant) {
+    fn wait_out(&self, before: &Superblock, me: &Owner, begun: Duration) {
         let ended = |it: &Owner| it.boot == me.boot && it.place == me.place;
         let is_ended = before.owner.as_ref().map_or(true, ended);
-        if is_ended && begun.elapsed() < SETTLING {
+        if is_ended && time_since_boot().saturating_sub(begun) < SETTLING {
             return thread::sleep(SETTLING);
         }
         let lease = before.lease.max(LEASE);
@@ -218,6 +219,7 @@ mod tests {
     use crate::controller::Data;
     use crate::nvme::{ENTRY, RESERVATION_REGISTER};
     use std::path::PathBuf;
+    use std::time::Instant;
 
     const CONFIG: &[u8] = b"controller 1 host 0xa1\nnamespace 1 blocks 64 shared\nattached 1 1\n";
 
@@ -278,7 +280,27 @@ mod tests {
         assert_eq!((content.chosen.superblock.owner, content.chosen.are_whole), (None, [true; 2]));
         drop(volume);
         let Owned { journal, .. } = opened(&path).unwrap().take().unwrap();
-        assert_eq!((journal.epoch, kept(&path).1), (2, checkpoint));
+        let after = kept(&path);
+        assert_eq!((journal.epoch, after.1), (2, checkpoint));
+        // One segment is left out, in which the last owner may write.
+        let (place, segment) = (content.kept.place, content.kept.segment);
+        assert_eq!((after.0.kept.place, after.0.kept.segment), ((place + 2) % area::SEGMENTS, segment + 1));
+        drop(journal);
+        fs::remove_file(path).unwrap();
+    }
+
+    #[test]
+    fn a_journal_that_is_newer_than_its_superblock_is_refused() {
+        let path = made("newer");
+        let mut volume = opened(&path).unwrap();
+        let Owned { journal, .. } = volume.take().unwrap();
+        journal.end().unwrap().close().unwrap();
+        let chosen = kept(&path).0.chosen;
+        let older = Superblock { epoch: 0, revision: chosen.superblock.revision + 1, ..chosen.superblock };
+        superblock::write(&volume.file, &older, [true; 2]).unwrap();
+        drop(volume);
+        let text = opened(&path).err().map(|it| it.to_string()).unwrap_or_default();
+        assert!(text.starts_with("its journal: it is of epoch 1, and the superblock of 0"), "{text}");
         fs::remove_file(path).unwrap();
     }
 

@@ -185,15 +185,14 @@ class Kills(VolumeTest):
             time.sleep(0.005)
 
     def preempts(self, port: int, cntlid: int) -> None:
-        queue = Queue(port)
         try:
-            if queue.connect(2, 0xb2, cntlid).status == 0:
-                self.asked = True
-                status = queue.call(0x11, 1, struct.pack("<I", 1 | 3 << 8), struct.pack("<QQ", 0xb, 0xa)).status
-                self.fenced = status == 0
+            with closing(Queue(port)) as queue:
+                if queue.connect(2, 0xb2, cntlid).status == 0:
+                    self.asked = True
+                    status = queue.call(0x11, 1, struct.pack("<I", 1 | 3 << 8), struct.pack("<QQ", 0xb, 0xa)).status
+                    self.fenced = status == 0
         except (Ended, OSError):
             pass
-        queue.close()
 
     def writes(self, which: int, host: Host, turn: int) -> None:
         rng = random.Random(turn * 2 + which)

@@ -90,6 +90,18 @@ class Serves(VolumeTest):
         self.assertEqual([self.host(again).read(0, 1).status, self.host(again, 0xb2).write(0, bytes(BLOCK))],
                          [0x4002, 0x4020])
 
+    def test_what_does_not_persist_is_gone(self) -> None:
+        """A start is a power cycle: registrants without PTPL are gone, and so is a protection until then."""
+        target = self.target()
+        a = self.host(target)
+        self.assertEqual([a.register(0, 0xa, persist=2), a.acquire(0xa)], [0, 0])
+        self.assertEqual(a.admin.call(0x09, 1, struct.pack("<II", 0x84, 2)).status, 0)
+        self.assertEqual([a.write(0, bytes(BLOCK)), self.host(target, 0xb2).write(0, bytes(BLOCK))], [0x4020, FENCED])
+        target.kill()
+        target.start()
+        self.assertEqual(self.host(target, 0xb2).write(0, bytes(BLOCK)), 0)
+        self.assertIn("none, generation 0, ends", self.passes("dump", self.volume))
+
     def test_a_lock(self) -> None:
         target = self.target()
         self.refused(f"process {target.process.pid} (nvmetcp) has it locked", self.volume, status=2)

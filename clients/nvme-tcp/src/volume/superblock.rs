@@ -193,8 +193,16 @@ pub fn read(file: &File) -> Result<Chosen, Refusal> {
 /// Writes a superblock, one copy after the other: first one that is not whole.
 pub fn write(file: &File, superblock: &Superblock, are_whole: [bool; 2]) -> io::Result<()> {
     let page = superblock.page()?;
-    let order = if are_whole[0] { [COPIES[1], COPIES[0]] } else { COPIES };
-    order.into_iter().try_for_each(|place| write_page(file, place, &page))
+    order(are_whole).into_iter().try_for_each(|place| write_page(file, place, &page))
+}
+
+/// The places of the copies in the order in which they are written: a copy that alone is whole comes last.
+fn order(are_whole: [bool; 2]) -> [u64; 2] {
+    if are_whole[0] {
+        [COPIES[1], COPIES[0]]
+    } else {
+        COPIES
+    }
 }
 
 /// Has a volume refused as half a volume until its superblock is written.
@@ -235,6 +243,12 @@ mod tests {
         assert_eq!(superblock(1).blocks(), 4096);
         let long = Superblock { configuration: "#".repeat(PAGE - CONFIGURATION_AT + 1), ..superblock(1) };
         assert!(long.page().is_err());
+    }
+
+    #[test]
+    fn the_only_whole_copy_is_written_last() {
+        assert_eq!(order([true, false]), [COPIES[1], COPIES[0]]);
+        assert_eq!(order([false, true]), COPIES);
     }
 
     #[test]
