@@ -41,6 +41,7 @@ class Takeovers(VolumeTest):
     def ends(self, text: str) -> None:
         self.assertEqual(self.first.process.wait(3), 2)
         self.assertIn(text, self.errors(self.first))
+        self.first.close()
 
     def test_the_first_ends_without_an_answer(self) -> None:
         """Whatever hosts have asked: a write, a read, or a command that the journal takes."""
