@@ -201,15 +201,19 @@ class Writes(FaultTest):
         for fault, kind in ((errno.EIO, WRITE), (errno.EIO, SYNC)):
             history = History(dict(enumerate(self.numbers_now())))
             self.faults.fail(kind, 10, fault)
-            players = play(self.target.port, history, [PLACES], 6, lambda _: time.sleep(0.5),
+            players = play(self.target.port, history, [PLACES], 6, lambda _: self.wait_for_fault(kind),
                            may_be=(WRITE_FAULT, UNRECOVERED_READ))
-            self.assertGreater(self.faults.get(kind, "faults"), 0)
             self.assertGreater(sum(it.statuses.get(WRITE_FAULT, 0) for it in players), 0)
             judge(history, players)
             self.again()
             written = history.without_reads()
             written.add_numbers(0, self.numbers_now(), time.monotonic_ns())
             written.check()
+
+    def wait_for_fault(self, kind: int) -> None:
+        """Waits for the first fault, and a while longer."""
+        self.wait_for(lambda: self.faults.get(kind, "faults") > 0, 30)
+        time.sleep(0.5)
 
     def numbers_now(self) -> List[int]:
         host = self.host()
