@@ -28,7 +28,7 @@ static const char *address;
 static void leave(int status)
 {
     if (port.memory) {
-        port_play(&port);
+        port_perform(&port);
         port_shutdown(&port);
         port_reset(&port);
     }
@@ -47,17 +47,17 @@ static void fail(const char *what, const char *reason)
 static void finish(const char *what, struct nvmehost_placed placed)
 {
     char status[80];
-    struct nvmehost_got got = port_answer(&port, placed, TIMEOUT_MS);
-    if (got.what == NVMEHOST_NOTHING)
+    struct nvmehost_outcome outcome = port_answer(&port, placed, TIMEOUT_MS);
+    if (outcome.code == NVMEHOST_NOTHING)
         fail(what, "no answer in 30 seconds");
-    if (got.what != NVMEHOST_DONE)
-        fail(what, port_name(got.what));
-    if (got.sct == 2 && got.sc == 0x85) {
+    if (outcome.code != NVMEHOST_DONE)
+        fail(what, port_name(outcome.code));
+    if (outcome.sct == 2 && outcome.sc == 0x85) {
         fprintf(stderr, "nvmehost: %s: %s: the blocks differ\n", address, what);
         leave(DIFFERENT);
     }
-    if (got.sct != 0 || got.sc != 0) {
-        snprintf(status, sizeof status, "the controller answered status %x:%02x", got.sct, got.sc);
+    if (outcome.sct != 0 || outcome.sc != 0) {
+        snprintf(status, sizeof status, "the controller answered status %x:%02x", outcome.sct, outcome.sc);
         fail(what, status);
     }
 }
@@ -69,7 +69,7 @@ static void ask(uint32_t nsid)
 
 static void begin(void)
 {
-    struct nvmehost_got got;
+    struct nvmehost_outcome outcome;
     char text[120];
     port.buffer = malloc(NVMEHOST_BUFFER), port.copy = malloc(NVMEHOST_BUFFER);
     if (!port.buffer || !port.copy || nvmehost_open(&port.host, 1) != NVMEHOST_OK)
@@ -78,9 +78,9 @@ static void begin(void)
         fprintf(stderr, "nvmehost: %s\n", vfio.fault);
         exit(FAILED);
     }
-    uint32_t what = port_start(&port, &got);
+    uint32_t what = port_start(&port, &outcome);
     if (what == NVMEHOST_REFUSED) {
-        snprintf(text, sizeof text, "%s, status %x:%02x", port_name(what), got.sct, got.sc);
+        snprintf(text, sizeof text, "%s, status %x:%02x", port_name(what), outcome.sct, outcome.sc);
         fail("bring-up", text);
     }
     if (what != NVMEHOST_OK)
@@ -105,16 +105,16 @@ static void identify(void)
     print_text("model", port.buffer + 24, 40);
     print_text("serial", port.buffer + 4, 20);
     print_text("firmware", port.buffer + 64, 8);
-    if (c.what != NVMEHOST_OK)
-        fail("", port_name(c.what));
+    if (c.code != NVMEHOST_OK)
+        fail("", port_name(c.code));
     printf("cntlid %u\nnn %u\nmdts %u\noncs %04x\nvwc %u\n", c.cntlid, c.nn, c.mdts, c.oncs, c.vwc & 1u);
     for (uint32_t nsid = 1; nsid <= c.nn && nsid <= NVMEHOST_HIGHEST_NSID; nsid++) {
         ask(nsid);
         struct nvmehost_namespace n = nvmehost_namespace(&port.host, nsid);
-        if (n.what == NVMEHOST_OK)
+        if (n.code == NVMEHOST_OK)
             printf("namespace %u: %llu blocks of 512 bytes\n", nsid, (unsigned long long)n.blocks);
-        else if (n.what != NVMEHOST_NOT_THERE)
-            printf("namespace %u: not used: %s\n", nsid, port_name(n.what));
+        else if (n.code != NVMEHOST_NOT_THERE)
+            printf("namespace %u: not used: %s\n", nsid, port_name(n.code));
     }
 }
 

@@ -1,7 +1,8 @@
 /* libnvmehost: the proved driver of an NVMe host, for controllers of any maker.
  *
- * The library accesses no device. A call notes its acts: bytes to store in the memory that the controller reaches, and
- * registers to write. The program takes them with nvmehost_acts and plays them in order, before the next call. What
+ * The library accesses no device. A call records its actions: bytes to store in the memory that the controller reaches,
+ * and registers to write. The program takes them with nvmehost_actions and performs them in order, before the next
+ * call. What
  * the controller writes, the program copies into the driver's own window before a poll. port.h does both.
  *
  * Addresses are those of the window: 4 MiB from address 0, which the program maps for the controller and for nothing
@@ -24,14 +25,14 @@ enum {
     NVMEHOST_DONE = 1,                  /* the controller answered a request, with this status */
     NVMEHOST_ABORTED = 2,               /* a reset aborted a request, which may have been executed */
     NVMEHOST_NOTHING = 3,               /* there is no new answer */
-    NVMEHOST_WANTS_STATUS = 4,          /* bring-up: play, wait with nvmehost_status, call again */
-    NVMEHOST_WANTS_TURN = 5,            /* bring-up: play, report with nvmehost_turn, call again */
+    NVMEHOST_NEEDS_STATUS = 4,          /* bring-up: perform, wait with nvmehost_status, call again */
+    NVMEHOST_NEEDS_COMPLETION = 5,      /* bring-up: perform, nvmehost_report_completion, call again */
     NVMEHOST_WAITS = 6,                 /* the status is not the awaited one yet */
 
     NVMEHOST_CLOSED = 16,
     NVMEHOST_ALREADY_OPEN = 17,
     NVMEHOST_NO_MEMORY = 18,
-    NVMEHOST_PLAY_FIRST = 19,           /* acts of an earlier call were not taken */
+    NVMEHOST_ACTIONS_PENDING = 19,      /* actions of an earlier call were not taken */
     NVMEHOST_NOT_JUDGED = 20,           /* nvmehost_capabilities has to succeed first */
     NVMEHOST_NOT_DISABLED = 21,         /* the controller was not seen disabled: nvmehost_reset, nvmehost_status */
     NVMEHOST_ALREADY_UP = 22,
@@ -73,14 +74,14 @@ enum {
     NVMEHOST_HIGHEST_NSID = 64
 };
 
-/* Acts. */
+/* Actions. */
 enum {
     NVMEHOST_STORE = 1,                 /* store len bytes at address at: nvmehost_load has them */
     NVMEHOST_WRITE = 2                  /* write value to the register at offset at */
 };
 
-/* The most acts of a call, the length of the window, and the shortest buffer of a poll. */
-#define NVMEHOST_ACTS 32
+/* The most actions of a call, the length of the window, and the shortest buffer of a poll. */
+#define NVMEHOST_ACTIONS 32
 #define NVMEHOST_WINDOW 4194304
 #define NVMEHOST_BUFFER 131072
 
@@ -90,43 +91,43 @@ struct nvmehost {
 };
 #define NVMEHOST_NONE { NULL, false }
 
-struct nvmehost_act {
+struct nvmehost_action {
     uint64_t at, len;
-    uint32_t value, what;
+    uint32_t value, kind;
 };
 /* An answer: its ticket, len bytes of data at the front of the buffer, and the completion's status. */
-struct nvmehost_got {
+struct nvmehost_outcome {
     uint64_t ticket, len;
-    uint32_t dw0, what;
+    uint32_t dw0, code;
     uint8_t sct, sc;
 };
 struct nvmehost_placed {
     uint64_t ticket;
-    uint32_t what;
+    uint32_t code;
 };
 /* CAP: the longest time of an enable or a reset, and the distance of two doorbells in bytes; there are four. */
 struct nvmehost_limits {
-    uint32_t timeout_ms, stride, what;
+    uint32_t timeout_ms, stride, code;
 };
 /* The place of the next completion of a queue, and its phase tag, bit 16 of its last double word. */
-struct nvmehost_next {
+struct nvmehost_next_completion {
     uint64_t at;
-    uint32_t phase, what;
+    uint32_t phase, code;
 };
 /* The data of a completion: len bytes at address at. */
-struct nvmehost_data {
+struct nvmehost_completion_data {
     uint64_t at, len;
-    uint32_t what;
+    uint32_t code;
 };
 /* A command transfers at most 2 to the power of mdts pages of 4 KiB; mdts 0 is no limit. */
 struct nvmehost_controller {
-    uint32_t nn, what;
+    uint32_t nn, code;
     uint16_t cntlid, oncs;
     uint8_t mdts, vwc;
 };
 struct nvmehost_namespace {
     uint64_t blocks;
-    uint32_t what;
+    uint32_t code;
 };
 
 /* A life: open, capabilities, reset, status until it is OK, bring_up, ask 0 and each namespace; then requests. After a
@@ -137,8 +138,8 @@ void nvmehost_close(struct nvmehost *host);
 struct nvmehost_limits nvmehost_capabilities(struct nvmehost *host, uint64_t cap);
 uint32_t nvmehost_reset(struct nvmehost *host);
 uint32_t nvmehost_status(struct nvmehost *host, uint32_t csts, uint64_t elapsed_ms);
-struct nvmehost_got nvmehost_bring_up(struct nvmehost *host);
-uint32_t nvmehost_turn(struct nvmehost *host, const uint8_t entry[16]);
+struct nvmehost_outcome nvmehost_bring_up(struct nvmehost *host);
+uint32_t nvmehost_report_completion(struct nvmehost *host, const uint8_t entry[16]);
 uint32_t nvmehost_shutdown(struct nvmehost *host);
 
 /* Requests are placed, and sent by the next ring. The answer has the same ticket, which is never 0 if the first one
@@ -153,18 +154,19 @@ struct nvmehost_placed nvmehost_compare(struct nvmehost *host, uint32_t nsid, ui
 struct nvmehost_placed nvmehost_write_zeroes(struct nvmehost *host, uint32_t nsid, uint64_t slba, uint32_t blocks);
 struct nvmehost_placed nvmehost_flush(struct nvmehost *host, uint32_t nsid);
 uint32_t nvmehost_ring(struct nvmehost *host);
-struct nvmehost_got nvmehost_poll(struct nvmehost *host, uint8_t *buffer, size_t len);
+struct nvmehost_outcome nvmehost_poll(struct nvmehost *host, uint8_t *buffer, size_t len);
 
 /* What the device answered to the last question. */
 struct nvmehost_controller nvmehost_controller(struct nvmehost *host);
 struct nvmehost_namespace nvmehost_namespace(struct nvmehost *host, uint32_t nsid);
 
 /* Between the driver and the memory of the device. Queue 0 is the admin queue, queue 1 the I/O queue. */
-size_t nvmehost_acts(struct nvmehost *host, struct nvmehost_act *acts, size_t room);
+size_t nvmehost_actions(struct nvmehost *host, struct nvmehost_action *actions, size_t room);
 uint32_t nvmehost_load(struct nvmehost *host, uint64_t address, uint8_t *bytes, size_t len);
-struct nvmehost_next nvmehost_next(struct nvmehost *host, uint32_t queue);
-struct nvmehost_data nvmehost_sees(struct nvmehost *host, uint32_t queue, const uint8_t entry[16]);
-uint32_t nvmehost_takes(struct nvmehost *host, uint64_t address, const uint8_t *bytes, size_t len);
+struct nvmehost_next_completion nvmehost_next_completion(struct nvmehost *host, uint32_t queue);
+struct nvmehost_completion_data nvmehost_store_completion(struct nvmehost *host, uint32_t queue,
+                                                          const uint8_t entry[16]);
+uint32_t nvmehost_store_data(struct nvmehost *host, uint64_t address, const uint8_t *bytes, size_t len);
 
 #ifdef __cplusplus
 }

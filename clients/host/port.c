@@ -57,15 +57,15 @@ static void store(struct port *p, uint64_t at, size_t len)
         put(p->memory + at, p->copy, len);
 }
 
-void port_play(struct port *p)
+void port_perform(struct port *p)
 {
-    struct nvmehost_act acts[NVMEHOST_ACTS];
-    size_t count = nvmehost_acts(&p->host, acts, NVMEHOST_ACTS);
+    struct nvmehost_action actions[NVMEHOST_ACTIONS];
+    size_t count = nvmehost_actions(&p->host, actions, NVMEHOST_ACTIONS);
     for (size_t i = 0; i < count; i++) {
-        if (acts[i].what == NVMEHOST_WRITE)
-            write32(p, acts[i].at, acts[i].value);
+        if (actions[i].kind == NVMEHOST_WRITE)
+            write32(p, actions[i].at, actions[i].value);
         else
-            store(p, acts[i].at, acts[i].len);
+            store(p, actions[i].at, actions[i].len);
     }
 }
 
@@ -82,31 +82,31 @@ static uint32_t wait_for_status(struct port *p)
 /* Copies the next completion of a queue, if it is new. */
 static bool see(struct port *p, uint32_t queue, uint32_t entry[4])
 {
-    struct nvmehost_next next = nvmehost_next(&p->host, queue);
-    return next.what == NVMEHOST_OK
+    struct nvmehost_next_completion next = nvmehost_next_completion(&p->host, queue);
+    return next.code == NVMEHOST_OK
         && take_snapshot((const volatile uint32_t *)(p->memory + next.at), next.phase, entry);
 }
 
-struct nvmehost_got port_poll(struct port *p)
+struct nvmehost_outcome port_poll(struct port *p)
 {
     uint32_t entry[4];
     for (uint32_t queue = 0; queue < QUEUES; queue++) {
         if (!see(p, queue, entry))
             continue;
-        struct nvmehost_data data = nvmehost_sees(&p->host, queue, (const uint8_t *)entry);
-        if (data.what == NVMEHOST_OK && data.len != 0) {
+        struct nvmehost_completion_data data = nvmehost_store_completion(&p->host, queue, (const uint8_t *)entry);
+        if (data.code == NVMEHOST_OK && data.len != 0) {
             fetch(p->copy, p->memory + data.at, data.len);
-            nvmehost_takes(&p->host, data.at, p->copy, data.len);
+            nvmehost_store_data(&p->host, data.at, p->copy, data.len);
         }
         break;
     }
-    struct nvmehost_got got = nvmehost_poll(&p->host, p->buffer, NVMEHOST_BUFFER);
-    port_play(p);
-    return got;
+    struct nvmehost_outcome outcome = nvmehost_poll(&p->host, p->buffer, NVMEHOST_BUFFER);
+    port_perform(p);
+    return outcome;
 }
 
 /* Waits for the next completion of the admin queue, and reports it; zeros if none came in time. */
-static void report_turn(struct port *p, uint32_t timeout_ms)
+static void report_completion(struct port *p, uint32_t timeout_ms)
 {
     uint64_t begun = now_ms();
     uint32_t entry[4];
@@ -115,7 +115,7 @@ static void report_turn(struct port *p, uint32_t timeout_ms)
         give_turn(p);
     if (!is_new)
         memset(entry, 0, ENTRY);
-    nvmehost_turn(&p->host, (const uint8_t *)entry);
+    nvmehost_report_completion(&p->host, (const uint8_t *)entry);
 }
 
 uint32_t port_reset(struct port *p)
@@ -123,7 +123,7 @@ uint32_t port_reset(struct port *p)
     uint32_t what = nvmehost_reset(&p->host);
     if (what != NVMEHOST_OK)
         return what;
-    port_play(p);
+    port_perform(p);
     return wait_for_status(p);
 }
 
@@ -132,33 +132,33 @@ uint32_t port_shutdown(struct port *p)
     uint32_t what = nvmehost_shutdown(&p->host);
     if (what != NVMEHOST_OK)
         return what;
-    port_play(p);
+    port_perform(p);
     return wait_for_status(p);
 }
 
-uint32_t port_start(struct port *p, struct nvmehost_got *got)
+uint32_t port_start(struct port *p, struct nvmehost_outcome *outcome)
 {
     uint64_t cap = port_read32(p, CAP) | (uint64_t)port_read32(p, CAP + 4) << 32;
     struct nvmehost_limits limits = nvmehost_capabilities(&p->host, cap);
-    memset(got, 0, sizeof *got);
-    if (limits.what != NVMEHOST_OK)
-        return limits.what;
+    memset(outcome, 0, sizeof *outcome);
+    if (limits.code != NVMEHOST_OK)
+        return limits.code;
     if (DOORBELLS + 4 * (size_t)limits.stride > p->registers_len)
         return NVMEHOST_OUTSIDE;
     uint32_t what = port_reset(p);
     if (what != NVMEHOST_OK)
         return what;
     for (;;) {
-        *got = nvmehost_bring_up(&p->host);
-        port_play(p);
-        if (got->what == NVMEHOST_WANTS_TURN) {
-            report_turn(p, limits.timeout_ms);
-        } else if (got->what == NVMEHOST_WANTS_STATUS) {
+        *outcome = nvmehost_bring_up(&p->host);
+        port_perform(p);
+        if (outcome->code == NVMEHOST_NEEDS_COMPLETION) {
+            report_completion(p, limits.timeout_ms);
+        } else if (outcome->code == NVMEHOST_NEEDS_STATUS) {
             what = wait_for_status(p);
             if (what != NVMEHOST_OK)
                 return what;
         } else {
-            return got->what;
+            return outcome->code;
         }
     }
 }
@@ -166,31 +166,34 @@ uint32_t port_start(struct port *p, struct nvmehost_got *got)
 void port_ring(struct port *p)
 {
     nvmehost_ring(&p->host);
-    port_play(p);
+    port_perform(p);
 }
 
-struct nvmehost_got port_answer(struct port *p, struct nvmehost_placed placed, unsigned timeout_ms)
+struct nvmehost_outcome port_answer(struct port *p, struct nvmehost_placed placed, unsigned timeout_ms)
 {
-    struct nvmehost_got got = { 0, 0, 0, placed.what, 0, 0 };
+    struct nvmehost_outcome outcome = { 0, 0, 0, placed.code, 0, 0 };
     uint64_t begun = now_ms();
-    if (placed.what != NVMEHOST_OK)
-        return got;
-    port_play(p);
+    if (placed.code != NVMEHOST_OK)
+        return outcome;
+    port_perform(p);
     port_ring(p);
     do {
-        got = port_poll(p);
-        if (got.what == NVMEHOST_NOTHING)
+        outcome = port_poll(p);
+        if (outcome.code == NVMEHOST_NOTHING)
             give_turn(p);
-    } while ((got.what == NVMEHOST_NOTHING && now_ms() - begun < timeout_ms)
-             || ((got.what == NVMEHOST_DONE || got.what == NVMEHOST_ABORTED) && got.ticket != placed.ticket));
-    return got;
+    } while ((outcome.code == NVMEHOST_NOTHING && now_ms() - begun < timeout_ms)
+             || ((outcome.code == NVMEHOST_DONE || outcome.code == NVMEHOST_ABORTED)
+                 && outcome.ticket != placed.ticket));
+    return outcome;
 }
 
 const char *port_name(uint32_t what)
 {
-    static const char *const low[] = { "ok", "done", "aborted", "nothing", "wants the status", "wants a turn", "waits" };
+    static const char *const low[] = {
+        "ok", "done", "aborted", "nothing", "needs the status", "needs a completion", "waits"
+    };
     static const char *const middle[] = {
-        "no driver is open", "a driver is open already", "no memory", "acts were not played",
+        "no driver is open", "a driver is open already", "no memory", "actions are pending",
         "the capabilities were not judged", "the controller was not seen disabled", "the driver is up, or has failed",
         "the controller is not ready", "the controller did not answer", "the controller refused a queue",
         "the driver is not up", "no command can express the request", "all slots wait", "the queue is full",

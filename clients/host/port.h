@@ -1,5 +1,5 @@
-/* Plays the acts of libnvmehost on the memory and the registers of a device, and copies what the device writes. This
- * file and port.c access the memory that the device writes at any moment; nothing else does. */
+/* Performs the actions of libnvmehost on the memory and the registers of a device, and copies what the device writes.
+ * This file and port.c access the memory that the device writes at any moment; nothing else does. */
 #ifndef NVMEHOST_PORT_H
 #define NVMEHOST_PORT_H
 
@@ -17,18 +17,18 @@ struct port {
 };
 
 /* Judges the capabilities, resets the controller and brings it up: NVMEHOST_OK, or the fault. */
-uint32_t port_start(struct port *p, struct nvmehost_got *got);
+uint32_t port_start(struct port *p, struct nvmehost_outcome *outcome);
 /* Resets the controller, and waits until it is disabled: NVMEHOST_OK, or the fault, after which the device may still
  * write to its memory. */
 uint32_t port_reset(struct port *p);
 /* Shuts the controller down, and waits until it is. */
 uint32_t port_shutdown(struct port *p);
-void port_play(struct port *p);
+void port_perform(struct port *p);
 void port_ring(struct port *p);
 /* Delivers the next answer, if there is one: looks at both queues once. */
-struct nvmehost_got port_poll(struct port *p);
-/* Plays and rings a placed request, and waits for its answer; others are delivered to nobody. */
-struct nvmehost_got port_answer(struct port *p, struct nvmehost_placed placed, unsigned timeout_ms);
+struct nvmehost_outcome port_poll(struct port *p);
+/* Sends a placed request, and waits for its answer; others are delivered to nobody. */
+struct nvmehost_outcome port_answer(struct port *p, struct nvmehost_placed placed, unsigned timeout_ms);
 uint32_t port_read32(struct port *p, uint64_t offset);
 /* The name of a result, for messages. */
 const char *port_name(uint32_t what);

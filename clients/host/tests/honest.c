@@ -34,19 +34,19 @@ static void begin(void)
 
 static uint32_t start(void)
 {
-    struct nvmehost_got got;
+    struct nvmehost_outcome outcome;
     device_turn(&device);
-    return port_start(&p, &got);
+    return port_start(&p, &outcome);
 }
 
-static struct nvmehost_got answer(struct nvmehost_placed placed)
+static struct nvmehost_outcome answer(struct nvmehost_placed placed)
 {
     return port_answer(&p, placed, 1000);
 }
 
 static uint32_t ask(uint32_t nsid)
 {
-    return answer(nvmehost_ask(&p.host, nsid)).what;
+    return answer(nvmehost_ask(&p.host, nsid)).code;
 }
 
 static void transfers(void)
@@ -58,48 +58,48 @@ static void transfers(void)
     for (size_t i = 0; i < sizeof lengths / sizeof *lengths; i++) {
         uint32_t len = lengths[i];
         memset(device.blocks, 0, sizeof device.blocks);
-        struct nvmehost_got got = answer(nvmehost_write(&p.host, 1, 100, bytes, len));
-        EXPECT(got.what == NVMEHOST_DONE && got.sct == 0 && got.sc == 0);
+        struct nvmehost_outcome outcome = answer(nvmehost_write(&p.host, 1, 100, bytes, len));
+        EXPECT(outcome.code == NVMEHOST_DONE && outcome.sct == 0 && outcome.sc == 0);
         EXPECT(memcmp(device.blocks + 51200, bytes, len) == 0 && device.blocks[51200 + len] == 0);
-        got = answer(nvmehost_read(&p.host, 1, 100, len / 512));
-        EXPECT(got.what == NVMEHOST_DONE && got.len == len && memcmp(p.buffer, bytes, len) == 0);
-        got = answer(nvmehost_compare(&p.host, 1, 100, bytes, len));
-        EXPECT(got.what == NVMEHOST_DONE && got.sct == 0 && got.sc == 0);
+        outcome = answer(nvmehost_read(&p.host, 1, 100, len / 512));
+        EXPECT(outcome.code == NVMEHOST_DONE && outcome.len == len && memcmp(p.buffer, bytes, len) == 0);
+        outcome = answer(nvmehost_compare(&p.host, 1, 100, bytes, len));
+        EXPECT(outcome.code == NVMEHOST_DONE && outcome.sct == 0 && outcome.sc == 0);
     }
-    struct nvmehost_got got = answer(nvmehost_compare(&p.host, 1, 100, other, 512));
-    EXPECT(got.what == NVMEHOST_DONE && got.sct == 2 && got.sc == 0x85);
-    got = answer(nvmehost_write_zeroes(&p.host, 1, 101, 2));
-    EXPECT(got.what == NVMEHOST_DONE && got.sc == 0 && memcmp(device.blocks + 51200, bytes, 512) == 0);
+    struct nvmehost_outcome outcome = answer(nvmehost_compare(&p.host, 1, 100, other, 512));
+    EXPECT(outcome.code == NVMEHOST_DONE && outcome.sct == 2 && outcome.sc == 0x85);
+    outcome = answer(nvmehost_write_zeroes(&p.host, 1, 101, 2));
+    EXPECT(outcome.code == NVMEHOST_DONE && outcome.sc == 0 && memcmp(device.blocks + 51200, bytes, 512) == 0);
     EXPECT(memcmp(device.blocks + 51712, other, 512) == 0);
-    got = answer(nvmehost_flush(&p.host, 1));
-    EXPECT(got.what == NVMEHOST_DONE && got.sc == 0);
-    got = answer(nvmehost_identify(&p.host, 1, 0));
-    EXPECT(got.what == NVMEHOST_DONE && got.len == 4096 && p.buffer[4] == 'T');
+    outcome = answer(nvmehost_flush(&p.host, 1));
+    EXPECT(outcome.code == NVMEHOST_DONE && outcome.sc == 0);
+    outcome = answer(nvmehost_identify(&p.host, 1, 0));
+    EXPECT(outcome.code == NVMEHOST_DONE && outcome.len == 4096 && p.buffer[4] == 'T');
 }
 
 static void refusals(void)
 {
     static uint8_t bytes[1024];
-    EXPECT_IS(nvmehost_read(&p.host, 1, DEVICE_BLOCKS - 1, 2).what, NVMEHOST_PAST_THE_END);
-    EXPECT_IS(nvmehost_read(&p.host, 1, UINT64_MAX, 2).what, NVMEHOST_PAST_THE_END);
-    EXPECT_IS(nvmehost_read(&p.host, 2, 0, 1).what, NVMEHOST_NAMESPACE_NOT_ASKED);
-    EXPECT_IS(nvmehost_read(&p.host, 1, 0, 0).what, NVMEHOST_BAD_REQUEST);
-    EXPECT_IS(nvmehost_write(&p.host, 1, 0, bytes, 1000).what, NVMEHOST_BAD_REQUEST);
-    EXPECT_IS(nvmehost_ask(&p.host, 65).what, NVMEHOST_NSID_TOO_HIGH);
+    EXPECT_IS(nvmehost_read(&p.host, 1, DEVICE_BLOCKS - 1, 2).code, NVMEHOST_PAST_THE_END);
+    EXPECT_IS(nvmehost_read(&p.host, 1, UINT64_MAX, 2).code, NVMEHOST_PAST_THE_END);
+    EXPECT_IS(nvmehost_read(&p.host, 2, 0, 1).code, NVMEHOST_NAMESPACE_NOT_ASKED);
+    EXPECT_IS(nvmehost_read(&p.host, 1, 0, 0).code, NVMEHOST_BAD_REQUEST);
+    EXPECT_IS(nvmehost_write(&p.host, 1, 0, bytes, 1000).code, NVMEHOST_BAD_REQUEST);
+    EXPECT_IS(nvmehost_ask(&p.host, 65).code, NVMEHOST_NSID_TOO_HIGH);
     EXPECT_IS(ask(2), NVMEHOST_DONE);
-    EXPECT_IS(nvmehost_namespace(&p.host, 2).what, NVMEHOST_NOT_THERE);
-    EXPECT_IS(nvmehost_read(&p.host, 2, 0, 1).what, NVMEHOST_NOT_THERE);
-    /* A poll and a ring that have to wait for the acts of a placing. */
-    EXPECT_IS(nvmehost_read(&p.host, 1, 0, 1).what, NVMEHOST_OK);
-    EXPECT_IS(nvmehost_ring(&p.host), NVMEHOST_PLAY_FIRST);
-    EXPECT_IS(nvmehost_poll(&p.host, p.buffer, NVMEHOST_BUFFER).what, NVMEHOST_PLAY_FIRST);
-    EXPECT_IS(nvmehost_poll(&p.host, p.buffer, NVMEHOST_BUFFER - 1).what, NVMEHOST_OUTSIDE);
-    EXPECT_IS(nvmehost_reset(&p.host), NVMEHOST_PLAY_FIRST);
-    port_play(&p);
+    EXPECT_IS(nvmehost_namespace(&p.host, 2).code, NVMEHOST_NOT_THERE);
+    EXPECT_IS(nvmehost_read(&p.host, 2, 0, 1).code, NVMEHOST_NOT_THERE);
+    /* A poll and a ring that have to wait for the actions of a placing. */
+    EXPECT_IS(nvmehost_read(&p.host, 1, 0, 1).code, NVMEHOST_OK);
+    EXPECT_IS(nvmehost_ring(&p.host), NVMEHOST_ACTIONS_PENDING);
+    EXPECT_IS(nvmehost_poll(&p.host, p.buffer, NVMEHOST_BUFFER).code, NVMEHOST_ACTIONS_PENDING);
+    EXPECT_IS(nvmehost_poll(&p.host, p.buffer, NVMEHOST_BUFFER - 1).code, NVMEHOST_OUTSIDE);
+    EXPECT_IS(nvmehost_reset(&p.host), NVMEHOST_ACTIONS_PENDING);
+    port_perform(&p);
     port_ring(&p);
     device_turn(&device);
-    EXPECT_IS(port_poll(&p).what, NVMEHOST_DONE);
-    EXPECT_IS(port_poll(&p).what, NVMEHOST_NOTHING);
+    EXPECT_IS(port_poll(&p).code, NVMEHOST_DONE);
+    EXPECT_IS(port_poll(&p).code, NVMEHOST_NOTHING);
 }
 
 /* All that waits is aborted by a reset, and delivered once; then the controller comes up again, and has to be asked
@@ -109,37 +109,37 @@ static void resets(void)
     uint64_t last = 0;
     for (int i = 0; i < 7; i++) {
         last = nvmehost_read(&p.host, 1, 0, 1).ticket;
-        port_play(&p);
+        port_perform(&p);
     }
-    EXPECT_IS(nvmehost_read(&p.host, 1, 0, 1).what, NVMEHOST_RING_FULL);
+    EXPECT_IS(nvmehost_read(&p.host, 1, 0, 1).code, NVMEHOST_RING_FULL);
     port_ring(&p);
     device_turn(&device);
     EXPECT_IS(port_reset(&p), NVMEHOST_OK);
     for (int i = 6; i >= 0; i--) {
-        struct nvmehost_got got = port_poll(&p);
-        EXPECT(got.what == NVMEHOST_ABORTED && got.ticket == last - (uint64_t)i);
+        struct nvmehost_outcome outcome = port_poll(&p);
+        EXPECT(outcome.code == NVMEHOST_ABORTED && outcome.ticket == last - (uint64_t)i);
     }
-    EXPECT_IS(port_poll(&p).what, NVMEHOST_NOT_UP);
+    EXPECT_IS(port_poll(&p).code, NVMEHOST_NOT_UP);
     EXPECT_IS(start(), NVMEHOST_OK);
-    EXPECT_IS(nvmehost_read(&p.host, 1, 0, 1).what, NVMEHOST_CONTROLLER_NOT_ASKED);
+    EXPECT_IS(nvmehost_read(&p.host, 1, 0, 1).code, NVMEHOST_CONTROLLER_NOT_ASKED);
     EXPECT_IS(ask(0), NVMEHOST_DONE);
-    EXPECT_IS(nvmehost_read(&p.host, 1, 0, 1).what, NVMEHOST_NAMESPACE_NOT_ASKED);
+    EXPECT_IS(nvmehost_read(&p.host, 1, 0, 1).code, NVMEHOST_NAMESPACE_NOT_ASKED);
     EXPECT_IS(ask(1), NVMEHOST_DONE);
-    struct nvmehost_got got = answer(nvmehost_read(&p.host, 1, 0, 1));
-    EXPECT(got.what == NVMEHOST_DONE && got.ticket > last);
+    struct nvmehost_outcome outcome = answer(nvmehost_read(&p.host, 1, 0, 1));
+    EXPECT(outcome.code == NVMEHOST_DONE && outcome.ticket > last);
     EXPECT_IS(port_shutdown(&p), NVMEHOST_OK);
-    EXPECT_IS(nvmehost_read(&p.host, 1, 0, 1).what, NVMEHOST_NOT_UP);
+    EXPECT_IS(nvmehost_read(&p.host, 1, 0, 1).code, NVMEHOST_NOT_UP);
     EXPECT_IS(port_reset(&p), NVMEHOST_OK);
 }
 
 static void good(void)
 {
-    struct nvmehost_got got;
+    struct nvmehost_outcome outcome;
     begin();
-    EXPECT_IS(nvmehost_bring_up(&p.host).what, NVMEHOST_NOT_JUDGED);
+    EXPECT_IS(nvmehost_bring_up(&p.host).code, NVMEHOST_NOT_JUDGED);
     device.ready_after = 3;
     EXPECT_IS(start(), NVMEHOST_OK);
-    EXPECT_IS(port_start(&p, &got), NVMEHOST_OK);
+    EXPECT_IS(port_start(&p, &outcome), NVMEHOST_OK);
     EXPECT_IS(ask(0), NVMEHOST_DONE);
     EXPECT_IS(ask(1), NVMEHOST_DONE);
     EXPECT(nvmehost_namespace(&p.host, 1).blocks == DEVICE_BLOCKS && nvmehost_controller(&p.host).mdts == 5);
@@ -156,7 +156,7 @@ static void strides(void)
     EXPECT_IS(start(), NVMEHOST_OK);
     EXPECT_IS(ask(0), NVMEHOST_DONE);
     EXPECT_IS(ask(1), NVMEHOST_DONE);
-    EXPECT_IS(answer(nvmehost_read(&p.host, 1, 0, 1)).what, NVMEHOST_DONE);
+    EXPECT_IS(answer(nvmehost_read(&p.host, 1, 0, 1)).code, NVMEHOST_DONE);
     begin();
     device.cap |= (uint64_t)15 << 32;
     EXPECT_IS(start(), NVMEHOST_OUTSIDE);
@@ -180,7 +180,7 @@ static void unfit(void)
     begin();
     device.is_fatal = true;
     EXPECT_IS(start(), NVMEHOST_FATAL);
-    EXPECT_IS(nvmehost_bring_up(&p.host).what, NVMEHOST_NOT_DISABLED);
+    EXPECT_IS(nvmehost_bring_up(&p.host).code, NVMEHOST_NOT_DISABLED);
     begin();
     device.is_stuck = true;
     EXPECT_IS(start(), NVMEHOST_TIMED_OUT);
@@ -188,7 +188,7 @@ static void unfit(void)
     EXPECT_IS(start(), NVMEHOST_OK);
     device.is_stuck = true;
     EXPECT_IS(port_reset(&p), NVMEHOST_TIMED_OUT);
-    EXPECT_IS(nvmehost_bring_up(&p.host).what, NVMEHOST_NOT_DISABLED);
+    EXPECT_IS(nvmehost_bring_up(&p.host).code, NVMEHOST_NOT_DISABLED);
     device.is_stuck = false, device.is_gone = true;
     EXPECT_IS(port_reset(&p), NVMEHOST_REMOVED);
     begin();
@@ -202,13 +202,13 @@ static void refused(uint32_t of_controller, uint32_t of_read, uint32_t of_compar
     static uint8_t block[4096];
     EXPECT_IS(start(), NVMEHOST_OK);
     EXPECT_IS(ask(0), NVMEHOST_DONE);
-    EXPECT_IS(nvmehost_controller(&p.host).what, of_controller);
+    EXPECT_IS(nvmehost_controller(&p.host).code, of_controller);
     EXPECT_IS(ask(1), NVMEHOST_DONE);
     struct nvmehost_placed placed = nvmehost_read(&p.host, 1, 0, 256);
-    EXPECT_IS(placed.what, of_read);
-    if (placed.what == NVMEHOST_OK)
-        EXPECT_IS(answer(placed).what, NVMEHOST_DONE);
-    EXPECT_IS(nvmehost_compare(&p.host, 1, 0, block, 512).what, of_compare);
+    EXPECT_IS(placed.code, of_read);
+    if (placed.code == NVMEHOST_OK)
+        EXPECT_IS(answer(placed).code, NVMEHOST_DONE);
+    EXPECT_IS(nvmehost_compare(&p.host, 1, 0, block, 512).code, of_compare);
 }
 
 static void asked(void)

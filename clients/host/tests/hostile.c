@@ -53,44 +53,44 @@ static void *write_anything(void *seed)
 }
 
 /* Counts what a poll delivered; whether it was anything. */
-static bool count(const struct nvmehost_got *got)
+static bool count(const struct nvmehost_outcome *outcome)
 {
-    if (got->what != NVMEHOST_DONE && got->what != NVMEHOST_ABORTED)
+    if (outcome->code != NVMEHOST_DONE && outcome->code != NVMEHOST_ABORTED)
         return false;
-    bool is_done = got->what == NVMEHOST_DONE;
+    bool is_done = outcome->code == NVMEHOST_DONE;
     done += is_done, aborted += !is_done;
-    if (got->ticket == 0 || got->ticket > given) {
+    if (outcome->ticket == 0 || outcome->ticket > given) {
         strangers++;
         return true;
     }
-    stale += is_done && got->ticket < since_reset;
-    twice += handed[got->ticket];
-    handed[got->ticket] = 1;
+    stale += is_done && outcome->ticket < since_reset;
+    twice += handed[outcome->ticket];
+    handed[outcome->ticket] = 1;
 #ifdef PLANTED
     /* As if the ticket were delivered again. */
-    twice += handed[got->ticket];
+    twice += handed[outcome->ticket];
 #endif
     return true;
 }
 
 static void note(struct nvmehost_placed placed)
 {
-    if (placed.what == NVMEHOST_OK)
+    if (placed.code == NVMEHOST_OK)
         given = placed.ticket;
-    port_play(&p);
+    port_perform(&p);
 }
 
 /* Resets the controller and brings it up again, and asks it: as often as that takes. */
 static void start_again(void)
 {
-    struct nvmehost_got got;
+    struct nvmehost_outcome outcome;
     may_write = false;
     do {
         since_reset = given + 1, resets++;
-        port_start(&p, &got);
-        for (got = port_poll(&p); count(&got); got = port_poll(&p))
+        port_start(&p, &outcome);
+        for (outcome = port_poll(&p); count(&outcome); outcome = port_poll(&p))
             ;
-    } while (got.what != NVMEHOST_NOTHING);
+    } while (outcome.code != NVMEHOST_NOTHING);
     for (uint32_t nsid = 0; nsid < 2; nsid++)
         note(nvmehost_ask(&p.host, nsid));
     port_ring(&p);
@@ -117,21 +117,21 @@ static void place_some(uint64_t *state)
 
 static void run(uint64_t *state)
 {
-    struct nvmehost_got got;
+    struct nvmehost_outcome outcome;
     start_again();
     while (given < most) {
         place_some(state);
-        for (got = port_poll(&p); count(&got); got = port_poll(&p))
+        for (outcome = port_poll(&p); count(&outcome); outcome = port_poll(&p))
             ;
-        if (got.what != NVMEHOST_NOTHING || next_random(state) % 512 == 0) {
-            unknown += got.what == NVMEHOST_UNKNOWN_COMMAND;
+        if (outcome.code != NVMEHOST_NOTHING || next_random(state) % 512 == 0) {
+            unknown += outcome.code == NVMEHOST_UNKNOWN_COMMAND;
             start_again();
         }
     }
     may_write = false;
     since_reset = given + 1;
     port_reset(&p);
-    for (got = port_poll(&p); count(&got); got = port_poll(&p))
+    for (outcome = port_poll(&p); count(&outcome); outcome = port_poll(&p))
         ;
 }
 

@@ -1,5 +1,5 @@
 pub mod Values
-pub mod Moving
+pub mod Snapshots
 pub mod Once
 pub mod Following
-pub mod Acting
+pub mod Actions

@@ -36,11 +36,11 @@ use Rattle.nvme_driver.specs.declared.ticket.Ticket.{Ticket}
 use Rattle.nvme_driver.specs.Drivers.{Driver, IsPlaced}
 use Rattle.nvme_driver.specs.Once as once
 use Rattle.nvme_driver.proofs.Once.{hands_up_once}
-use Rattle.nvme_host.specs.declared.got.Got.{Got}
-use Rattle.nvme_host.specs.declared.got.Placed.{Placed}
-use Rattle.nvme_host.specs.declared.held.Held.{Held}
-use Rattle.nvme_host.specs.declared.looking.Data.{Data}
-use Rattle.nvme_host.specs.Answers.{got_of, plain}
+use Rattle.nvme_host.specs.declared.outcome.Outcome.{Outcome}
+use Rattle.nvme_host.specs.declared.outcome.Placed.{Placed}
+use Rattle.nvme_host.specs.declared.open_driver.OpenDriver.{OpenDriver}
+use Rattle.nvme_host.specs.declared.completions.CompletionData.{CompletionData}
+use Rattle.nvme_host.specs.Outcomes.{outcome_of, with_code}
 use Rattle.nvme_host.specs.Calls.{
   Placing,
   AskingIf,
@@ -48,12 +48,12 @@ use Rattle.nvme_host.specs.Calls.{
   RingingUnless,
   ResettingUnless,
   ShuttingUnless,
-  BringingUnless,
-  WatchingBy,
+  BringingUpUnless,
+  CheckingStatusBy,
 }
-use Rattle.nvme_host.specs.Gates.{blocked_by, stopped_by, rising_gate}
-use Rattle.nvme_host.specs.Looking.{Seeing, SeeingUnless, TakingUnless}
-use Rattle.nvme_host.specs.Playing.{Notes}
+use Rattle.nvme_host.specs.Refusals.{blocked_by, stopped_by, bring_up_refusal}
+use Rattle.nvme_host.specs.Completions.{StoringCompletion, StoringCompletionUnless, StoringDataUnless}
+use Rattle.nvme_host.specs.Recording.{Records}
 use Rattle.nvme_host.specs.Stages.{awaited_in}
 use Rattle.nvme_host.specs.Runs.{
   Use,
@@ -65,14 +65,14 @@ use Rattle.nvme_host.specs.Runs.{
   ShutsDown,
   BringsUp,
   Judges,
-  Watches,
-  Turns,
-  Sees,
-  TakesBytes,
-  TakesActs,
+  ChecksStatus,
+  ReportsCompletion,
+  StoresCompletion,
+  StoresData,
+  TakesActions,
   Used,
   Uses,
-  handed_to,
+  delivered_by,
   HandsUpOnceOverAnyDevice,
 }
 
@@ -83,103 +83,103 @@ Is d tickets d' = (event : once.Event) × once.Happens event d d' × (tickets �
 stays : (d d' : Driver) (tickets : List ℕ) → d' ≡ d → tickets ≡ [] → Is d tickets d'
 stays d d' tickets same none = (once.Stays, (ap (λ (x : Driver). x.slots) same, ap (λ (x : Driver). x.next) same), none)
 
-unchanged : (old new : Held) (tickets : List ℕ) → new ≡ old → tickets ≡ [] → Is old.driver tickets new.driver
+unchanged : (old new : OpenDriver) (tickets : List ℕ) → new ≡ old → tickets ≡ [] → Is old.driver tickets new.driver
 unchanged old new tickets same none =
-    stays old.driver new.driver tickets (ap (λ (h : Held). h.driver) same) none
+    stays old.driver new.driver tickets (ap (λ (h : OpenDriver). h.driver) same) none
 
-placed : (old new : Held) (request : Request) (result : Result Ticket PlaceRefusal) (tickets : List ℕ)
+placed : (old new : OpenDriver) (request : Request) (result : Result Ticket PlaceRefusal) (tickets : List ℕ)
     → OnErr result ((new.driver ≡ old.driver) × (new.port ≡ old.port))
-    → OnOk result (IsPlaced Notes old.driver request old.port new.driver new.port)
+    → OnOk result (IsPlaced Records old.driver request old.port new.driver new.port)
     → tickets ≡ [] → Is old.driver tickets new.driver
 placed old new request (Ok ticket) tickets kept is none = (once.Places request is.0, (is.1, is.2), none)
 placed old new request (Err fault) tickets kept is none = stays old.driver new.driver tickets kept.0 none
 
-placing : (refusal : Option ℕ) (old new : Held) (request : Request) (got : Placed) (tickets : List ℕ)
-    → Placing refusal old request got new → tickets ≡ [] → Is old.driver tickets new.driver
-placing (Some what) old new request got tickets p none = unchanged old new tickets p.1 none
-placing None old new request got tickets p none = placed old new request p.result tickets p.unchanged p.placed none
+placing : (refusal : Option ℕ) (old new : OpenDriver) (request : Request) (outcome : Placed) (tickets : List ℕ)
+    → Placing refusal old request outcome new → tickets ≡ [] → Is old.driver tickets new.driver
+placing (Some code) old new request outcome tickets p none = unchanged old new tickets p.1 none
+placing None old new request outcome tickets p none = placed old new request p.result tickets p.unchanged p.placed none
 
-asking : (b : Bool) (old new : Held) (nsid : ℕ) (got : Placed) (tickets : List ℕ)
-    → AskingIf b old nsid got new → tickets ≡ [] → Is old.driver tickets new.driver
-asking true old new nsid got tickets a none = unchanged old new tickets a.1 none
-asking false old new nsid got tickets a none =
+asking : (b : Bool) (old new : OpenDriver) (nsid : ℕ) (outcome : Placed) (tickets : List ℕ)
+    → AskingIf b old nsid outcome new → tickets ≡ [] → Is old.driver tickets new.driver
+asking true old new nsid outcome tickets a none = unchanged old new tickets a.1 none
+asking false old new nsid outcome tickets a none =
     subst (λ (d : Driver). Is old.driver tickets d) (sym a.driver)
-    (placing (stopped_by old) old a.mid _ got tickets a.placed none)
+    (placing (stopped_by old) old a.mid _ outcome tickets a.placed none)
 
-handed_is : (answer : Result (Option Answer) PollFault) → handed_to (got_of answer) ≡ once.handed_by answer
+handed_is : (answer : Result (Option Answer) PollFault) → delivered_by (outcome_of answer) ≡ once.handed_by answer
 handed_is (Ok None) = refl
 handed_is (Ok (Some (Done ticket status word len))) = refl
 handed_is (Ok (Some (Aborted ticket))) = refl
 handed_is (Err NotUp) = refl
 handed_is (Err UnknownCommand) = refl
 
-polling : (o : Option ℕ) → ((what : ℕ) → o ≡ Some what → handed_to (plain what) ≡ [])
-    → (old new : Held) (before buffer : List ℕ) (got : Got) (tickets : List ℕ)
-    → PollingUnless o old before got new buffer → tickets ≡ handed_to got → Is old.driver tickets new.driver
-polling (Some what) silent old new before buffer got tickets p are =
-    unchanged old new tickets p.1 (are ∙ (ap handed_to p.0 ∙ silent what refl))
-polling None silent old new before buffer got tickets p are =
+polling : (o : Option ℕ) → ((code : ℕ) → o ≡ Some code → delivered_by (with_code code) ≡ [])
+    → (old new : OpenDriver) (before buffer : List ℕ) (outcome : Outcome) (tickets : List ℕ)
+    → PollingUnless o old before outcome new buffer → tickets ≡ delivered_by outcome → Is old.driver tickets new.driver
+polling (Some code) silent old new before buffer outcome tickets p are =
+    unchanged old new tickets p.1 (are ∙ (ap delivered_by p.0 ∙ silent code refl))
+polling None silent old new before buffer outcome tickets p are =
     let by = p.polled in (
       once.Polls by.0 old.port.window,
       (by.1, by.3),
-      are ∙ (ap handed_to p.gives ∙ (handed_is p.answer ∙ ap once.handed_by by.2)),
+      are ∙ (ap delivered_by p.gives ∙ (handed_is p.answer ∙ ap once.handed_by by.2)),
     )
 
 -- the number of a refusal is that of no answer
-blocked_silent : (b : Bool) (what : ℕ) → (if b then Some 19 else None) ≡ Some what → handed_to (plain what) ≡ []
-blocked_silent true what e = let is : 19 ≡ what = cc (e) in subst (λ (n : ℕ). handed_to (plain n) ≡ []) is refl
-blocked_silent false what e = absurd (cc (e))
+blocked_silent : (b : Bool) (code : ℕ) → (if b then Some 19 else None) ≡ Some code → delivered_by (with_code code) ≡ []
+blocked_silent true code e = let is : 19 ≡ code = cc (e) in subst (λ (n : ℕ). delivered_by (with_code n) ≡ []) is refl
+blocked_silent false code e = absurd (cc (e))
 
-ringing : (o : Option ℕ) (old new : Held) (what : ℕ) (tickets : List ℕ)
-    → RingingUnless o old what new → tickets ≡ [] → Is old.driver tickets new.driver
-ringing (Some reason) old new what tickets r none = unchanged old new tickets r.1 none
-ringing None old new what tickets r none = stays old.driver new.driver tickets r.driver none
+ringing : (o : Option ℕ) (old new : OpenDriver) (code : ℕ) (tickets : List ℕ)
+    → RingingUnless o old code new → tickets ≡ [] → Is old.driver tickets new.driver
+ringing (Some reason) old new code tickets r none = unchanged old new tickets r.1 none
+ringing None old new code tickets r none = stays old.driver new.driver tickets r.driver none
 
-resetting : (o : Option ℕ) (old new : Held) (what : ℕ) (tickets : List ℕ)
-    → ResettingUnless o old what new → tickets ≡ [] → Is old.driver tickets new.driver
-resetting (Some reason) old new what tickets r none = unchanged old new tickets r.1 none
-resetting None old new what tickets r none = (once.Resets, r.driver, none)
+resetting : (o : Option ℕ) (old new : OpenDriver) (code : ℕ) (tickets : List ℕ)
+    → ResettingUnless o old code new → tickets ≡ [] → Is old.driver tickets new.driver
+resetting (Some reason) old new code tickets r none = unchanged old new tickets r.1 none
+resetting None old new code tickets r none = (once.Resets, r.driver, none)
 
-shutting : (o : Option ℕ) (old new : Held) (what : ℕ) (tickets : List ℕ)
-    → ShuttingUnless o old what new → tickets ≡ [] → Is old.driver tickets new.driver
-shutting (Some reason) old new what tickets r none = unchanged old new tickets r.1 none
-shutting None old new what tickets r none = stays old.driver new.driver tickets r.driver none
+shutting : (o : Option ℕ) (old new : OpenDriver) (code : ℕ) (tickets : List ℕ)
+    → ShuttingUnless o old code new → tickets ≡ [] → Is old.driver tickets new.driver
+shutting (Some reason) old new code tickets r none = unchanged old new tickets r.1 none
+shutting None old new code tickets r none = stays old.driver new.driver tickets r.driver none
 
-bringing : (o : Option ℕ) (old new : Held) (got : Got) (tickets : List ℕ)
-    → BringingUnless o old got new → tickets ≡ [] → Is old.driver tickets new.driver
-bringing (Some what) old new got tickets b none = unchanged old new tickets b.1 none
-bringing None old new got tickets b none = (
+bringing : (o : Option ℕ) (old new : OpenDriver) (outcome : Outcome) (tickets : List ℕ)
+    → BringingUpUnless o old outcome new → tickets ≡ [] → Is old.driver tickets new.driver
+bringing (Some code) old new outcome tickets b none = unchanged old new tickets b.1 none
+bringing None old new outcome tickets b none = (
   once.Stays,
-  (ap (λ (x : Driver). x.slots) b.driver ∙ b.rising.slots, ap (λ (x : Driver). x.next) b.driver ∙ b.rising.next),
+  (ap (λ (x : Driver). x.slots) b.driver ∙ b.bring_up.slots, ap (λ (x : Driver). x.next) b.driver ∙ b.bring_up.next),
   none,
 )
 
-watching : (a : Option Awaited) (c : Option Capabilities) (old new : Held) (csts elapsed_ms what : ℕ)
+watching : (a : Option Awaited) (c : Option Capabilities) (old new : OpenDriver) (csts elapsed_ms code : ℕ)
     (tickets : List ℕ)
-    → WatchingBy a c old csts elapsed_ms what new → tickets ≡ [] → Is old.driver tickets new.driver
-watching None c old new csts elapsed_ms what tickets w none = unchanged old new tickets w.1 none
-watching (Some a) None old new csts elapsed_ms what tickets w none = unchanged old new tickets w.1 none
-watching (Some a) (Some c) old new csts elapsed_ms what tickets w none =
-    stays old.driver new.driver tickets (ap (λ (h : Held). h.driver) w.kept) none
+    → CheckingStatusBy a c old csts elapsed_ms code new → tickets ≡ [] → Is old.driver tickets new.driver
+watching None c old new csts elapsed_ms code tickets w none = unchanged old new tickets w.1 none
+watching (Some a) None old new csts elapsed_ms code tickets w none = unchanged old new tickets w.1 none
+watching (Some a) (Some c) old new csts elapsed_ms code tickets w none =
+    stays old.driver new.driver tickets (ap (λ (h : OpenDriver). h.driver) w.kept) none
 
-saw : (o : Option ℕ) (lane : Lane) (old new : Held) (entry : List ℕ) (got : Data) (tickets : List ℕ)
-    → SeeingUnless o lane old entry got new → tickets ≡ [] → Is old.driver tickets new.driver
-saw (Some what) lane old new entry got tickets s none = unchanged old new tickets s.1 none
-saw None lane old new entry got tickets s none =
-    stays old.driver new.driver tickets (ap (λ (h : Held). h.driver) s.kept) none
+saw : (o : Option ℕ) (lane : Lane) (old new : OpenDriver) (entry : List ℕ) (outcome : CompletionData) (tickets : List ℕ)
+    → StoringCompletionUnless o lane old entry outcome new → tickets ≡ [] → Is old.driver tickets new.driver
+saw (Some code) lane old new entry outcome tickets s none = unchanged old new tickets s.1 none
+saw None lane old new entry outcome tickets s none =
+    stays old.driver new.driver tickets (ap (λ (h : OpenDriver). h.driver) s.kept) none
 
-seeing : (lane : Option Lane) (old new : Held) (entry : List ℕ) (got : Data) (tickets : List ℕ)
-    → Seeing lane old entry got new → tickets ≡ [] → Is old.driver tickets new.driver
-seeing None old new entry got tickets s none = unchanged old new tickets s.1 none
-seeing (Some lane) old new entry got tickets s none = saw (blocked_by old) lane old new entry got tickets s none
+seeing : (lane : Option Lane) (old new : OpenDriver) (entry : List ℕ) (outcome : CompletionData) (tickets : List ℕ)
+    → StoringCompletion lane old entry outcome new → tickets ≡ [] → Is old.driver tickets new.driver
+seeing None old new entry outcome tickets s none = unchanged old new tickets s.1 none
+seeing (Some lane) old new entry outcome tickets s none = saw (blocked_by old) lane old new entry outcome tickets s none
 
-taking : (o : Option ℕ) (old new : Held) (at : ℕ) (part : List ℕ) (what : ℕ) (tickets : List ℕ)
-    → TakingUnless o old at part what new → tickets ≡ [] → Is old.driver tickets new.driver
-taking (Some reason) old new at part what tickets t none = unchanged old new tickets t.1 none
-taking None old new at part what tickets t none =
-    stays old.driver new.driver tickets (ap (λ (h : Held). h.driver) t.kept) none
+taking : (o : Option ℕ) (old new : OpenDriver) (at : ℕ) (part : List ℕ) (code : ℕ) (tickets : List ℕ)
+    → StoringDataUnless o old at part code new → tickets ≡ [] → Is old.driver tickets new.driver
+taking (Some reason) old new at part code tickets t none = unchanged old new tickets t.1 none
+taking None old new at part code tickets t none =
+    stays old.driver new.driver tickets (ap (λ (h : OpenDriver). h.driver) t.kept) none
 
-is_event : (act : Use) (old : Held) (tickets : List ℕ) (new : Held) → Used act old tickets new
+is_event : (call : Use) (old : OpenDriver) (tickets : List ℕ) (new : OpenDriver) → Used call old tickets new
     → Is old.driver tickets new.driver
 is_event (Places refusal request) old tickets new u = placing refusal old new request u.0.0 tickets u.0.1 u.1
 is_event (Asks nsid) old tickets new u = asking (nat_lt 64 nsid) old new nsid u.0.0 tickets u.0.1 u.1
@@ -188,24 +188,24 @@ is_event Polls old tickets new u =
 is_event Rings old tickets new u = ringing (stopped_by old) old new u.0.0 tickets u.0.1 u.1
 is_event Resets old tickets new u = resetting (blocked_by old) old new u.0.0 tickets u.0.1 u.1
 is_event ShutsDown old tickets new u = shutting (stopped_by old) old new u.0.0 tickets u.0.1 u.1
-is_event BringsUp old tickets new u = bringing (rising_gate old) old new u.0.0 tickets u.0.1 u.1
+is_event BringsUp old tickets new u = bringing (bring_up_refusal old) old new u.0.0 tickets u.0.1 u.1
 is_event (Judges cap) old tickets new u =
-    stays old.driver new.driver tickets (ap (λ (h : Held). h.driver) u.0.1.kept) u.1
-is_event (Watches csts elapsed_ms) old tickets new u =
+    stays old.driver new.driver tickets (ap (λ (h : OpenDriver). h.driver) u.0.1.kept) u.1
+is_event (ChecksStatus csts elapsed_ms) old tickets new u =
     watching (awaited_in old.stage) old.capabilities old new csts elapsed_ms u.0.0 tickets u.0.1 u.1
-is_event Turns old tickets new u =
-    stays old.driver new.driver tickets (ap (λ (h : Held). h.driver) u.0.1.kept) u.1
-is_event (Sees lane entry) old tickets new u = seeing lane old new entry u.0.0 tickets u.0.1 u.1
-is_event (TakesBytes at part) old tickets new u =
+is_event ReportsCompletion old tickets new u =
+    stays old.driver new.driver tickets (ap (λ (h : OpenDriver). h.driver) u.0.1.kept) u.1
+is_event (StoresCompletion lane entry) old tickets new u = seeing lane old new entry u.0.0 tickets u.0.1 u.1
+is_event (StoresData at part) old tickets new u =
     taking (blocked_by old) old new at part u.0.0 tickets u.0.1 u.1
-is_event TakesActs old tickets new u = stays old.driver new.driver tickets u.0.3.driver u.1
+is_event TakesActions old tickets new u = stays old.driver new.driver tickets u.0.3.driver u.1
 
-is_run : (uses : List Use) (old : Held) (tickets : List ℕ) (new : Held) → Uses uses old tickets new
+is_run : (uses : List Use) (old : OpenDriver) (tickets : List ℕ) (new : OpenDriver) → Uses uses old tickets new
     → (events : List once.Event) × once.Run events old.driver tickets new.driver
-is_run [] old tickets new u = ([], (u.0, ap (λ (h : Held). h.driver) u.1))
-is_run (act ∷ later) old tickets new u =
+is_run [] old tickets new u = ([], (u.0, ap (λ (h : OpenDriver). h.driver) u.1))
+is_run (call ∷ later) old tickets new u =
     let mid = u.0 in let first = u.1 in let rest = u.2 in
-    let e = is_event act old first mid u.3 in
+    let e = is_event call old first mid u.3 in
     let r = is_run later mid rest new u.5 in
     (e.0 ∷ r.0, (mid.driver, rest, e.1, u.4 ∙ ap (λ (us : List ℕ). us ++ rest) e.2, r.1))
 

@@ -44,7 +44,7 @@ pub word_good : (at : Ptr) → Good (ty_struct [] (tcons ty_ptr (tcons heap_laws
 word_good (block_ptr block offset) = (tt, (tt, (((tt, tt), tt), tt)))
 word_good null_ptr = (tt, (record { fits = lit< tt }, (((tt, tt), tt), tt)))
 
-pub something : {X : Type 0} (held : Option X) → is_some held ≡ true → (x : X) × (held ≡ Some x)
+pub something : {X : Type 0} (open_driver : Option X) → is_some open_driver ≡ true → (x : X) × (open_driver ≡ Some x)
 something None e = absurd (cc e)
 something (Some x) e = (x, refl)
 

@@ -42,19 +42,19 @@ admission_code admission.TooLong = Some 62
 admission_code admission.PastTheEnd = Some 63
 
 abbrev pub limits_of : Result Capabilities CapabilityFault → Limits
-limits_of (Ok c) = record { timeout_ms = c.timeout_ms; stride = c.stride; what = 0 }
-limits_of (Err fault) = record { timeout_ms = 0; stride = 0; what = capability_code fault }
+limits_of (Ok c) = record { timeout_ms = c.timeout_ms; stride = c.stride; code = 0 }
+limits_of (Err fault) = record { timeout_ms = 0; stride = 0; code = capability_code fault }
 
 abbrev pub no_controller : ℕ → Controller
-no_controller what = record { nn = 0; what = what; cntlid = 0; oncs = 0; mdts = 0; vwc = 0 }
+no_controller code = record { nn = 0; code = code; cntlid = 0; oncs = 0; mdts = 0; vwc = 0 }
 
 abbrev pub controller_of : Option (Result ControllerFacts ControllerFault) → Controller
 controller_of None = no_controller 59
 controller_of (Some (Err fault)) = no_controller (controller_code fault)
 controller_of (Some (Ok f)) =
-    record { nn = f.nn; what = 0; cntlid = f.cntlid; oncs = f.oncs; mdts = f.mdts; vwc = f.vwc }
+    record { nn = f.nn; code = 0; cntlid = f.cntlid; oncs = f.oncs; mdts = f.mdts; vwc = f.vwc }
 
 abbrev pub namespace_of : Option (Result NamespaceFacts NamespaceFault) → Namespace
-namespace_of None = record { blocks = 0; what = 60 }
-namespace_of (Some (Err fault)) = record { blocks = 0; what = namespace_code fault }
-namespace_of (Some (Ok f)) = record { blocks = f.blocks; what = 0 }
+namespace_of None = record { blocks = 0; code = 60 }
+namespace_of (Some (Err fault)) = record { blocks = 0; code = namespace_code fault }
+namespace_of (Some (Ok f)) = record { blocks = f.blocks; code = 0 }

@@ -6,11 +6,11 @@ use denote.RawPtr.{Ptr}
 use Rattle.std.specs.Box.Ownership.{box_owns}
 use Rattle.std.specs.Global.{Global}
 use Rattle.std.specs.contracts.impls.GlobalAllocator.TheImpl.{ghosts}
-use Rattle.nvme_host.specs.contracts.held.Held as held
+use Rattle.nvme_host.specs.contracts.open_driver.OpenDriver as open_driver
 
 -- a driver with its port
 abbrev pub Row : RattleType
-Row = held.the_row
+Row = open_driver.the_row
 
 -- as contracts see it: its fields
 abbrev pub Inside : Type 0

@@ -9,9 +9,9 @@ pub const ABORTED: u32 = 2;
 /// There is no new answer.
 pub const NOTHING: u32 = 3;
 /// The bring-up continues once the controller is ready.
-pub const WANTS_STATUS: u32 = 4;
+pub const NEEDS_STATUS: u32 = 4;
 /// The bring-up continues once it has the next completion of the admin queue.
-pub const WANTS_TURN: u32 = 5;
+pub const NEEDS_COMPLETION: u32 = 5;
 /// The status is not the awaited one yet.
 pub const WAITS: u32 = 6;
 
@@ -21,8 +21,8 @@ pub const CLOSED: u32 = 16;
 pub const ALREADY_OPEN: u32 = 17;
 /// Memory was refused.
 pub const NO_MEMORY: u32 = 18;
-/// The acts of the last call were not taken.
-pub const PLAY_FIRST: u32 = 19;
+/// The actions of the last call were not taken.
+pub const ACTIONS_PENDING: u32 = 19;
 /// Controller Capabilities were not judged.
 pub const NOT_JUDGED: u32 = 20;
 /// The controller was not seen disabled.

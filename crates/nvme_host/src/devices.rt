@@ -17,7 +17,7 @@ use nvme_device::{
     NamespaceFault,
 };
 
-/// Controller Capabilities for C. Fields are 0 unless `what` is `OK`.
+/// Controller Capabilities for C. Fields are 0 unless `code` is `OK`.
 #[repr(C)]
 #[derive(Clone, Copy)]
 pub struct Limits {
@@ -25,16 +25,16 @@ pub struct Limits {
     pub timeout_ms: u32,
     /// The distance of two doorbells in bytes. The driver writes four, from offset 1000h.
     pub stride: u32,
-    pub what: u32,
+    pub code: u32,
 }
 
-/// Identify Controller for C. Fields are 0 unless `what` is `OK`.
+/// Identify Controller for C. Fields are 0 unless `code` is `OK`.
 #[repr(C)]
 #[derive(Clone, Copy)]
 pub struct Controller {
     /// The highest namespace identifier.
     pub nn: u32,
-    pub what: u32,
+    pub code: u32,
     pub cntlid: u16,
     /// The optional commands.
     pub oncs: u16,
@@ -44,13 +44,13 @@ pub struct Controller {
     pub vwc: u8,
 }
 
-/// Identify Namespace for C. `blocks` is 0 unless `what` is `OK`.
+/// Identify Namespace for C. `blocks` is 0 unless `code` is `OK`.
 #[repr(C)]
 #[derive(Clone, Copy)]
 pub struct Namespace {
     /// The number of blocks, of 512 bytes each.
     pub blocks: u64,
-    pub what: u32,
+    pub code: u32,
 }
 
 fn capability_code(fault: CapabilityFault) -> u32
@@ -100,13 +100,13 @@ pub fn admission_code(admission: Admission) -> Option<u32>
 }
 
 impl Limits {
-    pub(crate) fn without(what: u32) -> Limits
-        ensures { result ≡ record { timeout_ms = 0; stride = 0; what = what } }
+    pub(crate) fn without(code: u32) -> Limits
+        ensures { result ≡ record { timeout_ms = 0; stride = 0; code = code } }
     {
         Limits {
             timeout_ms: 0,
             stride: 0,
-            what,
+            code,
         }
     }
 
@@ -117,7 +117,7 @@ impl Limits {
             Ok(capabilities) => Limits {
                 timeout_ms: capabilities.timeout_ms,
                 stride: capabilities.stride,
-                what: codes::OK,
+                code: codes::OK,
             },
             Err(fault) => Limits::without(capability_code(fault)),
         }
@@ -125,12 +125,12 @@ impl Limits {
 }
 
 impl Controller {
-    pub(crate) fn without(what: u32) -> Controller
-        ensures { result ≡ record { nn = 0; what = what; cntlid = 0; oncs = 0; mdts = 0; vwc = 0 } }
+    pub(crate) fn without(code: u32) -> Controller
+        ensures { result ≡ record { nn = 0; code = code; cntlid = 0; oncs = 0; mdts = 0; vwc = 0 } }
     {
         Controller {
             nn: 0,
-            what,
+            code,
             cntlid: 0,
             oncs: 0,
             mdts: 0,
@@ -138,13 +138,13 @@ impl Controller {
         }
     }
 
-    pub(crate) fn of(known: Option<Result<ControllerFacts, ControllerFault>>) -> Controller
-        ensures { result ≡ controller_of known }
+    pub(crate) fn of(judged: Option<Result<ControllerFacts, ControllerFault>>) -> Controller
+        ensures { result ≡ controller_of judged }
     {
-        match known {
+        match judged {
             Some(Ok(facts)) => Controller {
                 nn: facts.nn,
-                what: codes::OK,
+                code: codes::OK,
                 cntlid: facts.cntlid,
                 oncs: facts.oncs,
                 mdts: facts.mdts,
@@ -157,19 +157,19 @@ impl Controller {
 }
 
 impl Namespace {
-    pub(crate) fn without(what: u32) -> Namespace
-        ensures { result ≡ record { blocks = 0; what = what } }
+    pub(crate) fn without(code: u32) -> Namespace
+        ensures { result ≡ record { blocks = 0; code = code } }
     {
-        Namespace { blocks: 0, what }
+        Namespace { blocks: 0, code }
     }
 
-    pub(crate) fn of(known: Option<Result<NamespaceFacts, NamespaceFault>>) -> Namespace
-        ensures { result ≡ namespace_of known }
+    pub(crate) fn of(judged: Option<Result<NamespaceFacts, NamespaceFault>>) -> Namespace
+        ensures { result ≡ namespace_of judged }
     {
-        match known {
+        match judged {
             Some(Ok(facts)) => Namespace {
                 blocks: facts.blocks,
-                what: codes::OK,
+                code: codes::OK,
             },
             Some(Err(fault)) => Namespace::without(namespace_code(fault)),
             None => Namespace::without(codes::NAMESPACE_NOT_ASKED),

@@ -1,7 +1,7 @@
 //! Worked examples of the definitions. Each is the contract of an empty function, proved by computing.
 
 ghost use Rattle.std.specs.Prelude.{◌≡◌, true, false};
-ghost use Rattle.nvme_host.specs.Bells.{no_bells, is_rung, register_at};
+ghost use Rattle.nvme_host.specs.Doorbells.{initial_doorbells, repeats_tail, register_at};
 
 /// Doorbells that are 4 and 8 bytes apart; other registers are where they are.
 pub fn doorbells_have_places()
@@ -14,8 +14,8 @@ pub fn doorbells_have_places()
 
 /// A tail that is there already is not written again; a head always is.
 pub fn rung_tails_are_left_out()
-    ensures same { is_rung (record no_bells { io_tail = 3 }) 0x1008 3 ≡ true }
-    ensures other { is_rung (record no_bells { io_tail = 3 }) 0x1008 4 ≡ false }
-    ensures lane { is_rung (record no_bells { io_tail = 3 }) 0x1000 3 ≡ false }
-    ensures head { is_rung (record no_bells { io_tail = 3 }) 0x100c 3 ≡ false }
+    ensures same { repeats_tail (record initial_doorbells { io_tail = 3 }) 0x1008 3 ≡ true }
+    ensures other { repeats_tail (record initial_doorbells { io_tail = 3 }) 0x1008 4 ≡ false }
+    ensures lane { repeats_tail (record initial_doorbells { io_tail = 3 }) 0x1000 3 ≡ false }
+    ensures head { repeats_tail (record initial_doorbells { io_tail = 3 }) 0x100c 3 ≡ false }
 {}

@@ -2,7 +2,7 @@
 
 ghost use Rattle.std.specs.Prelude.{◌≡◌, Some, None, is_some, IfSome, IfNone};
 
-use crate::held::Held;
+use crate::open_driver::OpenDriver;
 use crate::slot::Slot;
 use box_pointer::BoxPointer;
 use std::alloc::Global;
@@ -14,7 +14,7 @@ use std::mem;
 pub struct Handle {
     pub(crate) slot: Slot,
     is_open: bool,
-    ghost told: { is_some slot.value ≡ is_open },
+    ghost agrees: { is_some slot.value ≡ is_open },
 }
 
 impl Handle {
@@ -31,11 +31,11 @@ impl Handle {
 
     /// This open driver.
     #[inline(always)]
-    pub(crate) fn of(held: Box<Held>) -> Handle
-        ensures { result.slot.value ≡ Some held.value }
+    pub(crate) fn of(open_driver: Box<OpenDriver>) -> Handle
+        ensures { result.slot.value ≡ Some open_driver.value }
     {
         Handle {
-            slot: Slot::of(BoxPointer::of(held)),
+            slot: Slot::of(BoxPointer::of(open_driver)),
             is_open: true,
         }
     }
@@ -50,9 +50,9 @@ impl Handle {
 
     /// Takes the driver out, if one is open.
     #[inline(always)]
-    pub(crate) fn take(&mut self, alloc: Global) -> Option<Box<Held>>
+    pub(crate) fn take(&mut self, alloc: Global) -> Option<Box<OpenDriver>>
         ensures emptied { self.new.slot.value ≡ None }
-        ensures some { IfSome result (λ held. self.old.slot.value ≡ Some held.value) }
+        ensures some { IfSome result (λ open_driver. self.old.slot.value ≡ Some open_driver.value) }
         ensures none { IfNone result (self.old.slot.value ≡ None) }
     {
         let Handle { slot, is_open } = mem::replace(self, Handle::closed(alloc));

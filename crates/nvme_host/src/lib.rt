@@ -1,28 +1,28 @@
 //! The driver of a host as a library for C, for controllers that are not this project's own. Each export is one call of
-//! `Driver`, over a port that accesses no device: it notes what has to be stored and written, and C plays these acts on
-//! the memory and the registers of the device.
+//! `Driver`, over a port that accesses no device: it records what to store and to write, and C performs these actions
+//! on the memory and the registers of the device.
 #![tactic(auto)]
 
-mod bells;
+mod bring_up;
 mod codes;
+mod completions;
 mod devices;
+mod doorbells;
 mod examples;
-mod got;
+mod facts;
 mod handle;
-mod held;
-mod known;
 pub mod laws;
-pub mod life;
-mod looking;
+pub mod lifecycle;
 pub mod memory;
-mod played;
+mod open_driver;
+mod outcome;
+mod recording_port;
 pub mod requests;
-mod rising;
 mod slot;
 mod stage;
 
+pub use completions::{CompletionData, NextCompletion};
 pub use devices::{Controller, Limits, Namespace};
-pub use got::{Got, Placed};
 pub use handle::Handle;
-pub use looking::{Data, Next};
-pub use played::Act;
+pub use outcome::{Outcome, Placed};
+pub use recording_port::Action;

@@ -1,24 +1,24 @@
-//! What goes between the driver and the device: acts to play, bytes to copy, and what the device showed.
+//! What goes between the driver and the device: actions to perform, bytes to copy, and what the device showed.
 
 ghost use Rattle.std.specs.Prelude.{◌≡◌};
-ghost use Rattle.nvme_host.specs.Calls.{Watching, TurnsTo};
+ghost use Rattle.nvme_host.specs.Calls.{CheckingStatus, ReportingCompletion};
 ghost use Rattle.nvme_host.specs.Exports.{
   Judges,
-  Takes,
-  Sees,
+  TakesActions,
+  StoresCompletion,
   Does,
   LoadsFrom,
-  next_of,
+  next_completion_of,
   controller_in,
   namespace_in,
 };
-ghost use Rattle.nvme_host.specs.Looking.{TakingBytes};
+ghost use Rattle.nvme_host.specs.Completions.{StoringData};
 
 use crate::codes;
+use crate::completions::{CompletionData, NextCompletion};
 use crate::devices::{Controller, Limits, Namespace};
 use crate::handle::Handle;
-use crate::looking::{Data, Next};
-use crate::played::Act;
+use crate::recording_port::Action;
 use std::alloc::Global;
 
 /// Judges Controller Capabilities, which the driver needs before a bring-up: `OK`, or why the controller does not suit
@@ -27,16 +27,16 @@ use std::alloc::Global;
 pub extern "C" fn nvmehost_capabilities(alloc: Global, host: &mut Handle, cap: u64) -> Limits
     ensures { Judges cap host.old.slot.value result host.new.slot.value }
 {
-    let Some(mut held) = host.take(alloc) else {
+    let Some(mut open_driver) = host.take(alloc) else {
         return Limits::without(codes::CLOSED);
     };
-    let limits = held.judge(cap);
-    *host = Handle::of(held);
+    let limits = open_driver.judge(cap);
+    *host = Handle::of(open_driver);
     limits
 }
 
-/// Judges Controller Status, read `elapsed_ms` milliseconds after the last act: `OK` if it is the awaited one, `WAITS`,
-/// or why it will not come.
+/// Judges Controller Status, read `elapsed_ms` milliseconds after the last action: `OK` if it is the awaited one,
+/// `WAITS`, or why it will not come.
 #[unsafe(no_mangle)]
 pub extern "C" fn nvmehost_status(
     alloc: Global,
@@ -44,41 +44,49 @@ pub extern "C" fn nvmehost_status(
     csts: u32,
     elapsed_ms: u64,
 ) -> u32
-    ensures { Does (λ old what new. Watching old csts elapsed_ms what new)
+    ensures { Does (λ old code new. CheckingStatus old csts elapsed_ms code new)
         host.old.slot.value result host.new.slot.value }
 {
-    let Some(mut held) = host.take(alloc) else {
+    let Some(mut open_driver) = host.take(alloc) else {
         return codes::CLOSED;
     };
-    let what = held.watch(csts, elapsed_ms);
-    *host = Handle::of(held);
-    what
+    let code = open_driver.check_status(csts, elapsed_ms);
+    *host = Handle::of(open_driver);
+    code
 }
 
-/// Reports the next completion of the admin queue to a bring-up that wants it, or zeros if none came in time: `OK`,
+/// Reports the next completion of the admin queue to a bring-up that needs it, or zeros if none came in time: `OK`,
 /// `NOT_AWAITED` or `CLOSED`.
 #[unsafe(no_mangle)]
-pub extern "C" fn nvmehost_turn(alloc: Global, host: &mut Handle, entry: &[u8; 16]) -> u32
-    ensures { Does TurnsTo host.old.slot.value result host.new.slot.value }
+pub extern "C" fn nvmehost_report_completion(
+    alloc: Global,
+    host: &mut Handle,
+    entry: &[u8; 16],
+) -> u32
+    ensures { Does ReportingCompletion host.old.slot.value result host.new.slot.value }
 {
-    let Some(mut held) = host.take(alloc) else {
+    let Some(mut open_driver) = host.take(alloc) else {
         return codes::CLOSED;
     };
-    let what = held.turn(entry);
-    *host = Handle::of(held);
-    what
+    let code = open_driver.report_completion(entry);
+    *host = Handle::of(open_driver);
+    code
 }
 
-/// Takes the acts of the last call, in order; their number. `acts` must have room for 32.
+/// Takes the actions of the last call, in order; their number. `actions` must have room for 32.
 #[unsafe(no_mangle)]
-pub extern "C" fn nvmehost_acts(alloc: Global, host: &mut Handle, acts: &mut [Act]) -> usize
-    ensures { Takes host.old.slot.value acts.old result acts.new host.new.slot.value }
+pub extern "C" fn nvmehost_actions(
+    alloc: Global,
+    host: &mut Handle,
+    actions: &mut [Action],
+) -> usize
+    ensures { TakesActions host.old.slot.value actions.old result actions.new host.new.slot.value }
 {
-    let Some(mut held) = host.take(alloc) else {
+    let Some(mut open_driver) = host.take(alloc) else {
         return 0;
     };
-    let count = held.take_acts(acts);
-    *host = Handle::of(held);
+    let count = open_driver.take_actions(actions);
+    *host = Handle::of(open_driver);
     count
 }
 
@@ -93,63 +101,67 @@ pub extern "C" fn nvmehost_load(
     ensures loads { LoadsFrom host.old.slot.value address bytes.old result bytes.new }
     ensures kept { host.new.slot.value ≡ host.old.slot.value }
 {
-    let Some(held) = host.take(alloc) else {
+    let Some(open_driver) = host.take(alloc) else {
         return codes::CLOSED;
     };
-    let what = held.load(address, bytes);
-    *host = Handle::of(held);
-    what
+    let code = open_driver.load(address, bytes);
+    *host = Handle::of(open_driver);
+    code
 }
 
 /// The place of the next completion of a queue, 0 or 1, and its phase tag.
 #[unsafe(no_mangle)]
-pub extern "C" fn nvmehost_next(alloc: Global, host: &mut Handle, queue: u32) -> Next
-    ensures next { result ≡ next_of host.old.slot.value queue }
+pub extern "C" fn nvmehost_next_completion(
+    alloc: Global,
+    host: &mut Handle,
+    queue: u32,
+) -> NextCompletion
+    ensures next { result ≡ next_completion_of host.old.slot.value queue }
     ensures kept { host.new.slot.value ≡ host.old.slot.value }
 {
-    let Some(held) = host.take(alloc) else {
-        return Next::without(codes::CLOSED);
+    let Some(open_driver) = host.take(alloc) else {
+        return NextCompletion::without(codes::CLOSED);
     };
-    let next = held.next(queue);
-    *host = Handle::of(held);
-    next
+    let completion = open_driver.next_completion(queue);
+    *host = Handle::of(open_driver);
+    completion
 }
 
-/// Takes the next completion of a queue from the device, and returns which data come with it.
+/// Stores the next completion of a queue, which C copied from the device, and returns which data come with it.
 #[unsafe(no_mangle)]
-pub extern "C" fn nvmehost_sees(
+pub extern "C" fn nvmehost_store_completion(
     alloc: Global,
     host: &mut Handle,
     queue: u32,
     entry: &[u8; 16],
-) -> Data
-    ensures { Sees queue entry.now host.old.slot.value result host.new.slot.value }
+) -> CompletionData
+    ensures { StoresCompletion queue entry.now host.old.slot.value result host.new.slot.value }
 {
-    let Some(mut held) = host.take(alloc) else {
-        return Data::without(codes::CLOSED);
+    let Some(mut open_driver) = host.take(alloc) else {
+        return CompletionData::without(codes::CLOSED);
     };
-    let data = held.sees(queue, entry);
-    *host = Handle::of(held);
+    let data = open_driver.store_completion(queue, entry);
+    *host = Handle::of(open_driver);
     data
 }
 
-/// Takes bytes from the device, the data of a completion: `OK`, `OUTSIDE`, `PLAY_FIRST` or `CLOSED`.
+/// Stores the data of a completion, which C copied from the device: `OK`, `OUTSIDE`, `ACTIONS_PENDING` or `CLOSED`.
 #[unsafe(no_mangle)]
-pub extern "C" fn nvmehost_takes(
+pub extern "C" fn nvmehost_store_data(
     alloc: Global,
     host: &mut Handle,
     address: u64,
     bytes: &[u8],
 ) -> u32
-    ensures { Does (λ old what new. TakingBytes old address bytes.now what new)
+    ensures { Does (λ old code new. StoringData old address bytes.now code new)
         host.old.slot.value result host.new.slot.value }
 {
-    let Some(mut held) = host.take(alloc) else {
+    let Some(mut open_driver) = host.take(alloc) else {
         return codes::CLOSED;
     };
-    let what = held.takes(address, bytes);
-    *host = Handle::of(held);
-    what
+    let code = open_driver.store_data(address, bytes);
+    *host = Handle::of(open_driver);
+    code
 }
 
 /// What the controller answered to the last question about it.
@@ -158,11 +170,11 @@ pub extern "C" fn nvmehost_controller(alloc: Global, host: &mut Handle) -> Contr
     ensures controller { result ≡ controller_in host.old.slot.value }
     ensures kept { host.new.slot.value ≡ host.old.slot.value }
 {
-    let Some(held) = host.take(alloc) else {
+    let Some(open_driver) = host.take(alloc) else {
         return Controller::without(codes::CLOSED);
     };
-    let controller = Controller::of(held.known.controller);
-    *host = Handle::of(held);
+    let controller = Controller::of(open_driver.facts.controller);
+    *host = Handle::of(open_driver);
     controller
 }
 
@@ -172,10 +184,10 @@ pub extern "C" fn nvmehost_namespace(alloc: Global, host: &mut Handle, nsid: u32
     ensures namespace { result ≡ namespace_in host.old.slot.value nsid }
     ensures kept { host.new.slot.value ≡ host.old.slot.value }
 {
-    let Some(held) = host.take(alloc) else {
+    let Some(open_driver) = host.take(alloc) else {
         return Namespace::without(codes::CLOSED);
     };
-    let namespace = Namespace::of(held.known.namespace(nsid));
-    *host = Handle::of(held);
+    let namespace = Namespace::of(open_driver.facts.namespace(nsid));
+    *host = Handle::of(open_driver);
     namespace
 }

@@ -11,11 +11,11 @@ ghost use Rattle.nvme_driver.specs.declared.request.Request.TheVariants.{
   Identify,
 };
 ghost use Rattle.nvme_host.specs.Exports.{Places, Asks, moving, sending, zeroing};
-ghost use Rattle.nvme_host.specs.Gates.{gate_of, stopped_by};
+ghost use Rattle.nvme_host.specs.Refusals.{request_refusal, stopped_by};
 
 use crate::codes;
-use crate::got::Placed;
 use crate::handle::Handle;
+use crate::outcome::Placed;
 use nvme_device::Span;
 use nvme_driver::Request;
 use nvme_spec::Command;
@@ -30,7 +30,7 @@ pub extern "C" fn nvmehost_read(
     slba: u64,
     blocks: u32,
 ) -> Placed
-    ensures { Places (λ h. gate_of h nsid command.Read (moving slba blocks)) (Read nsid slba blocks)
+    ensures { Places (λ h. request_refusal h nsid command.Read (moving slba blocks)) (Read nsid slba blocks)
         host.old.slot.value result host.new.slot.value }
 {
     let blocks_u64 = u64::from(blocks);
@@ -52,7 +52,7 @@ pub extern "C" fn nvmehost_write(
     slba: u64,
     bytes: &[u8],
 ) -> Placed
-    ensures { Places (λ h. gate_of h nsid command.Write (sending slba (length bytes.now)))
+    ensures { Places (λ h. request_refusal h nsid command.Write (sending slba (length bytes.now)))
         (Write nsid slba bytes.entry) host.old.slot.value result host.new.slot.value }
 {
     let span = sent(slba, bytes);
@@ -69,7 +69,7 @@ pub extern "C" fn nvmehost_compare(
     slba: u64,
     bytes: &[u8],
 ) -> Placed
-    ensures { Places (λ h. gate_of h nsid command.Compare (sending slba (length bytes.now)))
+    ensures { Places (λ h. request_refusal h nsid command.Compare (sending slba (length bytes.now)))
         (Compare nsid slba bytes.entry) host.old.slot.value result host.new.slot.value }
 {
     let span = sent(slba, bytes);
@@ -86,8 +86,8 @@ pub extern "C" fn nvmehost_write_zeroes(
     slba: u64,
     blocks: u32,
 ) -> Placed
-    ensures { Places (λ h. gate_of h nsid command.WriteZeroes (zeroing slba blocks)) (WriteZeroes nsid slba blocks)
-        host.old.slot.value result host.new.slot.value }
+    ensures { Places (λ h. request_refusal h nsid command.WriteZeroes (zeroing slba blocks))
+        (WriteZeroes nsid slba blocks) host.old.slot.value result host.new.slot.value }
 {
     let span = Span {
         slba,
@@ -101,7 +101,7 @@ pub extern "C" fn nvmehost_write_zeroes(
 /// Places a Flush.
 #[unsafe(no_mangle)]
 pub extern "C" fn nvmehost_flush(alloc: Global, host: &mut Handle, nsid: u32) -> Placed
-    ensures { Places (λ h. gate_of h nsid command.Flush (zeroing 0 0)) (Flush nsid)
+    ensures { Places (λ h. request_refusal h nsid command.Flush (zeroing 0 0)) (Flush nsid)
         host.old.slot.value result host.new.slot.value }
 {
     let span = Span {
@@ -124,11 +124,11 @@ pub extern "C" fn nvmehost_flush(alloc: Global, host: &mut Handle, nsid: u32) ->
 pub extern "C" fn nvmehost_identify(alloc: Global, host: &mut Handle, cns: u8, nsid: u32) -> Placed
     ensures { Places stopped_by (Identify cns nsid) host.old.slot.value result host.new.slot.value }
 {
-    let Some(mut held) = host.take(alloc) else {
+    let Some(mut open_driver) = host.take(alloc) else {
         return Placed::refused(codes::CLOSED);
     };
-    let placed = held.identify(cns, nsid);
-    *host = Handle::of(held);
+    let placed = open_driver.identify(cns, nsid);
+    *host = Handle::of(open_driver);
     placed
 }
 
@@ -138,11 +138,11 @@ pub extern "C" fn nvmehost_identify(alloc: Global, host: &mut Handle, cns: u8, n
 pub extern "C" fn nvmehost_ask(alloc: Global, host: &mut Handle, nsid: u32) -> Placed
     ensures { Asks nsid host.old.slot.value result host.new.slot.value }
 {
-    let Some(mut held) = host.take(alloc) else {
+    let Some(mut open_driver) = host.take(alloc) else {
         return Placed::refused(codes::CLOSED);
     };
-    let placed = held.ask(nsid);
-    *host = Handle::of(held);
+    let placed = open_driver.ask(nsid);
+    *host = Handle::of(open_driver);
     placed
 }
 
@@ -168,13 +168,14 @@ fn place(
     command: Command,
     span: Span,
 ) -> Placed
-    ensures { Places (λ h. gate_of h nsid command span) request.entry host.old.slot.value result host.new.slot.value }
+    ensures { Places (λ h. request_refusal h nsid command span) request.entry
+        host.old.slot.value result host.new.slot.value }
 {
-    let Some(mut held) = host.take(alloc) else {
+    let Some(mut open_driver) = host.take(alloc) else {
         return Placed::refused(codes::CLOSED);
     };
-    let refusal = held.gate(nsid, command, span);
-    let placed = held.place(refusal, &request);
-    *host = Handle::of(held);
+    let refusal = open_driver.request_refusal(nsid, command, span);
+    let placed = open_driver.place(refusal, &request);
+    *host = Handle::of(open_driver);
     placed
 }

@@ -3,7 +3,7 @@
 ghost use Rattle.std.specs.Prelude.{◌≡◌, Option, Some, None, true, is_some};
 ghost use Rattle.nvme_host.specs.Holding.{Inside, holds};
 
-use crate::held::Held;
+use crate::open_driver::OpenDriver;
 use box_pointer::BoxPointer;
 use std::alloc::Global;
 use std::marker::Model;
@@ -24,7 +24,7 @@ impl Model for Slot {
 
 impl Slot {
     /// The address of this one.
-    pub(crate) fn of(pointer: BoxPointer<Held, Global>) -> Slot
+    pub(crate) fn of(pointer: BoxPointer<OpenDriver, Global>) -> Slot
         ensures { result.value ≡ Some pointer.value }
     {
         let BoxPointer { at, alloc } = pointer;
@@ -35,13 +35,13 @@ impl Slot {
     }
 
     /// The driver's pointer.
-    pub(crate) fn into_pointer(self) -> BoxPointer<Held, Global>
+    pub(crate) fn into_pointer(self) -> BoxPointer<OpenDriver, Global>
         requires { is_some self.value ≡ true }
         ensures { self.value ≡ Some result.value }
     {
         let Slot { at, alloc } = self;
         BoxPointer {
-            at: at as *mut Held,
+            at: at as *mut OpenDriver,
             alloc,
         }
     }

@@ -6,7 +6,7 @@ from pathlib import Path
 from support.library.building import call, proved_archive, whole_object
 
 CRATE = "nvme_host"
-# The C that a program compiles with the library: the player of acts, and VFIO.
+# The C that a program compiles with the library: the port, and VFIO.
 SOURCES = ("port.c", "port.h", "snapshot.h", "vfio.c", "vfio.h")
 PROGRAM = ("nvmehost.c", "port.c", "vfio.c")
 FLAGS = ["-std=c11", "-D_GNU_SOURCE", "-O2", "-Wall", "-Wextra", "-Werror"]

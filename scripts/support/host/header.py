@@ -8,13 +8,14 @@ TYPES = {
     "Global": [], "&mut Handle": ["struct nvmehost *"], "u8": ["uint8_t"], "u16": ["uint16_t"], "u32": ["uint32_t"],
     "u64": ["uint64_t"], "usize": ["size_t"], "()": ["void"], "&[u8]": ["const uint8_t *", "size_t"],
     "&mut [u8]": ["uint8_t *", "size_t"], "&[u8; 16]": ["const uint8_t"],
-    "&mut [Act]": ["struct nvmehost_act *", "size_t"], "Got": ["struct nvmehost_got"],
-    "Placed": ["struct nvmehost_placed"], "Limits": ["struct nvmehost_limits"], "Next": ["struct nvmehost_next"],
-    "Data": ["struct nvmehost_data"], "Controller": ["struct nvmehost_controller"],
-    "Namespace": ["struct nvmehost_namespace"],
+    "&mut [Action]": ["struct nvmehost_action *", "size_t"], "Outcome": ["struct nvmehost_outcome"],
+    "Placed": ["struct nvmehost_placed"], "Limits": ["struct nvmehost_limits"],
+    "NextCompletion": ["struct nvmehost_next_completion"], "CompletionData": ["struct nvmehost_completion_data"],
+    "Controller": ["struct nvmehost_controller"], "Namespace": ["struct nvmehost_namespace"],
 }
-STRUCTS = {"Act": "act", "Got": "got", "Placed": "placed", "Limits": "limits", "Next": "next", "Data": "data",
-           "Controller": "controller", "Namespace": "namespace"}
+STRUCTS = {"Action": "action", "Outcome": "outcome", "Placed": "placed", "Limits": "limits",
+           "NextCompletion": "next_completion", "CompletionData": "completion_data", "Controller": "controller",
+           "Namespace": "namespace"}
 DECLARED = re.compile(r"^((?:struct )?\w+) (nvmehost_\w+)\(([^)]*)\);", re.M)
 
 

@@ -1,0 +1,85 @@
+-- What a driver knows of its controller and of the namespaces: the last answers of Identify (Base Specification:
+-- Identify command).
+use Rattle.std.specs.Prelude.{
+  ℕ,
+  ◌==◌,
+  nat_le,
+  Bool,
+  false,
+  ◌&&◌,
+  if◌then◌else◌,
+  List,
+  replicate,
+  slice_get,
+  slice_set,
+  Option,
+  None,
+  Some,
+  Result,
+}
+use Rattle.std.specs.Option.{option_flatten}
+use Rattle.nvme_spec.specs.declared.command.Command.{Command}
+use Rattle.nvme_device.specs.declared.admission.Admission.{Admission}
+use Rattle.nvme_device.specs.declared.admission.Span.{Span}
+use Rattle.nvme_device.specs.declared.namespace.NamespaceFacts.{NamespaceFacts}
+use Rattle.nvme_device.specs.declared.namespace.NamespaceFault.{NamespaceFault}
+use Rattle.nvme_device.specs.Admissions.{admission_of}
+use Rattle.nvme_device.specs.Controllers.{judged_controller}
+use Rattle.nvme_device.specs.Namespaces.{judged_namespace}
+use Rattle.nvme_host.specs.declared.outcome.Outcome.{Outcome}
+use Rattle.nvme_host.specs.declared.outcome.Placed.{Placed}
+use Rattle.nvme_host.specs.declared.facts.DeviceFacts.{DeviceFacts}
+use Rattle.nvme_host.specs.declared.facts.Question.{Question}
+
+-- namespaces have a place by their identifiers, up to this one
+abbrev pub highest_nsid : ℕ
+highest_nsid = 64
+
+abbrev pub no_facts : DeviceFacts
+no_facts = record { controller = None; namespaces = replicate 65 None; asked = None }
+
+abbrev pub namespace_facts : DeviceFacts → ℕ → Option (Result NamespaceFacts NamespaceFault)
+namespace_facts facts nsid = option_flatten (slice_get facts.namespaces nsid)
+
+-- the verdict on a request on a namespace
+abbrev pub admission_on : DeviceFacts → ℕ → Command → Span → Admission
+admission_on facts nsid command span = admission_of facts.controller (namespace_facts facts nsid) command span
+
+-- a question is placed: what was known is no longer
+abbrev pub forgotten : DeviceFacts → ℕ → DeviceFacts
+forgotten facts nsid =
+    if nsid == 0 then record facts { controller = None }
+    else (if nat_le nsid highest_nsid
+    then record facts { namespaces = slice_set facts.namespaces nsid None }
+    else facts)
+
+abbrev pub asked : DeviceFacts → ℕ → ℕ → DeviceFacts
+asked facts number nsid =
+    record (forgotten facts nsid) { asked = Some (record { ticket = number; nsid = nsid }) }
+
+abbrev pub with_question : DeviceFacts → Placed → ℕ → DeviceFacts
+with_question facts outcome nsid = if outcome.code == 0 then asked facts outcome.ticket nsid else facts
+
+-- the result of a poll is the answer to the question
+abbrev pub is_answered : Option Question → Outcome → Bool
+is_answered None outcome = false
+is_answered (Some q) outcome = (outcome.code == 1) && (outcome.ticket == q.ticket)
+
+-- the answer to a question about the controller, 0, or about a namespace has these bytes
+abbrev pub with_answer : DeviceFacts → ℕ → List ℕ → DeviceFacts
+with_answer facts nsid bytes =
+    if nsid == 0 then record facts { controller = Some (judged_controller bytes) }
+    else (if nat_le nsid highest_nsid
+    then record facts { namespaces = slice_set facts.namespaces nsid (Some (judged_namespace bytes)) }
+    else facts)
+
+-- The last question was answered. Its data are at the front of the buffer, unless it failed.
+abbrev pub answered_by : DeviceFacts → Option Question → Outcome → List ℕ → DeviceFacts
+answered_by facts None outcome bytes = facts
+answered_by facts (Some q) outcome bytes =
+    if outcome.len == 4096 then with_answer
+    (record facts { asked = None }) q.nsid bytes else record facts { asked = None }
+
+abbrev pub learned : DeviceFacts → Outcome → List ℕ → DeviceFacts
+learned facts outcome bytes =
+    if is_answered facts.asked outcome then answered_by facts facts.asked outcome bytes else facts
