@@ -11,5 +11,5 @@ placing_records_its_stores old new request empty p =
     let add : Action → List Action → List Action = λ action actions. recorded actions action in (
       p.0,
       ap (λ (q : RecordingPort). q.actions.items) c.2.2.2
-          ∙ (c.2.2.1.0 ∙ ap (add _) (c.2.1.0 ∙ ap (add _) (c.1.0 ∙ ap (add _) empty))),
+          ∙ (c.2.2.1.actions ∙ ap (add _) (c.2.1.actions ∙ ap (add _) (c.1.actions ∙ ap (add _) empty))),
     )

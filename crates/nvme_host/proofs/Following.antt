@@ -23,8 +23,13 @@ use Rattle.std.proofs.Common.{
   ap,
   subst,
   ◌∙◌,
+  ◌≤◌,
+  ◌<◌,
+  length,
+  ⊎_elim,
 }
 use Rattle.std.specs.Prelude.{OnOk, OnErr, MatchOption, if◌then◌else◌}
+use Rattle.std.proofs.lemmas.Bool.{cases_lt}
 use Rattle.nvme_wire.specs.declared.sqe.fields.SqeFields.{SqeFields}
 use Rattle.nvme_wire.specs.declared.status.Status.{Status}
 use Rattle.nvme_spec.specs.Queues.{CompletionHead, after_consumption}
@@ -36,6 +41,7 @@ use Rattle.nvme_driver.specs.declared.found.Found.{Found}
 use Rattle.nvme_driver.specs.declared.lane.Lane.{Lane}
 use Rattle.nvme_driver.specs.declared.lane.Lane.TheVariants.{Admin, Io}
 use Rattle.nvme_driver.specs.declared.request.Request.{Request}
+use Rattle.nvme_driver.specs.declared.request.Request.TheVariants.{Identify}
 use Rattle.nvme_driver.specs.declared.slots.Waiting.{Waiting}
 use Rattle.nvme_driver.specs.declared.ticket.Ticket.{Ticket}
 use Rattle.nvme_driver.specs.Calls.{Writes, Calls, Awaits}
@@ -61,6 +67,7 @@ use Rattle.nvme_host.specs.declared.outcome.Outcome.{Outcome}
 use Rattle.nvme_host.specs.declared.outcome.Placed.{Placed}
 use Rattle.nvme_host.specs.declared.open_driver.OpenDriver.{OpenDriver}
 use Rattle.nvme_host.specs.declared.completions.CompletionData.{CompletionData}
+use Rattle.nvme_host.specs.declared.recording_port.Action.{Action}
 use Rattle.nvme_host.specs.declared.recording_port.RecordingPort.{RecordingPort}
 use Rattle.nvme_host.specs.Doorbells.{initial_doorbells, head_of_lane}
 use Rattle.nvme_host.specs.Calls.{
@@ -73,14 +80,16 @@ use Rattle.nvme_host.specs.Calls.{
   DriverBringsUp,
   BringingUpUnless,
   CheckingStatusBy,
+  TakingActions,
 }
-use Rattle.nvme_host.specs.Refusals.{blocked_by, stopped_by, bring_up_refusal}
+use Rattle.nvme_host.specs.Refusals.{blocked_by, stopped_by, bring_up_refusal, request_refusal}
 use Rattle.nvme_host.specs.Completions.{StoringCompletion, StoringCompletionUnless, StoringDataUnless}
 use Rattle.nvme_host.specs.Recording.{Records}
 use Rattle.nvme_host.specs.Stages.{awaited_in}
 use Rattle.nvme_host.specs.Runs.{
   Use,
   Places,
+  Identifies,
   Asks,
   Polls,
   Rings,
@@ -93,6 +102,7 @@ use Rattle.nvme_host.specs.Runs.{
   StoresCompletion,
   StoresData,
   TakesActions,
+  Tickets,
   Used,
   Uses,
   LooksWhereTheDriverLooks,
@@ -154,7 +164,7 @@ is_placed : (old new : OpenDriver) (request : Request)
 is_placed old new request p f =
     let calls = p.3 in
     let doorbells : new.port.doorbells ≡ old.port.doorbells =
-    port_bells calls.2.2.0 new.port calls.2.2.2 ∙ (calls.2.2.1.2 ∙ (calls.2.1.2 ∙ calls.1.2)) in
+    port_bells calls.2.2.0 new.port calls.2.2.2 ∙ (calls.2.2.1.doorbells ∙ (calls.2.1.doorbells ∙ calls.1.doorbells)) in
     let same : SameEnds old.driver new.driver =
     subst (λ (d : Driver). SameEnds old.driver d) (sym p.2) (put_ends_same (lane_of request) old.driver _ _) in
     carried old.driver new.driver old.port.doorbells new.port.doorbells same
@@ -189,13 +199,13 @@ on_answer d window lane entry None old new c f =
     (record { admin = refl; io = refl })
     (same_heads old.doorbells new.doorbells (port_bells old new c)) f
 on_answer d window Admin entry (Some w) old new c f =
-    let doorbells = port_bells c.0 new c.2 ∙ c.1.2 in
+    let doorbells = port_bells c.0 new c.2 ∙ c.1.doorbells in
     record {
       admin = ap (λ (x : Doorbells). x.admin_head) doorbells ∙ ap (λ (h : CompletionHead). after_consumption h) f.admin;
       io = ap (λ (x : Doorbells). x.io_head) doorbells ∙ f.io;
     }
 on_answer d window Io entry (Some w) old new c f =
-    let doorbells = port_bells c.0 new c.2 ∙ c.1.2 in
+    let doorbells = port_bells c.0 new c.2 ∙ c.1.doorbells in
     record {
       admin = ap (λ (x : Doorbells). x.admin_head) doorbells ∙ f.admin;
       io = ap (λ (x : Doorbells). x.io_head) doorbells ∙ ap (λ (h : CompletionHead). after_consumption h) f.io;
@@ -241,8 +251,12 @@ rings : (b : Bool) (d : Driver) (old new : RecordingPort)
     → SameHeads old.doorbells new.doorbells
 rings true d old new c =
     joined old.doorbells c.0.doorbells new.doorbells
-    (record { admin = ap (λ (x : Doorbells). x.admin_head) c.1.2; io = ap (λ (x : Doorbells). x.io_head) c.1.2 })
-    (let doorbells = port_bells c.2.0 new c.2.2 ∙ c.2.1.2 in
+    (record {
+      admin = ap (λ (x : Doorbells). x.admin_head) c.1.doorbells;
+      io = ap (λ
+          (x : Doorbells). x.io_head) c.1.doorbells;
+    })
+    (let doorbells = port_bells c.2.0 new c.2.2 ∙ c.2.1.doorbells in
     record { admin = ap (λ (x : Doorbells). x.admin_head) doorbells; io = ap (λ (x : Doorbells). x.io_head) doorbells })
 rings false d old new c = same_heads old.doorbells new.doorbells (port_bells old new c)
 
@@ -258,7 +272,7 @@ resetting : (o : Option ℕ) (old new : OpenDriver) (code : ℕ) → ResettingUn
 resetting (Some reason) old new code r f = unchanged old new r.1 f
 resetting None old new code r f =
     let doorbells : new.port.doorbells ≡ initial_doorbells =
-    r.port.doorbells ∙ (port_bells r.calls.0 r.mid r.calls.2 ∙ r.calls.1.2) in
+    r.port.doorbells ∙ (port_bells r.calls.0 r.mid r.calls.2 ∙ r.calls.1.doorbells) in
     record {
       admin = ap (λ (x : Doorbells). x.admin_head) doorbells ∙ sym (ap (λ (x : Driver). x.admin.head) r.driver);
       io = ap (λ (x : Doorbells). x.io_head) doorbells ∙ sym (ap (λ (x : Driver). x.io.head) r.driver);
@@ -268,7 +282,7 @@ shutting : (o : Option ℕ) (old new : OpenDriver) (code : ℕ) → ShuttingUnle
     → FollowsIn new
 shutting (Some reason) old new code r f = unchanged old new r.1 f
 shutting None old new code r f =
-    kept old new r.driver (port_bells r.calls.0 new.port r.calls.2 ∙ r.calls.1.2) f
+    kept old new r.driver (port_bells r.calls.0 new.port r.calls.2 ∙ r.calls.1.doorbells) f
 
 -- a bring-up
 found_same : (o : Option (List ℕ)) (look : RecordingPort → Option (List ℕ)) (n : ℕ) (mid new : RecordingPort)
@@ -284,7 +298,7 @@ awaits_same : (look : RecordingPort → Option (List ℕ)) (n : ℕ) (old new : 
 unfolding Awaits
 awaits_same look zero old new answer a = same_heads old.doorbells new.doorbells (port_bells old new a.1)
 awaits_same look (suc n) old new answer (mid, turn, next) =
-    joined old.doorbells mid.doorbells new.doorbells (same_heads old.doorbells mid.doorbells turn.1)
+    joined old.doorbells mid.doorbells new.doorbells (same_heads old.doorbells mid.doorbells turn.doorbells)
     (found_same (look mid) look n mid new answer (awaits_same look n mid new answer) next)
 
 hears_follow : (d d' : Driver) (answer : Option (List ℕ)) (old new : RecordingPort) (result : Option Status)
@@ -293,7 +307,7 @@ hears_follow d d' None old new result h f =
     carried d d' old.doorbells new.doorbells (same_ends d d' h.1) (same_heads old.doorbells new.doorbells
     (port_bells old new h.2)) f
 hears_follow d d' (Some entry) old new result h f =
-    let c = h.2 in let doorbells = port_bells c.0 new c.2 ∙ c.1.2 in
+    let c = h.2 in let doorbells = port_bells c.0 new c.2 ∙ c.1.doorbells in
     record {
       admin = ap (λ (x : Doorbells). x.admin_head) doorbells
           ∙ (ap (λ (x : CompletionHead). after_consumption x) f.admin ∙ sym (ap (λ (x : Driver). x.admin.head) h.1));
@@ -304,13 +318,14 @@ creates_follow : (command : SqeFields) (d d' : Driver) (old new : RecordingPort)
     → Creates Records (λ p. p.window) command d old result d' new → Follows d old.doorbells → Follows d' new.doorbells
 unfolding Creates
 creates_follow command d d' old new result (rung, answer, seen, sends, awaits, hears) f =
-    let doorbells = port_bells sends.2.0 rung sends.2.2 ∙ sends.2.1.2 in
+    let doorbells = port_bells sends.2.0 rung sends.2.2 ∙ sends.2.1.doorbells in
     let put : SameHeads sends.0.doorbells rung.doorbells = record {
       admin = ap (λ (x : Doorbells). x.admin_head) doorbells;
       io = ap (λ (x : Doorbells). x.io_head) doorbells;
     } in
     let one : SameHeads old.doorbells rung.doorbells =
-    joined old.doorbells sends.0.doorbells rung.doorbells (same_heads old.doorbells sends.0.doorbells sends.1.2) put in
+    joined old.doorbells sends.0.doorbells rung.doorbells
+    (same_heads old.doorbells sends.0.doorbells sends.1.doorbells) put in
     let two = awaits_same (λ p. own_answer (sent d).admin p.window) 4 rung seen answer awaits in
     let both : SameHeads old.doorbells seen.doorbells = joined old.doorbells rung.doorbells seen.doorbells one two in
     hears_follow (sent d) d' answer seen new result hears
@@ -351,9 +366,10 @@ starts_empty : (value : ℕ) (old on : RecordingPort) → Calls Records old (sta
     → on.doorbells ≡ initial_doorbells
 starts_empty value old on c =
     port_bells c.2.2.2.2.2.2.2.2.2.2.2.0 on c.2.2.2.2.2.2.2.2.2.2.2.2
-    ∙ (c.2.2.2.2.2.2.2.2.2.2.2.1.2 ∙ (c.2.2.2.2.2.2.2.2.2.2.1.2 ∙ (c.2.2.2.2.2.2.2.2.2.1.2 ∙
-    (c.2.2.2.2.2.2.2.2.1.2 ∙ (c.2.2.2.2.2.2.2.1.2 ∙ (c.2.2.2.2.2.2.1.2 ∙ (c.2.2.2.2.2.1.2 ∙ (c.2.2.2.2.1.2 ∙
-    (c.2.2.2.1.2 ∙ (c.2.2.1.2 ∙ (c.2.1.2 ∙ c.1.2)))))))))))
+    ∙ (c.2.2.2.2.2.2.2.2.2.2.2.1.1.doorbells ∙ (c.2.2.2.2.2.2.2.2.2.2.1.doorbells ∙ (c.2.2.2.2.2.2.2.2.2.1.doorbells ∙
+    (c.2.2.2.2.2.2.2.2.1.doorbells ∙ (c.2.2.2.2.2.2.2.1.doorbells ∙ (c.2.2.2.2.2.2.1.doorbells ∙
+    (c.2.2.2.2.2.1.doorbells ∙ (c.2.2.2.2.1.doorbells ∙
+    (c.2.2.2.1.doorbells ∙ (c.2.2.1.doorbells ∙ (c.2.1.doorbells ∙ c.1.doorbells)))))))))))
 
 rises_follow : (d d' : Driver) (old new : RecordingPort) (result : Result (Unit {0}) UpFault)
     → Rises Records (λ p. p.window) d old result d' new → Follows d' new.doorbells
@@ -366,16 +382,16 @@ rises_follow d d' old new result (value, on, calls, both) =
 bring_up : (b : Bool) (old new : OpenDriver) (result : Result (Unit {0}) UpFault) → is_down old.driver.state ≡ b
     → DriverBringsUp old result new → FollowsIn old → FollowsIn new
 bring_up true old new result down r f =
-    rises_follow old.driver new.driver r.start new.port result (r.bring_up_driver down)
+    rises_follow old.driver new.driver r.start new.port result (r.rises down)
 bring_up false old new result down r f =
     let same = r.already down in
-    kept old new same.1 (port_bells r.start new.port same.2 ∙ r.doorbells) f
+    kept old new same.1 (port_bells r.start new.port same.2 ∙ r.begun.doorbells) f
 
 bringing : (o : Option ℕ) (old new : OpenDriver) (outcome : Outcome) → BringingUpUnless o old outcome new
     → FollowsIn old → FollowsIn new
 bringing (Some code) old new outcome b f = unchanged old new b.1 f
 bringing None old new outcome b f =
-    kept b.mid new b.driver b.doorbells (bring_up (is_down old.driver.state) old b.mid b.result refl b.bring_up f)
+    kept b.mid new b.driver b.port.doorbells (bring_up (is_down old.driver.state) old b.mid b.result refl b.bring_up f)
 
 -- what the device shows
 watching : (a : Option Awaited) (c : Option Capabilities) (old new : OpenDriver) (csts elapsed_ms code : ℕ)
@@ -404,11 +420,22 @@ taking (Some reason) old new at part code t f = unchanged old new t.1 f
 taking None old new at part code t f =
     kept old new (ap (λ (h : OpenDriver). h.driver) t.kept) (ap (λ (p : RecordingPort). p.doorbells) t.port) f
 
-follows : (call : Use) (old : OpenDriver) (tickets : List ℕ) (new : OpenDriver) → Used call old tickets new
+taken_bells : (old new : OpenDriver) (before : List Action) (count : ℕ) (after : List Action)
+    → TakingActions old before count after new → new.port.doorbells ≡ old.port.doorbells
+taken_bells old new before count after t =
+    ⊎_elim {C = new.port.doorbells ≡ old.port.doorbells}
+    (λ (short : length before < length old.port.actions.items). (t.refused short).2.doorbells)
+    (λ (fits : length old.port.actions.items ≤ length before). (t.taken fits).3.doorbells)
+    (cases_lt (length before) (length old.port.actions.items))
+
+follows : (call : Use) (old : OpenDriver) (tickets : Tickets) (new : OpenDriver) → Used call old tickets new
     → FollowsIn old
     → FollowsIn new
-follows (Places refusal request) old tickets new u f = placing refusal old new request u.0.0 u.0.1 f
-follows (Asks nsid) old tickets new u f = asking (nat_lt 64 nsid) old new nsid u.0.0 u.0.1 f
+follows (Places nsid command span request) old tickets new u f =
+    placing (request_refusal old nsid command span) old new request u.0 u.1 f
+follows (Identifies cns nsid) old tickets new u f =
+    placing (stopped_by old) old new (Identify cns nsid) u.0 u.1 f
+follows (Asks nsid) old tickets new u f = asking (nat_lt 64 nsid) old new nsid u.0 u.1 f
 follows Polls old tickets new u f = polling (blocked_by old) old new u.0 u.2 u.1 u.3 f
 follows Rings old tickets new u f = ringing (stopped_by old) old new u.0.0 u.0.1 f
 follows Resets old tickets new u f = resetting (blocked_by old) old new u.0.0 u.0.1 f
@@ -418,24 +445,25 @@ follows (Judges cap) old tickets new u f =
     kept old new (ap (λ (h : OpenDriver). h.driver) u.0.1.kept) (ap (λ (p : RecordingPort). p.doorbells) u.0.1.port) f
 follows (ChecksStatus csts elapsed_ms) old tickets new u f =
     watching (awaited_in old.stage) old.capabilities old new csts elapsed_ms u.0.0 u.0.1 f
-follows ReportsCompletion old tickets new u f =
+follows (ReportsCompletion bytes) old tickets new u f =
     kept old new (ap (λ (h : OpenDriver). h.driver) u.0.1.kept) u.0.1.port.doorbells f
 follows (StoresCompletion lane entry) old tickets new u f = seeing lane old new entry u.0.0 u.0.1 f
 follows (StoresData at part) old tickets new u f = taking (blocked_by old) old new at part u.0.0 u.0.1 f
-follows TakesActions old tickets new u f = kept old new u.0.3.driver u.0.3.doorbells f
+follows TakesActions old tickets new u f =
+    kept old new (ap (λ (h : OpenDriver). h.driver) u.0.3.kept) (taken_bells old new u.0.0 u.0.1 u.0.2 u.0.3) f
 
-follow : (uses : List Use) (old : OpenDriver) (tickets : List ℕ) (new : OpenDriver) → Uses uses old tickets new
+follow : (uses : List Use) (old : OpenDriver) (tickets : Tickets) (new : OpenDriver) → Uses uses old tickets new
     → FollowsIn old
     → FollowsIn new
 follow [] old tickets new u f = unchanged old new u.1 f
 follow (call ∷ later) old tickets new u f = follow later u.0 u.2 new u.5 (follows call old u.1 u.0 u.3 f)
 
 pub looks_where_the_driver_looks : LooksWhereTheDriverLooks
-looks_where_the_driver_looks first uses tickets old new begins u =
+looks_where_the_driver_looks bytes first uses tickets old new begins u =
     let f : FollowsIn new = follow uses old tickets new u (record {
-      admin = ap (λ (b : Doorbells). b.admin_head) begins.doorbells
+      admin = ap (λ (b : Doorbells). b.admin_head) begins.port.doorbells
           ∙ sym (ap (λ (d : Driver). d.admin.head) begins.driver);
-      io = ap (λ (b : Doorbells). b.io_head) begins.doorbells ∙ sym (ap (λ (d : Driver). d.io.head) begins.driver);
+      io = ap (λ (b : Doorbells). b.io_head) begins.port.doorbells ∙ sym (ap (λ (d : Driver). d.io.head) begins.driver);
     }) in
     by_lane f
   where

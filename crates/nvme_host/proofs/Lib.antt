@@ -1,5 +1,9 @@
 pub mod Values
 pub mod Snapshots
-pub mod Once
+pub mod Counts
+pub mod Tickets
 pub mod Following
 pub mod Actions
+pub mod Recorded
+pub mod Determined
+pub mod RunExamples

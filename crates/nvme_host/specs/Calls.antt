@@ -25,11 +25,16 @@ use Rattle.std.specs.Prelude.{
   Err,
   OnOk,
   OnErr,
+  IfOk,
   IfErr,
+  replicate,
 }
 use Rattle.nvme_device.specs.declared.capabilities.Capabilities.{Capabilities}
 use Rattle.nvme_device.specs.declared.capabilities.CapabilityFault.{CapabilityFault}
 use Rattle.nvme_device.specs.declared.status.Awaited.{Awaited}
+use Rattle.nvme_device.specs.declared.status.Awaited.TheVariants.{Ready}
+use Rattle.nvme_device.specs.declared.status.Progress.{Progress}
+use Rattle.nvme_device.specs.declared.status.Progress.TheVariants.{Reached}
 use Rattle.nvme_device.specs.Capabilities.{judged_capabilities}
 use Rattle.nvme_device.specs.Status.{progress_of}
 use Rattle.nvme_driver.specs.declared.answer.Answer.{Answer}
@@ -61,23 +66,32 @@ use Rattle.nvme_host.specs.declared.outcome.Placed.{Placed}
 use Rattle.nvme_host.specs.declared.open_driver.OpenDriver.{OpenDriver}
 use Rattle.nvme_host.specs.declared.recording_port.Action.{Action}
 use Rattle.nvme_host.specs.declared.recording_port.RecordingPort.{RecordingPort}
+use Rattle.nvme_host.specs.declared.recording_port.Report.{Report}
 use Rattle.nvme_host.specs.declared.recording_port.Need.{Need}
 use Rattle.nvme_host.specs.declared.recording_port.Need.TheVariants.{Nothing, Status, Completion}
 use Rattle.nvme_host.specs.declared.stage.Stage.{Stage}
 use Rattle.nvme_host.specs.declared.stage.Stage.TheVariants as at
 use Rattle.nvme_host.specs.Outcomes.{with_code, outcome_of, bring_up_outcome, refused, placed_of}
-use Rattle.nvme_host.specs.Doorbells.{initial_doorbells}
 use Rattle.nvme_host.specs.Devices.{limits_of}
 use Rattle.nvme_host.specs.Refusals.{blocked_by, stopped_by, bring_up_refusal}
 use Rattle.nvme_host.specs.Facts.{no_facts, learned, with_question}
-use Rattle.nvme_host.specs.Recording.{Records}
+use Rattle.nvme_host.specs.Recording.{
+  Records,
+  IsSamePort,
+  new_port,
+  with_actions,
+  with_reports,
+  more_reports,
+  without_reports,
+  rewound,
+  left_out,
+}
 use Rattle.nvme_host.specs.Stages.{awaited_in, after_progress, progress_code}
 
 -- a driver that is down, of whose device nothing is known
-pub record IsNew (first : ℕ) (h : OpenDriver) : Type 0 where
+pub record IsNew (bytes : List ℕ) (first : ℕ) (h : OpenDriver) : Type 0 where
   pub driver : h.driver ≡ new_driver first
-  pub actions : h.port.actions.items ≡ []
-  pub doorbells : h.port.doorbells ≡ initial_doorbells
+  pub port : IsSamePort (new_port bytes) h.port
   pub stage : h.stage ≡ at.Unknown
   pub capabilities : h.capabilities ≡ None
   pub facts : h.facts ≡ no_facts
@@ -106,6 +120,8 @@ pub record PlacedBy (old : OpenDriver) (request : Request) (outcome : Placed) (n
   pub gives : outcome ≡ placed_of result
   pub refused : IfErr result (λ refusal. place_refusal old.driver request ≡ Some refusal)
   pub unchanged : OnErr result ((new.driver ≡ old.driver) × (new.port ≡ old.port))
+  pub issued : IfOk result (λ ticket. (place_refusal old.driver request ≡ None)
+      × (ticket ≡ record { 0 = old.driver.next }))
   pub placed : OnOk result (IsPlaced Records old.driver request old.port new.driver new.port)
   pub holds : OnOk result (HoldsItsRequest old.driver old.port.window new.port.window request)
   pub stage : new.stage ≡ old.stage
@@ -152,20 +168,13 @@ RingingUnless None old code new = Rung old code new
 abbrev pub Ringing : OpenDriver → ℕ → OpenDriver → Type 0
 Ringing old code new = RingingUnless (stopped_by old) old code new
 
--- what a port has for its device
-pub record IsSamePort (old new : RecordingPort) : Type 0 where
-  pub actions : new.actions.items ≡ old.actions.items
-  pub window : new.window ≡ old.window
-  pub doorbells : new.doorbells ≡ old.doorbells
-  pub stride : new.stride ≡ old.stride
-
 -- a reset: nothing is known any more, and the controller must be seen disabled
 pub record Reset (old : OpenDriver) (code : ℕ) (new : OpenDriver) : Type 0 where
   pub gives : code ≡ 0
   pub driver : new.driver ≡ after_reset old.driver
   pub mid : RecordingPort
   pub calls : Calls Records old.port reset_calls mid
-  pub port : IsSamePort mid new.port
+  pub port : IsSamePort (without_reports mid) new.port
   pub stage : new.stage ≡ at.Disabling
   pub capabilities : new.capabilities ≡ old.capabilities
   pub facts : new.facts ≡ no_facts
@@ -199,17 +208,12 @@ ShuttingDown old code new = ShuttingUnless (stopped_by old) old code new
 -- the actions are handed out and gone, if there is room for all of them
 pub record TakingActions (old : OpenDriver) (before : List Action) (count : ℕ) (after : List Action)
     (new : OpenDriver) : Type 0 where
-  pub driver : new.driver ≡ old.driver
-  pub window : new.port.window ≡ old.port.window
-  pub doorbells : new.port.doorbells ≡ old.port.doorbells
   pub taken : length old.port.actions.items ≤ length before
-      → (count ≡ length old.port.actions.items) × (take count after ≡ old.port.actions.items) ×
-      (new.port.actions.items ≡ [])
+      → (count ≡ length old.port.actions.items) × (take count after ≡ old.port.actions.items)
+      × (drop count after ≡ drop count before) × IsSamePort (with_actions old.port []) new.port
   pub refused : length before < length old.port.actions.items
-      → (count ≡ 0) × (new.port.actions.items ≡ old.port.actions.items)
-  pub stage : new.stage ≡ old.stage
-  pub capabilities : new.capabilities ≡ old.capabilities
-  pub facts : new.facts ≡ old.facts
+      → (count ≡ 0) × (after ≡ before) × IsSamePort old.port new.port
+  pub kept : new ≡ record old { port = new.port }
 
 -- Controller Capabilities are judged, and kept if they suit the driver
 abbrev pub judged_to : Result Capabilities CapabilityFault → Option Capabilities → Option Capabilities
@@ -226,12 +230,19 @@ pub record Judging (old : OpenDriver) (cap : ℕ) (limits : Limits) (new : OpenD
   pub port : new.port ≡ record old.port { stride = stride_to (judged_capabilities cap) old.port.stride }
   pub kept : new ≡ record old { port = new.port; capabilities = new.capabilities }
 
--- the status is judged by what is awaited and how long it may take
+-- The status is judged by what is awaited and how long it may take. A bring-up reads the status that was ready.
+abbrev pub ready_reports : Awaited → Progress → ℕ → List Report → List Report
+ready_reports Ready Reached csts reports = more_reports reports (record { status = csts; entry = replicate 16 0 })
+ready_reports awaited progress csts reports = reports
+
+abbrev pub reported_ready : Awaited → Progress → ℕ → RecordingPort → RecordingPort
+reported_ready a progress csts p = with_reports p (ready_reports a progress csts p.reports.items)
+
 pub record CheckedStatus (old : OpenDriver) (a : Awaited) (c : Capabilities) (csts elapsed_ms code : ℕ)
     (new : OpenDriver) : Type 0 where
   pub gives : code ≡ progress_code (progress_of a csts elapsed_ms c.timeout_ms)
   pub stage : new.stage ≡ after_progress old.stage (progress_of a csts elapsed_ms c.timeout_ms)
-  pub port : IsSamePort old.port new.port
+  pub port : IsSamePort (reported_ready a (progress_of a csts elapsed_ms c.timeout_ms) csts old.port) new.port
   pub kept : new ≡ record old { port = new.port; stage = new.stage }
 
 abbrev pub CheckingStatusBy : Option Awaited → Option Capabilities → OpenDriver → ℕ → ℕ → ℕ → OpenDriver → Type 0
@@ -249,21 +260,25 @@ abbrev pub report_code : Stage → Need → ℕ
 report_code at.Enabled Completion = 0
 report_code stage need = 33
 
-pub record ReportingCompletion (old : OpenDriver) (code : ℕ) (new : OpenDriver) : Type 0 where
+abbrev pub completion_reports : Stage → Need → List ℕ → List Report → List Report
+completion_reports at.Enabled Completion bytes reports = more_reports reports (record { status = 0; entry = bytes })
+completion_reports stage need bytes reports = reports
+
+abbrev pub reported_completion : Stage → Need → List ℕ → RecordingPort → RecordingPort
+reported_completion stage need bytes p = with_reports p (completion_reports stage need bytes p.reports.items)
+
+pub record ReportingCompletion (old : OpenDriver) (bytes : List ℕ) (code : ℕ) (new : OpenDriver) : Type 0 where
   pub gives : code ≡ report_code old.stage old.port.need
-  pub port : IsSamePort old.port new.port
+  pub port : IsSamePort (reported_completion old.stage old.port.need bytes old.port) new.port
   pub kept : new ≡ record old { port = new.port }
 
 -- A bring-up over what the device reported, from the beginning.
 pub record DriverBringsUp (old : OpenDriver) (result : Result (Unit {0}) UpFault) (new : OpenDriver) : Type 0 where
   pub start : RecordingPort
-  pub empty : start.actions.items ≡ []
-  pub window : start.window ≡ old.port.window
-  pub doorbells : start.doorbells ≡ old.port.doorbells
-  pub stride : start.stride ≡ old.port.stride
+  pub begun : IsSamePort (rewound old.port) start
   pub already : is_down old.driver.state ≡ false
       → (result ≡ Err AlreadyUp) × (new.driver ≡ old.driver) × (new.port ≡ start)
-  pub bring_up_driver : is_down old.driver.state ≡ true
+  pub rises : is_down old.driver.state ≡ true
       → RisesOver Records (λ p. p.window) old.driver start result new.driver new.port
   pub slots : new.driver.slots ≡ old.driver.slots
   pub next : new.driver.next ≡ old.driver.next
@@ -281,16 +296,28 @@ stage_after Nothing result = finished_stage result
 stage_after Status result = at.Enabling
 stage_after Completion result = at.Enabled
 
--- Its actions are those that the earlier steps did not hand out.
+-- Its actions are those that the earlier steps did not hand out. What the device reported is forgotten at the end.
+abbrev pub kept_reports : Need → List Report → List Report
+kept_reports Nothing reports = []
+kept_reports Status reports = reports
+kept_reports Completion reports = reports
+
+abbrev pub kept_count : Need → ℕ → ℕ
+kept_count Nothing count = 0
+kept_count Status count = count
+kept_count Completion count = count
+
+abbrev pub after_step : Need → RecordingPort → RecordingPort
+after_step need p =
+    record (with_reports p (kept_reports need p.reports.items)) { handed_out = kept_count need p.handed_out }
+
 pub record BroughtUp (old : OpenDriver) (outcome : Outcome) (new : OpenDriver) : Type 0 where
   pub result : Result (Unit {0}) UpFault
   pub mid : OpenDriver
   pub bring_up : DriverBringsUp old result mid
   pub gives : outcome ≡ bring_up_outcome mid.port.need result
   pub driver : new.driver ≡ mid.driver
-  pub actions : new.port.actions.items ≡ drop old.port.handed_out mid.port.actions.items
-  pub window : new.port.window ≡ mid.port.window
-  pub doorbells : new.port.doorbells ≡ mid.port.doorbells
+  pub port : IsSamePort (after_step mid.port.need (left_out mid.port old.port.handed_out)) new.port
   pub stage : new.stage ≡ stage_after mid.port.need result
   pub capabilities : new.capabilities ≡ old.capabilities
   pub facts : new.facts ≡ old.facts

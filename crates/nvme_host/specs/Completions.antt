@@ -5,7 +5,6 @@ use Rattle.std.specs.Prelude.{
   ◌<◌,
   ℕ,
   ◌+◌,
-  ◌*◌,
   ◌==◌,
   if◌then◌else◌,
   List,
@@ -18,17 +17,17 @@ use Rattle.std.specs.Prelude.{
 use Rattle.nvme_wire.specs.Completion.{cid, status}
 use Rattle.nvme_spec.specs.Bytes.{with_bytes}
 use Rattle.nvme_spec.specs.Memory.{window_size}
-use Rattle.nvme_spec.specs.Queues.{CompletionHead, slot_of, phase_tag}
+use Rattle.nvme_spec.specs.Queues.{CompletionHead, phase_tag}
 use Rattle.nvme_driver.specs.declared.lane.Lane.{Lane}
 use Rattle.nvme_driver.specs.declared.lane.Lane.TheVariants.{Admin, Io}
 use Rattle.nvme_driver.specs.declared.slots.Waiting.{Waiting}
-use Rattle.nvme_driver.specs.Layout.{completion_queue, data_area}
+use Rattle.nvme_driver.specs.Layout.{data_area}
 use Rattle.nvme_driver.specs.Polls.{waiting_at, live_in, is_success}
 use Rattle.nvme_host.specs.declared.doorbells.Doorbells.{Doorbells}
 use Rattle.nvme_host.specs.declared.open_driver.OpenDriver.{OpenDriver}
 use Rattle.nvme_host.specs.declared.completions.NextCompletion.{NextCompletion}
 use Rattle.nvme_host.specs.declared.completions.CompletionData.{CompletionData}
-use Rattle.nvme_host.specs.Doorbells.{head_of_lane}
+use Rattle.nvme_host.specs.Doorbells.{head_of_lane, next_place}
 use Rattle.nvme_host.specs.Refusals.{blocked_by}
 
 -- the lane (queue pair) with this number
@@ -42,12 +41,6 @@ abbrev pub no_data : ℕ → CompletionData
 no_data code = record { at = 0; len = 0; code = code }
 
 -- the place and the phase tag of the next completion of a lane
-abbrev pub place_by : Lane → CompletionHead → ℕ
-place_by lane head = completion_queue lane + 16 * slot_of head.size head.consumed
-
-abbrev pub next_place : Lane → Doorbells → ℕ
-next_place lane doorbells = place_by lane (head_of_lane lane doorbells)
-
 abbrev pub phase_by : CompletionHead → ℕ
 phase_by head = if phase_tag head.size head.consumed then 1 else 0
 

@@ -1,10 +1,10 @@
 -- The doorbells, as a driver wrote them (Base Specification: Submission Queue Tail Doorbell, Completion Queue Head
 -- Doorbell; Controller Capabilities, DSTRD).
 use Rattle.std.specs.Prelude.{ℕ, ◌+◌, ◌*◌, ◌==◌, Bool, ◌&&◌, if◌then◌else◌}
-use Rattle.nvme_spec.specs.Queues.{CompletionHead, empty_completion_head, after_consumption}
+use Rattle.nvme_spec.specs.Queues.{CompletionHead, empty_completion_head, after_consumption, slot_of}
 use Rattle.nvme_driver.specs.declared.lane.Lane.{Lane}
 use Rattle.nvme_driver.specs.declared.lane.Lane.TheVariants.{Admin, Io}
-use Rattle.nvme_driver.specs.Layout.{completion_entries, tail_doorbell, head_doorbell}
+use Rattle.nvme_driver.specs.Layout.{completion_entries, completion_queue, tail_doorbell, head_doorbell}
 use Rattle.nvme_driver.specs.Drivers.{cc}
 use Rattle.nvme_host.specs.declared.doorbells.Doorbells.{Doorbells}
 
@@ -36,6 +36,13 @@ repeats_tail b offset v =
 abbrev pub head_of_lane : Lane → Doorbells → CompletionHead
 head_of_lane Admin b = b.admin_head
 head_of_lane Io b = b.io_head
+
+-- the place of the next completion of a lane
+abbrev pub place_by : Lane → CompletionHead → ℕ
+place_by lane head = completion_queue lane + 16 * slot_of head.size head.consumed
+
+abbrev pub next_place : Lane → Doorbells → ℕ
+next_place lane doorbells = place_by lane (head_of_lane lane doorbells)
 
 -- the offset of a register if doorbells are this number of bytes apart
 abbrev pub register_at : ℕ → ℕ → ℕ

@@ -1,6 +1,7 @@
 -- The effect of each export on a handle: if a driver is open, it is the call of that name; otherwise nothing happens.
-use Rattle.std.specs.Prelude.{◌≡◌, ℕ, ◌*◌, ◌/◌, true, is_some, List, Option, Some, None}
+use Rattle.std.specs.Prelude.{◌≡◌, ℕ, ◌*◌, ◌/◌, List, Option, Some, None}
 use Rattle.nvme_spec.specs.Limits.{block_size}
+use Rattle.nvme_spec.specs.Memory.{zeros}
 use Rattle.nvme_device.specs.declared.admission.Span.{Span}
 use Rattle.nvme_driver.specs.declared.request.Request.{Request}
 use Rattle.nvme_host.specs.declared.devices.Limits.{Limits}
@@ -26,11 +27,15 @@ use Rattle.nvme_host.specs.Completions.{
   Loads,
 }
 
--- a driver is opened, unless one is open or memory is refused
-pub record Opens (old : Option Inside) (first code : ℕ) (new : Option Inside) : Type 0 where
-  pub opened : code ≡ 0 → (old ≡ None) × ((h : Inside) × (new ≡ Some h) × IsNew first h)
-  pub already : is_some old ≡ true → (code ≡ 17) × (new ≡ old)
-  pub refused : code ≡ 18 → new ≡ old
+-- a driver is opened, unless memory is refused
+abbrev pub OpensInto : ℕ → ℕ → Option Inside → Type 0
+OpensInto first code None = code ≡ 18
+OpensInto first code (Some h) = (code ≡ 0) × IsNew zeros first h
+
+-- or one is open
+abbrev pub Opens : Option Inside → ℕ → ℕ → Option Inside → Type 0
+Opens None first code new = OpensInto first code new
+Opens (Some old) first code new = (code ≡ 17) × (new ≡ Some old)
 
 abbrev pub Polls : Option Inside → List ℕ → Outcome → Option Inside → List ℕ → Type 0
 Polls None before outcome new buffer = (outcome ≡ with_code 16) × (new ≡ None) × (buffer ≡ before)
@@ -64,7 +69,7 @@ Judges cap (Some old) limits None = ⊥
 Judges cap (Some old) limits (Some new) = Judging old cap limits new
 
 abbrev pub TakesActions : Option Inside → List Action → ℕ → List Action → Option Inside → Type 0
-TakesActions None before count after new = (count ≡ 0) × (new ≡ None)
+TakesActions None before count after new = (count ≡ 0) × (after ≡ before) × (new ≡ None)
 TakesActions (Some old) before count after None = ⊥
 TakesActions (Some old) before count after (Some new) = TakingActions old before count after new
 

@@ -2,6 +2,7 @@ pub mod Actions
 pub mod Outcomes
 pub mod Doorbells
 pub mod Calls
+pub mod Determined
 pub mod Devices
 pub mod Exports
 pub mod Refusals
@@ -10,5 +11,6 @@ pub mod Facts
 pub mod Completions
 pub mod Snapshots
 pub mod Recording
+pub mod RunExamples
 pub mod Runs
 pub mod Stages

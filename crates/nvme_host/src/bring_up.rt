@@ -7,15 +7,19 @@ ghost use Rattle.nvme_host.specs.Calls.{
   Judging,
   CheckingStatus,
   ReportingCompletion,
+  reported_ready,
+  reported_completion,
+  after_step,
   stage_after,
 };
+ghost use Rattle.nvme_host.specs.Recording.{IsSamePort, left_out};
 ghost use Rattle.nvme_host.specs.Refusals.{bring_up_refusal};
 
 use crate::codes;
 use crate::devices::Limits;
 use crate::open_driver::OpenDriver;
 use crate::outcome::Outcome;
-use crate::recording_port::{Need, Report};
+use crate::recording_port::{Need, RecordingPort, Report};
 use crate::stage::{Stage, progress_code};
 use nvme_device::{Awaited, Capabilities, Progress};
 use nvme_driver::UpFault;
@@ -29,6 +33,30 @@ fn stage_after(need: Need, brought_up: Result<(), UpFault>) -> Stage
         (Need::Completion, _) => Stage::Enabled,
         (Need::Nothing, Ok(())) => Stage::Running,
         (Need::Nothing, Err(_)) => Stage::Unknown,
+    }
+}
+
+impl RecordingPort {
+    /// Keeps a status that is ready, for a bring-up that awaited it.
+    fn report_status(&mut self, awaited: Awaited, progress: Progress, csts: u32)
+        ensures { IsSamePort (reported_ready awaited progress csts self.old) self.new }
+    {
+        if let (Awaited::Ready, Progress::Reached) = (awaited, progress) {
+            self.add_report(Report {
+                status: csts,
+                entry: [0; 16],
+            });
+        }
+    }
+
+    /// Ends a step of a bring-up, which needs this; earlier steps handed out some of its actions.
+    fn end_step(&mut self, need: Need, handed_out: usize)
+        ensures { IsSamePort (after_step need (left_out self.old handed_out)) self.new }
+    {
+        self.leave_out(handed_out);
+        if let Need::Nothing = need {
+            self.forget();
+        }
     }
 }
 
@@ -56,23 +84,18 @@ impl OpenDriver {
             return codes::NOT_JUDGED;
         };
         let progress = awaited.progress(csts, elapsed_ms, capabilities.timeout_ms);
-        if awaited == Awaited::Ready && progress == Progress::Reached {
-            let _ = self.port.add_report(Report {
-                status: csts,
-                entry: [0; 16],
-            });
-        }
+        self.port.report_status(awaited, progress, csts);
         self.stage = self.stage.after(progress);
         progress_code(progress)
     }
 
     /// Reports the next completion of the admin queue to the bring-up.
     pub(crate) fn report_completion(&mut self, entry: &[u8; 16]) -> u32
-        ensures { ReportingCompletion self.old result self.new }
+        ensures { ReportingCompletion self.old entry.now result self.new }
     {
         match (self.stage, self.port.need) {
             (Stage::Enabled, Need::Completion) => {
-                let _ = self.port.add_report(Report {
+                self.port.add_report(Report {
                     status: 0,
                     entry: *entry,
                 });
@@ -117,10 +140,7 @@ impl OpenDriver {
         let handed_out = self.port.handed_out;
         let brought_up = self.bring_up_driver();
         let need = self.port.need;
-        self.port.leave_out(handed_out);
-        if need == Need::Nothing {
-            self.port.forget();
-        }
+        self.port.end_step(need, handed_out);
         self.stage = stage_after(need, brought_up);
         Outcome::of_bring_up(need, brought_up)
     }

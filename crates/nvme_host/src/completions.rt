@@ -1,15 +1,12 @@
 //! What goes between the driver's window and the memory of the device.
 
-ghost use Rattle.std.specs.Prelude.{◌≡◌, ◌+◌, ◌≤◌};
-ghost use Rattle.nvme_spec.specs.Memory.{window_size};
+ghost use Rattle.std.specs.Prelude.{◌≡◌};
 ghost use Rattle.nvme_driver.specs.Polls.{live_in};
-ghost use Rattle.nvme_host.specs.Doorbells.{head_of_lane};
 ghost use Rattle.nvme_host.specs.Completions.{
   lane_of,
   no_next_completion,
   no_data,
   data_of,
-  next_place,
   next_completion_in,
   StoringCompletion,
   StoringData,
@@ -17,10 +14,8 @@ ghost use Rattle.nvme_host.specs.Completions.{
 };
 
 use crate::codes;
-use crate::doorbells::Doorbells;
 use crate::open_driver::OpenDriver;
 use nvme_driver::{Lane, Waiting};
-use nvme_ring::CqHead;
 use nvme_wire::Cqe;
 
 /// The place of the next completion of a queue.
@@ -101,26 +96,6 @@ impl CompletionData {
             };
         }
         CompletionData::without(codes::OK)
-    }
-}
-
-impl Doorbells {
-    /// The head of a lane.
-    fn head(&self, lane: Lane) -> CqHead
-        ensures { result ≡ head_of_lane lane self.now }
-    {
-        match lane {
-            Lane::Admin => self.admin_head,
-            Lane::Io => self.io_head,
-        }
-    }
-
-    /// The place of the next completion of a lane.
-    fn place(&self, lane: Lane) -> u64
-        ensures place { result ≡ next_place lane self.now }
-        ensures inside { result + 16 ≤ window_size }
-    {
-        lane.completion_queue() + 16 * u64::from(self.head(lane).slot())
     }
 }
 

@@ -1,9 +1,18 @@
 //! The doorbells, as the driver wrote them.
 
-ghost use Rattle.std.specs.Prelude.{◌≡◌};
+ghost use Rattle.std.specs.Prelude.{◌≡◌, ◌+◌, ◌≤◌};
+ghost use Rattle.nvme_spec.specs.Memory.{window_size};
 ghost use Rattle.nvme_driver.specs.Layout.{completion_entries};
-ghost use Rattle.nvme_host.specs.Doorbells.{initial_doorbells, after_write, repeats_tail, register_at};
+ghost use Rattle.nvme_host.specs.Doorbells.{
+  initial_doorbells,
+  after_write,
+  repeats_tail,
+  head_of_lane,
+  next_place,
+  register_at,
+};
 
+use nvme_driver::Lane;
 use nvme_ring::CqHead;
 
 /// Controller Configuration.
@@ -67,6 +76,24 @@ impl Doorbells {
         } else if offset == IO_HEAD {
             self.io_head.advance();
         }
+    }
+
+    /// The head of a lane.
+    pub(crate) fn head(&self, lane: Lane) -> CqHead
+        ensures { result ≡ head_of_lane lane self.now }
+    {
+        match lane {
+            Lane::Admin => self.admin_head,
+            Lane::Io => self.io_head,
+        }
+    }
+
+    /// The place of the next completion of a lane.
+    pub(crate) fn place(&self, lane: Lane) -> u64
+        ensures place { result ≡ next_place lane self.now }
+        ensures inside { result + 16 ≤ window_size }
+    {
+        lane.completion_queue() + 16 * u64::from(self.head(lane).slot())
     }
 }
 

@@ -1,8 +1,9 @@
 //! Laws that follow from the contracts. Each is the contract of an empty function.
 
 ghost use Rattle.nvme_host.specs.Actions.{PlacingRecordsItsStores};
+ghost use Rattle.nvme_host.specs.Determined.{CallsAreDetermined, RunsHaveDistinctTickets};
 ghost use Rattle.nvme_host.specs.Snapshots.{SnapshotsAreOfOneMoment, PollsAreOfOneMoment};
-ghost use Rattle.nvme_host.specs.Runs.{HandsUpOnceOverAnyDevice, LooksWhereTheDriverLooks};
+ghost use Rattle.nvme_host.specs.Runs.{DeliversGivenTicketsOnce, ResetsAbort, LooksWhereTheDriverLooks};
 
 /// A device that writes while it is read: a poll over a window into which a completion was copied, phase tag first, is
 /// a poll of the memory of the device at one moment.
@@ -12,9 +13,21 @@ pub fn moving()
     ensures poll { PollsAreOfOneMoment }
 {}
 
-/// No ticket is delivered twice, whatever C calls, and whatever bytes the device wrote.
-pub fn once()
-    ensures { HandsUpOnceOverAnyDevice }
+/// No ticket is delivered twice, and none that no placing gave, whatever C calls, and whatever bytes the device wrote.
+pub fn tickets()
+    ensures { DeliversGivenTicketsOnce }
+{}
+
+/// After a reset no answer of the controller has a ticket from before it: that ticket is delivered as aborted.
+pub fn resets()
+    ensures { ResetsAbort }
+{}
+
+/// Each call has one outcome. A poll has one if no two aborted requests have one ticket, which holds in each run.
+#[tactic(auto, using(crate::proofs::Determined::calls_are_determined, crate::proofs::Tickets::runs_have_distinct_tickets))]
+pub fn calls()
+    ensures determined { CallsAreDetermined }
+    ensures distinct { RunsHaveDistinctTickets }
 {}
 
 /// A program looks for completions where the driver does, whatever it called before.

@@ -63,7 +63,8 @@ pub extern "C" fn nvmehost_report_completion(
     host: &mut Handle,
     entry: &[u8; 16],
 ) -> u32
-    ensures { Does ReportingCompletion host.old.slot.value result host.new.slot.value }
+    ensures { Does (λ old code new. ReportingCompletion old entry.now code new)
+        host.old.slot.value result host.new.slot.value }
 {
     let Some(mut open_driver) = host.take(alloc) else {
         return codes::CLOSED;

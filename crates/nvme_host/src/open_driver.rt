@@ -43,7 +43,7 @@ pub struct OpenDriver {
 impl OpenDriver {
     /// A driver that is down, with this first ticket.
     pub(crate) fn new(window: Window, first: u64) -> OpenDriver
-        ensures { IsNew first result }
+        ensures { IsNew window first result }
     {
         OpenDriver {
             driver: Driver::starting_at(first),

@@ -1,12 +1,24 @@
 //! A port that records its calls, for a program that performs them on a device.
 
 ghost use Rattle.std.specs.Prelude.{◌≡◌, ◌≤◌, ◌<◌, [], length, take, drop};
-ghost use Rattle.nvme_host.specs.Doorbells.{initial_doorbells};
-ghost use Rattle.nvme_host.specs.Recording.{Records, recorded, is_pending};
+ghost use Rattle.nvme_host.specs.Recording.{
+  Records,
+  IsSamePort,
+  recorded,
+  is_pending,
+  new_port,
+  rewound,
+  left_out,
+  with_actions,
+  with_report,
+  without_reports,
+  next_report,
+  after_look,
+};
 
 use crate::doorbells::{Doorbells, register_at};
 use arrayvec::ArrayVec;
-use nvme_driver::Port;
+use nvme_driver::{Lane, Port};
 use nvme_mem::Window;
 use nvme_spec::Piece;
 use std::mem;
@@ -15,9 +27,6 @@ use std::mem;
 pub const STORE: u32 = 1;
 /// A register has to be written.
 pub const WRITE: u32 = 2;
-
-/// The admin completion queue.
-const ADMIN_COMPLETIONS: u64 = 0x1000;
 
 /// A call of the port, to be performed on the device.
 #[repr(C)]
@@ -69,9 +78,7 @@ pub struct RecordingPort {
 impl RecordingPort {
     /// A port over a window, with doorbells 4 bytes apart.
     pub(crate) fn over(window: Window) -> RecordingPort
-        ensures window { result.window ≡ window }
-        ensures actions { result.actions.items ≡ [] }
-        ensures doorbells { result.doorbells ≡ initial_doorbells }
+        ensures { IsSamePort (new_port window) result }
     {
         RecordingPort {
             window,
@@ -94,10 +101,7 @@ impl RecordingPort {
 
     /// Begins a bring-up again.
     pub(crate) fn rewind(&mut self)
-        ensures actions { self.new.actions.items ≡ [] }
-        ensures window { self.new.window ≡ self.old.window }
-        ensures doorbells { self.new.doorbells ≡ self.old.doorbells }
-        ensures stride { self.new.stride ≡ self.old.stride }
+        ensures { IsSamePort (rewound self.old) self.new }
     {
         self.actions.clear();
         self.reports_read = 0;
@@ -106,23 +110,15 @@ impl RecordingPort {
 
     /// Ends a bring-up: forgets what the device reported.
     pub(crate) fn forget(&mut self)
-        ensures actions { self.new.actions.items ≡ self.old.actions.items }
-        ensures window { self.new.window ≡ self.old.window }
-        ensures doorbells { self.new.doorbells ≡ self.old.doorbells }
-        ensures stride { self.new.stride ≡ self.old.stride }
-        ensures handed_out { self.new.handed_out ≡ 0 }
+        ensures { IsSamePort (without_reports self.old) self.new }
     {
         self.reports.clear();
         self.handed_out = 0;
     }
 
-    /// Leaves out the first actions, which an earlier step of the bring-up handed out.
+    /// Leaves out the first actions, which earlier steps of the bring-up handed out.
     pub(crate) fn leave_out(&mut self, handed_out: usize)
-        ensures actions { self.new.actions.items ≡ drop handed_out self.old.actions.items }
-        ensures window { self.new.window ≡ self.old.window }
-        ensures doorbells { self.new.doorbells ≡ self.old.doorbells }
-        ensures stride { self.new.stride ≡ self.old.stride }
-        ensures handed_out { self.new.handed_out ≡ length self.old.actions.items }
+        ensures { IsSamePort (left_out self.old handed_out) self.new }
     {
         let all = mem::replace(&mut self.actions, ArrayVec::new());
         self.handed_out = all.len();
@@ -131,27 +127,22 @@ impl RecordingPort {
         }
     }
 
-    /// The device reported this. Whether there was room for it.
-    pub(crate) fn add_report(&mut self, report: Report) -> bool
-        ensures actions { self.new.actions.items ≡ self.old.actions.items }
-        ensures window { self.new.window ≡ self.old.window }
-        ensures doorbells { self.new.doorbells ≡ self.old.doorbells }
-        ensures stride { self.new.stride ≡ self.old.stride }
+    /// The device reported this, which is kept if there is room for it.
+    pub(crate) fn add_report(&mut self, report: Report)
+        ensures { IsSamePort (with_report self.old report) self.new }
     {
-        self.reports.try_push(report).is_ok()
+        let _ = self.reports.try_push(report);
     }
 
     /// Takes the actions, if `actions` has room for them; their number.
     pub(crate) fn take_actions(&mut self, actions: &mut [Action]) -> usize
-        ensures window { self.new.window ≡ self.old.window }
-        ensures doorbells { self.new.doorbells ≡ self.old.doorbells }
-        ensures stride { self.new.stride ≡ self.old.stride }
         ensures taken { length self.old.actions.items ≤ length actions.old
             → (result ≡ length self.old.actions.items)
             × (take result actions.new ≡ self.old.actions.items)
-            × (self.new.actions.items ≡ []) }
+            × (drop result actions.new ≡ drop result actions.old)
+            × IsSamePort (with_actions self.old []) self.new }
         ensures refused { length actions.old < length self.old.actions.items
-            → (result ≡ 0) × (self.new.actions.items ≡ self.old.actions.items) }
+            → (result ≡ 0) × (actions.new ≡ actions.old) × IsSamePort self.old self.new }
     {
         let count = self.actions.len();
         if actions.len() < count {
@@ -163,26 +154,21 @@ impl RecordingPort {
     }
 
     fn record_action(&mut self, action: Action)
-        ensures actions { self.new.actions.items ≡ recorded self.old.actions.items action }
-        ensures window { self.new.window ≡ self.old.window }
-        ensures doorbells { self.new.doorbells ≡ self.old.doorbells }
-        ensures stride { self.new.stride ≡ self.old.stride }
+        ensures { IsSamePort (with_actions self.old (recorded self.old.actions.items action)) self.new }
     {
         let _ = self.actions.try_push(action);
     }
 
-    fn next_report(&mut self, need: Need) -> Option<Report>
-        ensures actions { self.new.actions.items ≡ self.old.actions.items }
-        ensures window { self.new.window ≡ self.old.window }
-        ensures doorbells { self.new.doorbells ≡ self.old.doorbells }
-        ensures stride { self.new.stride ≡ self.old.stride }
+    fn next_report(&mut self, looked: Need) -> Option<Report>
+        ensures report { result ≡ next_report self.old }
+        ensures port { IsSamePort (after_look (next_report self.old) looked self.old) self.new }
     {
         if let Some(report) = self.reports.get(self.reports_read) {
             self.reports_read += 1;
             return Some(*report);
         }
         if matches!(self.need, Need::Nothing) {
-            self.need = need;
+            self.need = looked;
         }
         None
     }
@@ -237,7 +223,7 @@ impl Port for RecordingPort {
 
     fn turn(&mut self) {
         if let Some(report) = self.next_report(Need::Completion) {
-            let place = ADMIN_COMPLETIONS + 16 * u64::from(self.doorbells.admin_head.slot());
+            let place = self.doorbells.place(Lane::Admin);
             let _ = self.window.store(place, &report.entry);
         }
     }
