@@ -47,6 +47,7 @@ enum {
     NVMEHOST_UNKNOWN_COMMAND = 31,      /* a completion answers no request: the driver has failed until a reset */
     NVMEHOST_OUTSIDE = 32,              /* a buffer is too short, or bytes are outside the window */
     NVMEHOST_NOT_AWAITED = 33,
+    NVMEHOST_NOT_WAITING = 34,          /* no request with this ticket waits */
 
     /* Why the device is not used. */
     NVMEHOST_REMOVED = 48,              /* its registers read as ones */
@@ -66,7 +67,8 @@ enum {
     NVMEHOST_NOT_SUPPORTED = 61,        /* ONCS */
     NVMEHOST_TOO_LONG = 62,             /* MDTS */
     NVMEHOST_PAST_THE_END = 63,         /* NSZE */
-    NVMEHOST_NSID_TOO_HIGH = 64         /* above NVMEHOST_HIGHEST_NSID */
+    NVMEHOST_NSID_TOO_HIGH = 64,        /* above NVMEHOST_HIGHEST_NSID */
+    NVMEHOST_EXPIRED = 65               /* the time of a request is over: nvmehost_reset first */
 };
 
 /* The highest namespace identifier that can be asked. */
@@ -141,6 +143,11 @@ uint32_t nvmehost_status(struct nvmehost *host, uint32_t csts, uint64_t elapsed_
 struct nvmehost_outcome nvmehost_bring_up(struct nvmehost *host);
 uint32_t nvmehost_report_completion(struct nvmehost *host, const uint8_t entry[16]);
 uint32_t nvmehost_shutdown(struct nvmehost *host);
+
+/* The program counts the time of its requests. When that of one is over, it reports its ticket. Then no request is sent
+ * before a reset: a late completion answers its own request or none. After the reset polls deliver the ticket as
+ * NVMEHOST_ABORTED, if it was not answered before. */
+uint32_t nvmehost_expire(struct nvmehost *host, uint64_t ticket);
 
 /* Requests are placed, and sent by the next ring. The answer has the same ticket, which is never 0 if the first one
  * is not. Buffers are the caller's again after the call. */

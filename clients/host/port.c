@@ -184,6 +184,10 @@ struct nvmehost_outcome port_answer(struct port *p, struct nvmehost_placed place
     } while ((outcome.code == NVMEHOST_NOTHING && now_ms() - begun < timeout_ms)
              || ((outcome.code == NVMEHOST_DONE || outcome.code == NVMEHOST_ABORTED)
                  && outcome.ticket != placed.ticket));
+    if (outcome.code == NVMEHOST_NOTHING && nvmehost_expire(&p->host, placed.ticket) == NVMEHOST_OK) {
+        outcome.code = NVMEHOST_EXPIRED;
+        outcome.ticket = placed.ticket;
+    }
     return outcome;
 }
 
@@ -198,7 +202,7 @@ const char *port_name(uint32_t what)
         "the controller is not ready", "the controller did not answer", "the controller refused a queue",
         "the driver is not up", "no command can express the request", "all slots wait", "the queue is full",
         "no ticket is left", "a completion answers no request", "outside the window or the registers",
-        "nothing is awaited"
+        "nothing is awaited", "no request with this ticket waits"
     };
     static const char *const high[] = {
         "the device was removed (its registers read as ones)", "the controller has failed (CSTS.CFS)",
@@ -208,7 +212,8 @@ const char *port_name(uint32_t what)
         "there is no such namespace, or it is not attached (NSZE)", "its blocks do not have 512 bytes (LBADS)",
         "its blocks have metadata (MS, DPS)", "the controller was not asked", "the namespace was not asked",
         "the controller does not support the command (ONCS)", "the request is longer than MDTS allows",
-        "blocks after the last one of the namespace (NSZE)", "namespaces above 64 are not supported"
+        "blocks after the last one of the namespace (NSZE)", "namespaces above 64 are not supported",
+        "the controller did not answer in time: reset it"
     };
     if (what < sizeof low / sizeof *low)
         return low[what];

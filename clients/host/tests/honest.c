@@ -148,6 +148,48 @@ static void good(void)
     resets();
 }
 
+static void open_namespace(void)
+{
+    EXPECT_IS(start(), NVMEHOST_OK);
+    EXPECT_IS(ask(0), NVMEHOST_DONE);
+    EXPECT_IS(ask(1), NVMEHOST_DONE);
+}
+
+/* A Read that is not answered in time: nothing is sent before a reset. */
+static struct nvmehost_placed expire_read(void)
+{
+    device.is_silent = true;
+    struct nvmehost_placed placed = nvmehost_read(&p.host, 1, 0, 1);
+    struct nvmehost_outcome outcome = port_answer(&p, placed, 5);
+    EXPECT(outcome.code == NVMEHOST_EXPIRED && outcome.ticket == placed.ticket);
+    EXPECT_IS(nvmehost_read(&p.host, 1, 0, 1).code, NVMEHOST_EXPIRED);
+    EXPECT_IS(nvmehost_ring(&p.host), NVMEHOST_EXPIRED);
+    EXPECT_IS(nvmehost_bring_up(&p.host).code, NVMEHOST_NOT_DISABLED);
+    device.is_silent = false;
+    return placed;
+}
+
+/* A late completion is the answer to its own request; without it the reset aborts the request. */
+static void expires(void)
+{
+    begin();
+    open_namespace();
+    EXPECT_IS(nvmehost_expire(&p.host, 1000), NVMEHOST_NOT_WAITING);
+    struct nvmehost_placed placed = expire_read();
+    device_turn(&device);
+    struct nvmehost_outcome outcome = port_poll(&p);
+    EXPECT(outcome.code == NVMEHOST_DONE && outcome.ticket == placed.ticket);
+    EXPECT_IS(port_reset(&p), NVMEHOST_OK);
+    open_namespace();
+    placed = expire_read();
+    EXPECT_IS(port_reset(&p), NVMEHOST_OK);
+    device_turn(&device);
+    outcome = port_poll(&p);
+    EXPECT(outcome.code == NVMEHOST_ABORTED && outcome.ticket == placed.ticket);
+    open_namespace();
+    EXPECT_IS(answer(nvmehost_read(&p.host, 1, 0, 1)).code, NVMEHOST_DONE);
+}
+
 /* The doorbells of a controller are 32 bytes apart. */
 static void strides(void)
 {
@@ -246,6 +288,7 @@ int main(void)
     p.turn = device_turn, p.turned = &device;
     EXPECT_IS(nvmehost_ring(&p.host), NVMEHOST_CLOSED);
     good();
+    expires();
     strides();
     unfit();
     asked();

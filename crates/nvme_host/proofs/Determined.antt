@@ -70,6 +70,9 @@ use Rattle.nvme_host.specs.Calls.{
   RingingUnless,
   ResettingUnless,
   ShuttingUnless,
+  ExpiringUnless,
+  ExpiringIf,
+  waits,
   Judging,
   CheckingStatusBy,
   ReportingCompletion,
@@ -237,6 +240,15 @@ shutting None old one two new other p q = (
     facts = p.facts ∙ sym q.facts;
   }),
 )
+
+expiring : (o : Option ℕ) (t : ℕ) (old : OpenDriver) (one two : ℕ) (new other : OpenDriver)
+    → ExpiringUnless o old t one new → ExpiringUnless o old t two other → (one ≡ two) × (new ≡ other)
+expiring (Some code) t old one two new other p q = refused old new other one two code p q
+expiring None t old one two new other p q = by-waiting (waits t old.driver.slots) p q
+  where
+    by-waiting : (b : Bool) → ExpiringIf b old one new → ExpiringIf b old two other → (one ≡ two) × (new ≡ other)
+    by-waiting true p q = (p.0 ∙ sym q.0, p.1 ∙ sym q.1)
+    by-waiting false p q = (p.0 ∙ sym q.0, p.1 ∙ sym q.1)
 
 -- what the device shows
 judging : (cap : ℕ) (old : OpenDriver) (one two : _) (new other : OpenDriver)
@@ -427,6 +439,7 @@ calls_are_determined = record {
   ringing = λ old one two new other p q. ringing (stopped_by old) old one two new other p q;
   resetting = λ old one two new other p q. resetting (blocked_by old) old one two new other p q;
   shutting_down = λ old one two new other p q. shutting (stopped_by old) old one two new other p q;
+  expiring = λ t old one two new other p q. expiring (stopped_by old) t old one two new other p q;
   bringing_up = λ old one two new other p q. bringing (bring_up_refusal old) old one two new other p q;
   taking = taking;
   judging = λ cap old one two new other p q. judging cap old one two new other p q;

@@ -77,6 +77,9 @@ use Rattle.nvme_host.specs.Calls.{
   RingingUnless,
   ResettingUnless,
   ShuttingUnless,
+  ExpiringUnless,
+  ExpiringIf,
+  waits,
   DriverBringsUp,
   BringingUpUnless,
   CheckingStatusBy,
@@ -95,6 +98,7 @@ use Rattle.nvme_host.specs.Runs.{
   Rings,
   Resets,
   ShutsDown,
+  Expires,
   BringsUp,
   Judges,
   ChecksStatus,
@@ -284,6 +288,16 @@ shutting (Some reason) old new code r f = unchanged old new r.1 f
 shutting None old new code r f =
     kept old new r.driver (port_bells r.calls.0 new.port r.calls.2 ∙ r.calls.1.doorbells) f
 
+expiring : (o : Option ℕ) (t : ℕ) (old new : OpenDriver) (code : ℕ) → ExpiringUnless o old t code new
+    → FollowsIn old → FollowsIn new
+expiring (Some reason) t old new code e f = unchanged old new e.1 f
+expiring None t old new code e f = by-waiting (waits t old.driver.slots) e
+  where
+    by-waiting : (b : Bool) → ExpiringIf b old code new → FollowsIn new
+    by-waiting true e =
+        kept old new (ap (λ (h : OpenDriver). h.driver) e.1) (ap (λ (h : OpenDriver). h.port.doorbells) e.1) f
+    by-waiting false e = unchanged old new e.1 f
+
 -- a bring-up
 found_same : (o : Option (List ℕ)) (look : RecordingPort → Option (List ℕ)) (n : ℕ) (mid new : RecordingPort)
     (answer : Option (List ℕ))
@@ -440,6 +454,7 @@ follows Polls old tickets new u f = polling (blocked_by old) old new u.0 u.2 u.1
 follows Rings old tickets new u f = ringing (stopped_by old) old new u.0.0 u.0.1 f
 follows Resets old tickets new u f = resetting (blocked_by old) old new u.0.0 u.0.1 f
 follows ShutsDown old tickets new u f = shutting (stopped_by old) old new u.0.0 u.0.1 f
+follows (Expires t) old tickets new u f = expiring (stopped_by old) t old new u.0.0 u.0.1 f
 follows BringsUp old tickets new u f = bringing (bring_up_refusal old) old new u.0.0 u.0.1 f
 follows (Judges cap) old tickets new u f =
     kept old new (ap (λ (h : OpenDriver). h.driver) u.0.1.kept) (ap (λ (p : RecordingPort). p.doorbells) u.0.1.port) f

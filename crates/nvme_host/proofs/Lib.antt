@@ -7,3 +7,5 @@ pub mod Actions
 pub mod Recorded
 pub mod Determined
 pub mod RunExamples
+pub mod Expiring
+pub mod Naming

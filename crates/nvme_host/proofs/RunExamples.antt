@@ -45,6 +45,8 @@ use Rattle.nvme_host.specs.RunExamples.{
   aborted,
   answered,
   delivered,
+  expired,
+  AFlushExpires,
   ResetAbortsAFlush,
   WithoutAResetItIsDone,
   WithoutIdlenessNoneGaveIt,
@@ -231,4 +233,11 @@ without_idleness_none_gave_it = (
   ),
   refl,
   (refl, refl),
+)
+
+pub a_flush_expires : AFlushExpires
+a_flush_expires = (
+  (refl, refl),
+  (refl, refl),
+  (expired, _, _, (record { ticket = 0; code = 65 }, (refl, refl), refl), refl, (refl, refl)),
 )

@@ -56,13 +56,18 @@ use Rattle.nvme_host.specs.Calls.{
   RingingUnless,
   ResettingUnless,
   ShuttingUnless,
+  ExpiringUnless,
+  ExpiringIf,
+  waits,
   BringingUpUnless,
   CheckingStatusBy,
 }
 use Rattle.nvme_host.specs.Devices.{controller_code, namespace_code, admission_code}
 use Rattle.nvme_host.specs.Refusals.{blocked_by, stopped_by, bring_up_refusal, first_of, request_refusal}
 use Rattle.nvme_host.specs.Completions.{StoringCompletion, StoringCompletionUnless, StoringDataUnless}
-use Rattle.nvme_host.specs.Stages.{awaited_in}
+use Rattle.nvme_host.specs.declared.stage.Stage.{Stage}
+use Rattle.nvme_host.specs.declared.stage.Stage.TheVariants as at
+use Rattle.nvme_host.specs.Stages.{awaited_in, stage_refusal}
 use Rattle.nvme_host.specs.Runs.{
   Use,
   Places,
@@ -72,6 +77,7 @@ use Rattle.nvme_host.specs.Runs.{
   Rings,
   Resets,
   ShutsDown,
+  Expires,
   BringsUp,
   Judges,
   ChecksStatus,
@@ -95,15 +101,25 @@ use Rattle.nvme_host.specs.Determined.{RunsHaveDistinctTickets}
 use Rattle.nvme_host.proofs.Counts.{Counts, quiet, stays, unchanged, none-left, placed-by, some-is, by-poll}
 
 -- the number of a refusal gives no ticket
-abbrev IsRefusal : Option ℕ → Type 0
+abbrev pub IsRefusal : Option ℕ → Type 0
 IsRefusal None = Unit {0}
 IsRefusal (Some code) = given_by (refused code) ≡ no_tickets
 
-stopped-refuses : (pending running : Bool)
-    → IsRefusal (if pending then Some 19 else (if running then None else Some 26))
-stopped-refuses true running = refl
-stopped-refuses false true = tt
-stopped-refuses false false = refl
+stage-refuses : (stage : Stage) → IsRefusal (stage_refusal stage)
+stage-refuses at.Unknown = refl
+stage-refuses at.Disabling = refl
+stage-refuses at.Disabled = refl
+stage-refuses at.Enabling = refl
+stage-refuses at.Enabled = refl
+stage-refuses at.Running = tt
+stage-refuses at.Expired = refl
+stage-refuses at.ShuttingDown = refl
+stage-refuses at.ShutDown = refl
+
+pub stopped-refuses : (pending : Bool) (stage : Stage)
+    → IsRefusal (if pending then Some 19 else stage_refusal stage)
+stopped-refuses true stage = refl
+stopped-refuses false stage = stage-refuses stage
 
 controller-refuses : (fault : ControllerFault) → IsRefusal (Some (controller_code fault))
 controller-refuses controller.NotIo = refl
@@ -189,6 +205,15 @@ shutting : (t : ℕ) (o : Option ℕ) (old new : OpenDriver) (code : ℕ) (x : T
 shutting t (Some reason) old new code x r none = unchanged t old new x r.1 none
 shutting t None old new code x r none = stays t old.driver new.driver x r.driver none
 
+expiring : (t : ℕ) (o : Option ℕ) (ticket : ℕ) (old new : OpenDriver) (code : ℕ) (x : Tickets)
+    → ExpiringUnless o old ticket code new → x ≡ no_tickets → Counts t old.driver new.driver x
+expiring t (Some reason) ticket old new code x e none = unchanged t old new x e.1 none
+expiring t None ticket old new code x e none = by-waiting (waits ticket old.driver.slots) e
+  where
+    by-waiting : (b : Bool) → ExpiringIf b old code new → Counts t old.driver new.driver x
+    by-waiting true e = stays t old.driver new.driver x (ap (λ (h : OpenDriver). h.driver) e.1) none
+    by-waiting false e = unchanged t old new x e.1 none
+
 bringing : (t : ℕ) (o : Option ℕ) (old new : OpenDriver) (outcome : Outcome) (x : Tickets)
     → BringingUpUnless o old outcome new → x ≡ no_tickets → Counts t old.driver new.driver x
 bringing t (Some code) old new outcome x b none = unchanged t old new x b.1 none
@@ -234,6 +259,7 @@ step t Polls old x new u = polling t (blocked_by old) (blocked-silent _) old new
 step t Rings old x new u = ringing t (stopped_by old) old new u.0.0 x u.0.1 u.1
 step t Resets old x new u = resetting t (blocked_by old) old new u.0.0 x u.0.1 u.1
 step t ShutsDown old x new u = shutting t (stopped_by old) old new u.0.0 x u.0.1 u.1
+step t (Expires ticket) old x new u = expiring t (stopped_by old) ticket old new u.0.0 x u.0.1 u.1
 step t BringsUp old x new u = bringing t (bring_up_refusal old) old new u.0.0 x u.0.1 u.1
 step t (Judges cap) old x new u =
     stays t old.driver new.driver x (ap (λ (h : OpenDriver). h.driver) u.0.1.kept) u.1

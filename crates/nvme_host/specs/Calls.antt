@@ -6,6 +6,7 @@ use Rattle.std.specs.Prelude.{
   ◌<◌,
   ℕ,
   ◌==◌,
+  ◌&&◌,
   nat_lt,
   Bool,
   true,
@@ -29,6 +30,7 @@ use Rattle.std.specs.Prelude.{
   IfErr,
   replicate,
 }
+use Rattle.std.specs.List.{list_any}
 use Rattle.nvme_device.specs.declared.capabilities.Capabilities.{Capabilities}
 use Rattle.nvme_device.specs.declared.capabilities.CapabilityFault.{CapabilityFault}
 use Rattle.nvme_device.specs.declared.status.Awaited.{Awaited}
@@ -44,6 +46,7 @@ use Rattle.nvme_driver.specs.declared.faults.UpFault.{UpFault}
 use Rattle.nvme_driver.specs.declared.faults.UpFault.TheVariants.{AlreadyUp}
 use Rattle.nvme_driver.specs.declared.request.Request.{Request}
 use Rattle.nvme_driver.specs.declared.request.Request.TheVariants.{Identify}
+use Rattle.nvme_driver.specs.declared.slots.Waiting.{Waiting}
 use Rattle.nvme_driver.specs.declared.ticket.Ticket.{Ticket}
 use Rattle.nvme_driver.specs.Calls.{Writes, Calls}
 use Rattle.nvme_driver.specs.Drivers.{
@@ -204,6 +207,25 @@ ShuttingUnless None old code new = Shut old code new
 
 abbrev pub ShuttingDown : OpenDriver → ℕ → OpenDriver → Type 0
 ShuttingDown old code new = ShuttingUnless (stopped_by old) old code new
+
+-- The time of a request is over, if it waits and was not aborted. Then no request is sent before a reset.
+abbrev pub bears_live : ℕ → Option Waiting → Bool
+bears_live t None = false
+bears_live t (Some w) = w.live && (w.ticket.0 == t)
+
+abbrev pub waits : ℕ → List (Option Waiting) → Bool
+waits t slots = list_any (λ x. bears_live t x) slots
+
+abbrev pub ExpiringIf : Bool → OpenDriver → ℕ → OpenDriver → Type 0
+ExpiringIf true old code new = (code ≡ 0) × (new ≡ record old { stage = at.Expired })
+ExpiringIf false old code new = (code ≡ 34) × (new ≡ old)
+
+abbrev pub ExpiringUnless : Option ℕ → OpenDriver → ℕ → ℕ → OpenDriver → Type 0
+ExpiringUnless (Some reason) old t code new = (code ≡ reason) × (new ≡ old)
+ExpiringUnless None old t code new = ExpiringIf (waits t old.driver.slots) old code new
+
+abbrev pub Expiring : OpenDriver → ℕ → ℕ → OpenDriver → Type 0
+Expiring old t code new = ExpiringUnless (stopped_by old) old t code new
 
 -- the actions are handed out and gone, if there is room for all of them
 pub record TakingActions (old : OpenDriver) (before : List Action) (count : ℕ) (after : List Action)

@@ -16,6 +16,7 @@ use Rattle.nvme_host.specs.Calls.{
   Ringing,
   Resetting,
   ShuttingDown,
+  Expiring,
   BringingUp,
   TakingActions,
   Judging,
@@ -68,6 +69,7 @@ pub record CallsAreDetermined : Type 0 where
   pub ringing : IsDetermined Ringing
   pub resetting : IsDetermined Resetting
   pub shutting_down : IsDetermined ShuttingDown
+  pub expiring : (t : ℕ) → IsDetermined (λ old code new. Expiring old t code new)
   pub bringing_up : IsDetermined BringingUp
   pub taking : TakingsAreDetermined
   pub judging : (cap : ℕ) → IsDetermined (λ old limits new. Judging old cap limits new)

@@ -11,19 +11,20 @@ use Rattle.nvme_host.specs.declared.stage.Stage.TheVariants.{
   Enabling,
   Enabled,
   Running,
+  Expired,
   ShuttingDown,
   ShutDown,
 }
 use Rattle.nvme_host.specs.Devices.{admission_code}
 use Rattle.nvme_host.specs.Facts.{admission_on}
 use Rattle.nvme_host.specs.Recording.{is_pending}
-use Rattle.nvme_host.specs.Stages.{is_running}
+use Rattle.nvme_host.specs.Stages.{stage_refusal}
 
 abbrev pub blocked_by : OpenDriver → Option ℕ
 blocked_by h = if is_pending h.port.actions.items then Some 19 else None
 
 abbrev pub stopped_by : OpenDriver → Option ℕ
-stopped_by h = if is_pending h.port.actions.items then Some 19 else (if is_running h.stage then None else Some 26)
+stopped_by h = if is_pending h.port.actions.items then Some 19 else stage_refusal h.stage
 
 -- the first reason of the two
 abbrev pub first_of : Option ℕ → Option ℕ → Option ℕ
@@ -41,6 +42,7 @@ bring_up_stage_refusal Disabled = None
 bring_up_stage_refusal Enabling = Some 21
 bring_up_stage_refusal Enabled = None
 bring_up_stage_refusal Running = Some 22
+bring_up_stage_refusal Expired = Some 21
 bring_up_stage_refusal ShuttingDown = Some 21
 bring_up_stage_refusal ShutDown = Some 21
 

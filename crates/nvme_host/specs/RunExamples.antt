@@ -18,7 +18,7 @@ use Rattle.nvme_driver.specs.Polls.{consumed, freed}
 use Rattle.nvme_host.specs.declared.facts.DeviceFacts.{DeviceFacts}
 use Rattle.nvme_host.specs.declared.open_driver.OpenDriver.{OpenDriver}
 use Rattle.nvme_host.specs.declared.stage.Stage.TheVariants as at
-use Rattle.nvme_host.specs.Calls.{Resetting}
+use Rattle.nvme_host.specs.Calls.{Resetting, Expiring}
 use Rattle.nvme_host.specs.Exports.{zeroing}
 use Rattle.nvme_host.specs.Facts.{no_facts}
 use Rattle.nvme_host.specs.Recording.{new_port, after_store, after_register, with_actions, without_reports}
@@ -120,3 +120,12 @@ delivered = record left_over { driver = freed left_over.driver 0 }
 
 abbrev pub WithoutIdlenessNoneGaveIt : Type 0
 WithoutIdlenessNoneGaveIt = Uses (Polls ∷ []) left_over (record no_tickets { aborted = 7 ∷ [] }) delivered
+
+-- The Flush expires, and another one is refused; a ticket of no request does not expire.
+abbrev pub expired : OpenDriver
+expired = record flushed { stage = at.Expired }
+
+abbrev pub AFlushExpires : Type 0
+AFlushExpires =
+    Expiring flushed 7 0 expired × Expiring flushed 8 34 flushed
+    × Uses (Places 1 command.Flush (zeroing 0 0) (Flush 1) ∷ []) expired no_tickets expired

@@ -19,13 +19,15 @@ use Rattle.std.specs.Prelude.{
   Some,
 }
 use Rattle.nvme_driver.specs.declared.lane.Lane.{Lane}
+use Rattle.nvme_wire.specs.Completion.{cid}
 use Rattle.nvme_spec.specs.declared.command.Command.{Command}
 use Rattle.nvme_device.specs.declared.admission.Span.{Span}
 use Rattle.nvme_driver.specs.declared.request.Request.{Request}
 use Rattle.nvme_driver.specs.declared.request.Request.TheVariants.{Identify}
 use Rattle.nvme_driver.specs.declared.slots.Waiting.{Waiting}
 use Rattle.nvme_driver.specs.Layout.{slot_count}
-use Rattle.nvme_driver.specs.Drivers.{ends}
+use Rattle.nvme_driver.specs.Drivers.{Driver, ends}
+use Rattle.nvme_driver.specs.Polls.{next_entry, waiting_at}
 use Rattle.nvme_driver.specs.Once.{times, borne}
 use Rattle.nvme_host.specs.declared.devices.Limits.{Limits}
 use Rattle.nvme_host.specs.declared.outcome.Outcome.{Outcome}
@@ -33,6 +35,7 @@ use Rattle.nvme_host.specs.declared.outcome.Placed.{Placed}
 use Rattle.nvme_host.specs.declared.open_driver.OpenDriver.{OpenDriver}
 use Rattle.nvme_host.specs.declared.completions.CompletionData.{CompletionData}
 use Rattle.nvme_host.specs.declared.recording_port.Action.{Action}
+use Rattle.nvme_host.specs.declared.stage.Stage.TheVariants as at
 use Rattle.nvme_host.specs.Doorbells.{head_of_lane}
 use Rattle.nvme_host.specs.Calls.{
   IsNew,
@@ -42,6 +45,7 @@ use Rattle.nvme_host.specs.Calls.{
   Ringing,
   Resetting,
   ShuttingDown,
+  Expiring,
   BringingUp,
   TakingActions,
   Judging,
@@ -63,6 +67,7 @@ pub data Use : Type 0 where
   Rings : Use
   Resets : Use
   ShutsDown : Use
+  Expires : ℕ → Use
   BringsUp : Use
   Judges : ℕ → Use
   ChecksStatus : ℕ → ℕ → Use
@@ -112,6 +117,7 @@ Quietly Polls old new = ⊥
 Quietly Rings old new = (code : ℕ) × Ringing old code new
 Quietly Resets old new = (code : ℕ) × Resetting old code new
 Quietly ShutsDown old new = (code : ℕ) × ShuttingDown old code new
+Quietly (Expires t) old new = (code : ℕ) × Expiring old t code new
 Quietly BringsUp old new = (outcome : Outcome) × BringingUp old outcome new
 Quietly (Judges cap) old new = (limits : Limits) × Judging old cap limits new
 Quietly (ChecksStatus csts elapsed_ms) old new = (code : ℕ) × CheckingStatus old csts elapsed_ms code new
@@ -176,6 +182,37 @@ ResetsAbort =
     (before_reset after_reset : List Use) (before after : Tickets) (old mid reset new : OpenDriver) (t : ℕ)
     → IsIdle old → Uses before_reset old before mid → Resetting mid 0 reset → Uses after_reset reset after new
     → 1 ≤ times t before.given → IsAborted t before after new
+
+-- After a request expired no placing gives a ticket, until the program resets the controller. So what a late completion
+-- answers was sent before, if it answers anything.
+abbrev pub IsNoReset : Use → Type 0
+IsNoReset Resets = ⊥
+IsNoReset other = Unit {0}
+
+abbrev pub HasNoReset : List Use → Type 0
+HasNoReset [] = Unit {0}
+HasNoReset (call ∷ later) = IsNoReset call × HasNoReset later
+
+abbrev pub ExpiryStopsRequests : Type 0
+ExpiryStopsRequests =
+    (t : ℕ) (calls : List Use) (tickets : Tickets) (old expired new : OpenDriver)
+    → Expiring old t 0 expired → HasNoReset calls → Uses calls expired tickets new
+    → (new.stage ≡ at.Expired) × (tickets.given ≡ [])
+
+-- A completion is the answer to the live request in the slot that it names, and to no other: the next completion of a
+-- lane, in the window.
+pub record NamesItsRequest (d : Driver) (window : List ℕ) (t : ℕ) : Type 0 where
+  pub lane : Lane
+  pub request : Waiting
+  pub waits : waiting_at d.slots (cid (next_entry lane (ends lane d) window)) ≡ Some request
+  pub live : request.live ≡ true
+  pub own : request.ticket.0 ≡ t
+
+abbrev pub AnswersNameTheirRequests : Type 0
+AnswersNameTheirRequests =
+    (old : OpenDriver) (before : List ℕ) (outcome : Outcome) (new : OpenDriver) (buffer : List ℕ)
+    → Polling old before outcome new buffer → outcome.code ≡ 1
+    → NamesItsRequest old.driver old.port.window outcome.ticket
 
 -- The place where a program looks for the next completion of a lane is the place where the driver's next poll looks.
 abbrev pub LooksWhereTheDriverLooks : Type 0

@@ -1,5 +1,5 @@
 -- How far a controller is, as its status showed (Base Specification: Controller Initialization, Controller Shutdown).
-use Rattle.std.specs.Prelude.{ℕ, Bool, true, false, Option, None, Some}
+use Rattle.std.specs.Prelude.{ℕ, Option, None, Some}
 use Rattle.nvme_device.specs.declared.status.Awaited.{Awaited}
 use Rattle.nvme_device.specs.declared.status.Awaited.TheVariants as awaited
 use Rattle.nvme_device.specs.declared.status.Progress.{Progress}
@@ -12,6 +12,7 @@ use Rattle.nvme_host.specs.declared.stage.Stage.TheVariants.{
   Enabling,
   Enabled,
   Running,
+  Expired,
   ShuttingDown,
   ShutDown,
 }
@@ -24,6 +25,7 @@ awaited_in Disabled = None
 awaited_in Enabling = Some awaited.Ready
 awaited_in Enabled = None
 awaited_in Running = None
+awaited_in Expired = None
 awaited_in ShuttingDown = Some awaited.ShutDown
 awaited_in ShutDown = None
 
@@ -35,6 +37,7 @@ reached_from Disabled = Disabled
 reached_from Enabling = Enabled
 reached_from Enabled = Enabled
 reached_from Running = Running
+reached_from Expired = Expired
 reached_from ShuttingDown = ShutDown
 reached_from ShutDown = ShutDown
 
@@ -53,13 +56,14 @@ progress_code Removed = 48
 progress_code Fatal = 49
 progress_code TimedOut = 50
 
--- the driver is up, and the controller was not shut down since
-abbrev pub is_running : Stage → Bool
-is_running Unknown = false
-is_running Disabling = false
-is_running Disabled = false
-is_running Enabling = false
-is_running Enabled = false
-is_running Running = true
-is_running ShuttingDown = false
-is_running ShutDown = false
+-- why no request is sent: the driver is not up, the controller was shut down, or the time of a request is over
+abbrev pub stage_refusal : Stage → Option ℕ
+stage_refusal Unknown = Some 26
+stage_refusal Disabling = Some 26
+stage_refusal Disabled = Some 26
+stage_refusal Enabling = Some 26
+stage_refusal Enabled = Some 26
+stage_refusal Running = None
+stage_refusal Expired = Some 65
+stage_refusal ShuttingDown = Some 26
+stage_refusal ShutDown = Some 26

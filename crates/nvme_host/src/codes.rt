@@ -52,6 +52,9 @@ pub const OUTSIDE: u32 = 32;
 /// Nothing is awaited.
 pub const NOT_AWAITED: u32 = 33;
 
+/// No request with this ticket waits.
+pub const NOT_WAITING: u32 = 34;
+
 /// The registers read as ones: the device was removed.
 pub const REMOVED: u32 = 48;
 /// Controller Status shows a failure.
@@ -86,3 +89,5 @@ pub const TOO_LONG: u32 = 62;
 pub const PAST_THE_END: u32 = 63;
 /// The library has no place for a namespace with this identifier.
 pub const NSID_TOO_HIGH: u32 = 64;
+/// The time of a request is over: the controller must be reset first.
+pub const EXPIRED: u32 = 65;

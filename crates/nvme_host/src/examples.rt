@@ -1,7 +1,12 @@
 //! Worked examples of the definitions. Each is the contract of an empty function, proved by computing.
 
 ghost use Rattle.std.specs.Prelude.{◌≡◌, true, false};
-ghost use Rattle.nvme_host.specs.RunExamples.{ResetAbortsAFlush, WithoutAResetItIsDone, WithoutIdlenessNoneGaveIt};
+ghost use Rattle.nvme_host.specs.RunExamples.{
+  ResetAbortsAFlush,
+  WithoutAResetItIsDone,
+  WithoutIdlenessNoneGaveIt,
+  AFlushExpires,
+};
 ghost use Rattle.nvme_host.specs.Doorbells.{initial_doorbells, repeats_tail, register_at};
 
 /// Doorbells that are 4 and 8 bytes apart; other registers are where they are.
@@ -14,17 +19,18 @@ pub fn doorbells_have_places()
 {}
 
 /// A tail that is there already is not written again; a head always is.
-pub fn rung_tails_are_left_out()
+pub fn repeated_tails_are_left_out()
     ensures same { repeats_tail (record initial_doorbells { io_tail = 3 }) 0x1008 3 ≡ true }
     ensures other { repeats_tail (record initial_doorbells { io_tail = 3 }) 0x1008 4 ≡ false }
     ensures lane { repeats_tail (record initial_doorbells { io_tail = 3 }) 0x1000 3 ≡ false }
     ensures head { repeats_tail (record initial_doorbells { io_tail = 3 }) 0x100c 3 ≡ false }
 {}
 
-/// A run in which the premises of the laws on tickets hold; without a reset, a ticket is delivered with its answer; and
-/// a driver with a request left over delivers a ticket that the run did not give.
+/// A run in which the premises of the laws on tickets hold; without a reset, a ticket is delivered with its answer; a
+/// driver with a request left over delivers a ticket that the run did not give; and a request expires.
 pub fn tickets_are_delivered()
     ensures premises { ResetAbortsAFlush }
     ensures reset { WithoutAResetItIsDone }
     ensures idle { WithoutIdlenessNoneGaveIt }
+    ensures expiry { AFlushExpires }
 {}

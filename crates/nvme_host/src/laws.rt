@@ -3,7 +3,13 @@
 ghost use Rattle.nvme_host.specs.Actions.{PlacingRecordsItsStores};
 ghost use Rattle.nvme_host.specs.Determined.{CallsAreDetermined, RunsHaveDistinctTickets};
 ghost use Rattle.nvme_host.specs.Snapshots.{SnapshotsAreOfOneMoment, PollsAreOfOneMoment};
-ghost use Rattle.nvme_host.specs.Runs.{DeliversGivenTicketsOnce, ResetsAbort, LooksWhereTheDriverLooks};
+ghost use Rattle.nvme_host.specs.Runs.{
+  DeliversGivenTicketsOnce,
+  ResetsAbort,
+  ExpiryStopsRequests,
+  AnswersNameTheirRequests,
+  LooksWhereTheDriverLooks,
+};
 
 /// A device that writes while it is read: a poll over a window into which a completion was copied, phase tag first, is
 /// a poll of the memory of the device at one moment.
@@ -21,6 +27,16 @@ pub fn tickets()
 /// After a reset no answer of the controller has a ticket from before it: that ticket is delivered as aborted.
 pub fn resets()
     ensures { ResetsAbort }
+{}
+
+/// After a request expired no request is sent before a reset.
+pub fn expiry()
+    ensures { ExpiryStopsRequests }
+{}
+
+/// A completion is the answer to the live request in the slot that it names. A late one is that of no other request.
+pub fn answers()
+    ensures { AnswersNameTheirRequests }
 {}
 
 /// Each call has one outcome. A poll has one if no two aborted requests have one ticket, which holds in each run.

@@ -3,7 +3,7 @@
 ghost use Rattle.std.specs.Prelude.{◌≡◌, ◌≤◌, ◌<◌, length, None};
 ghost use Rattle.nvme_spec.specs.Limits.{most_bytes};
 ghost use Rattle.nvme_host.specs.Outcomes.{with_code};
-ghost use Rattle.nvme_host.specs.Calls.{Ringing, Resetting, ShuttingDown};
+ghost use Rattle.nvme_host.specs.Calls.{Ringing, Resetting, ShuttingDown, Expiring};
 ghost use Rattle.nvme_host.specs.Exports.{Opens, BringsUp, Polls, Does};
 
 use crate::codes;
@@ -100,6 +100,20 @@ pub extern "C" fn nvmehost_reset(alloc: Global, host: &mut Handle) -> u32
         return codes::CLOSED;
     };
     let code = open_driver.reset();
+    *host = Handle::of(open_driver);
+    code
+}
+
+/// The time of the request with this ticket is over, as C counts it: `OK`, `NOT_WAITING`, `ACTIONS_PENDING`, `NOT_UP`,
+/// `EXPIRED` or `CLOSED`. No request is sent before a reset, so no late completion is the answer to another request.
+#[unsafe(no_mangle)]
+pub extern "C" fn nvmehost_expire(alloc: Global, host: &mut Handle, ticket: u64) -> u32
+    ensures { Does (λ old code new. Expiring old ticket code new) host.old.slot.value result host.new.slot.value }
+{
+    let Some(mut open_driver) = host.take(alloc) else {
+        return codes::CLOSED;
+    };
+    let code = open_driver.expire(ticket);
     *host = Handle::of(open_driver);
     code
 }

@@ -11,7 +11,10 @@ ghost use Rattle.nvme_host.specs.Calls.{
   Ringing,
   Resetting,
   ShuttingDown,
+  Expiring,
   TakingActions,
+  bears_live,
+  waits,
 };
 ghost use Rattle.nvme_host.specs.Refusals.{blocked_by, stopped_by, request_refusal};
 
@@ -23,12 +26,29 @@ use crate::outcome::{Outcome, Placed};
 use crate::recording_port::{Action, RecordingPort};
 use crate::stage::Stage;
 use nvme_device::{Capabilities, Span};
-use nvme_driver::{Driver, Port, Request};
+use nvme_driver::{Driver, Port, Request, Waiting};
 use nvme_mem::Window;
 use nvme_spec::Command;
 
 /// EN with the entry sizes of the driver, and a normal shutdown in SHN.
 const SHUTTING_DOWN: u32 = 0x0046_4001;
+
+/// Whether a slot holds a request with this ticket that was not aborted.
+fn bears_live(slot: &Option<Waiting>, ticket: u64) -> bool
+    ensures { result ≡ bears_live ticket slot.now }
+{
+    match slot {
+        Some(waiting) => waiting.live && waiting.ticket.0 == ticket,
+        None => false,
+    }
+}
+
+/// Whether a request with this ticket waits, and was not aborted.
+fn waits(slots: &[Option<Waiting>], ticket: u64) -> bool
+    ensures { result ≡ waits ticket slots.now }
+{
+    slots.iter().any(|slot| bears_live(slot, ticket))
+}
 
 /// A driver, its port, the stage of its controller, and what it knows of its device.
 #[derive(Drop)]
@@ -68,10 +88,7 @@ impl OpenDriver {
         if self.port.is_pending() {
             return Some(codes::ACTIONS_PENDING);
         }
-        match self.stage {
-            Stage::Running => None,
-            _ => Some(codes::NOT_UP),
-        }
+        self.stage.refusal()
     }
 
     /// Why a request on a namespace is not sent now.
@@ -165,6 +182,20 @@ impl OpenDriver {
         }
         self.port.write32(CC, SHUTTING_DOWN);
         self.stage = Stage::ShuttingDown;
+        codes::OK
+    }
+
+    /// The time of the request with this ticket is over: no request is sent before a reset.
+    pub(crate) fn expire(&mut self, ticket: u64) -> u32
+        ensures { Expiring self.old ticket result self.new }
+    {
+        if let Some(code) = self.stopped() {
+            return code;
+        }
+        if !waits(self.driver.slots(), ticket) {
+            return codes::NOT_WAITING;
+        }
+        self.stage = Stage::Expired;
         codes::OK
     }
 

@@ -1,7 +1,7 @@
 //! How far a controller is, as its status showed.
 
 ghost use Rattle.std.specs.Prelude.{◌≡◌};
-ghost use Rattle.nvme_host.specs.Stages.{awaited_in, after_progress, progress_code};
+ghost use Rattle.nvme_host.specs.Stages.{awaited_in, stage_refusal, after_progress, progress_code};
 
 use crate::codes;
 use nvme_device::{Awaited, Progress};
@@ -21,6 +21,8 @@ pub enum Stage {
     Enabled,
     /// The driver is up.
     Running,
+    /// The time of a request is over, so the driver must reset it.
+    Expired,
     /// SHN was set.
     ShuttingDown,
     /// It was shut down.
@@ -37,6 +39,17 @@ impl Stage {
             Stage::Enabling => Some(Awaited::Ready),
             Stage::ShuttingDown => Some(Awaited::ShutDown),
             _ => None,
+        }
+    }
+
+    /// Why no request is sent.
+    pub(crate) fn refusal(self) -> Option<u32>
+        ensures { result ≡ stage_refusal self }
+    {
+        match self {
+            Stage::Running => None,
+            Stage::Expired => Some(codes::EXPIRED),
+            _ => Some(codes::NOT_UP),
         }
     }
 
