@@ -1,4 +1,4 @@
-/* nvmehost ADDRESS COMMAND: the proved driver on a controller at a PCI address, through VFIO. */
+/* nvmehost [--json] ADDRESS COMMAND: the proved driver on a controller at a PCI address, through VFIO. */
 #include "vfio.h"
 
 #include <errno.h>
@@ -9,20 +9,23 @@
 enum { TIMEOUT_MS = 30000, FAILED = 1, USAGE = 2, DIFFERENT = 3 };
 
 static const char usage[] =
-    "usage: nvmehost ADDRESS identify                       the controller, and namespaces 1 to 64 that are there\n"
-    "       nvmehost ADDRESS read NSID BLOCK COUNT          writes up to 256 blocks to standard output\n"
-    "       nvmehost ADDRESS write NSID BLOCK               writes standard input, whole blocks of 512 bytes\n"
-    "       nvmehost ADDRESS compare NSID BLOCK             compares standard input; status 3 if it differs\n"
-    "       nvmehost ADDRESS zeroes NSID BLOCK COUNT        fills up to 65,536 blocks with zeros\n"
-    "       nvmehost ADDRESS flush NSID\n"
+    "usage: nvmehost [--json] ADDRESS identify              the controller, and namespaces 1 to 64 that are there\n"
+    "       nvmehost [--json] ADDRESS read NSID BLOCK COUNT writes up to 256 blocks to standard output\n"
+    "       nvmehost [--json] ADDRESS write NSID BLOCK      writes standard input, whole blocks of 512 bytes\n"
+    "       nvmehost [--json] ADDRESS compare NSID BLOCK    compares standard input\n"
+    "       nvmehost [--json] ADDRESS zeroes NSID BLOCK COUNT\n"
+    "                                                       fills up to 65,536 blocks with zeros\n"
+    "       nvmehost [--json] ADDRESS flush NSID\n"
     "\n"
-    "ADDRESS is a PCI address, such as 0000:00:04.0, of a controller that is bound to vfio-pci: nvmehost prints what to\n"
-    "type if it is not. Linux must not use the controller meanwhile. Standard input has at most 131,072 bytes.\n"
-    "Status 1: the request failed; 2: wrong words.\n";
+    "ADDRESS is a PCI address, such as 0000:00:04.0, of a controller that is bound to vfio-pci: nvmehost prints what\n"
+    "to type if it is not. Linux must not use the controller meanwhile. Standard input has at most 131,072 bytes.\n"
+    "--json prints the result as one line of JSON, with data in hexadecimal.\n"
+    "Status 0: done; 1: the request failed; 2: wrong words; 3: the blocks differ.\n";
 
 static struct vfio vfio;
 static struct port port;
 static const char *address;
+static bool is_json;
 
 /* Resets the controller, unmaps its memory, and ends. */
 static void leave(int status)
@@ -43,23 +46,22 @@ static void fail(const char *what, const char *reason)
     leave(FAILED);
 }
 
-/* Waits for the answer of a request, which must succeed. A comparison may differ. */
-static void finish(const char *what, struct nvmehost_placed placed)
+/* Waits for the answer of a request, which must succeed; whether a comparison found equal blocks. */
+static bool finish(const char *what, struct nvmehost_placed placed)
 {
     char status[80];
     struct nvmehost_outcome outcome = port_answer(&port, placed, TIMEOUT_MS);
-    if (outcome.code == NVMEHOST_NOTHING)
+    if (outcome.code == NVMEHOST_EXPIRED)
         fail(what, "no answer in 30 seconds");
     if (outcome.code != NVMEHOST_DONE)
         fail(what, port_name(outcome.code));
-    if (outcome.sct == 2 && outcome.sc == 0x85) {
-        fprintf(stderr, "nvmehost: %s: %s: the blocks differ\n", address, what);
-        leave(DIFFERENT);
-    }
+    if (outcome.sct == 2 && outcome.sc == 0x85)
+        return false;
     if (outcome.sct != 0 || outcome.sc != 0) {
         snprintf(status, sizeof status, "the controller answered status %x:%02x", outcome.sct, outcome.sc);
         fail(what, status);
     }
+    return true;
 }
 
 static void ask(uint32_t nsid)
@@ -93,29 +95,49 @@ static void print_text(const char *name, const uint8_t *bytes, int len)
 {
     while (len > 0 && (bytes[len - 1] == ' ' || bytes[len - 1] == 0))
         len--;
-    printf("%s ", name);
-    for (int i = 0; i < len; i++)
+    printf(is_json ? "\"%s\":\"" : "%s ", name);
+    for (int i = 0; i < len; i++) {
+        if (is_json && (bytes[i] == '"' || bytes[i] == '\\'))
+            putchar('\\');
         putchar(bytes[i] >= ' ' && bytes[i] < 127 ? bytes[i] : '?');
-    putchar('\n');
+    }
+    fputs(is_json ? "\"," : "\n", stdout);
+}
+
+static void print_namespace(uint32_t nsid, const char *separator)
+{
+    struct nvmehost_namespace n = nvmehost_namespace(&port.host, nsid);
+    unsigned long long blocks = n.blocks;
+    if (is_json && n.code == NVMEHOST_OK)
+        printf("%s{\"nsid\":%u,\"blocks\":%llu,\"block_size\":512}", separator, nsid, blocks);
+    else if (is_json)
+        printf("%s{\"nsid\":%u,\"not_used\":\"%s\"}", separator, nsid, port_name(n.code));
+    else if (n.code == NVMEHOST_OK)
+        printf("namespace %u: %llu blocks of 512 bytes\n", nsid, blocks);
+    else
+        printf("namespace %u: not used: %s\n", nsid, port_name(n.code));
 }
 
 static void identify(void)
 {
     struct nvmehost_controller c = nvmehost_controller(&port.host);
+    const char *separator = "";
+    if (c.code != NVMEHOST_OK)
+        fail("", port_name(c.code));
+    fputs(is_json ? "{" : "", stdout);
     print_text("model", port.buffer + 24, 40);
     print_text("serial", port.buffer + 4, 20);
     print_text("firmware", port.buffer + 64, 8);
-    if (c.code != NVMEHOST_OK)
-        fail("", port_name(c.code));
-    printf("cntlid %u\nnn %u\nmdts %u\noncs %04x\nvwc %u\n", c.cntlid, c.nn, c.mdts, c.oncs, c.vwc & 1u);
+    printf(is_json ? "\"cntlid\":%u,\"nn\":%u,\"mdts\":%u,\"oncs\":\"%04x\",\"vwc\":%u,\"namespaces\":["
+                   : "cntlid %u\nnn %u\nmdts %u\noncs %04x\nvwc %u\n", c.cntlid, c.nn, c.mdts, c.oncs, c.vwc & 1u);
     for (uint32_t nsid = 1; nsid <= c.nn && nsid <= NVMEHOST_HIGHEST_NSID; nsid++) {
         ask(nsid);
-        struct nvmehost_namespace n = nvmehost_namespace(&port.host, nsid);
-        if (n.code == NVMEHOST_OK)
-            printf("namespace %u: %llu blocks of 512 bytes\n", nsid, (unsigned long long)n.blocks);
-        else if (n.code != NVMEHOST_NOT_THERE)
-            printf("namespace %u: not used: %s\n", nsid, port_name(n.code));
+        if (nvmehost_namespace(&port.host, nsid).code == NVMEHOST_NOT_THERE)
+            continue;
+        print_namespace(nsid, separator);
+        separator = ",";
     }
+    fputs(is_json ? "]}\n" : "", stdout);
 }
 
 /* Standard input, which must be whole blocks; its length. */
@@ -133,6 +155,22 @@ static void write_output(size_t len)
 {
     if (fwrite(port.buffer, 1, len, stdout) != len || fflush(stdout))
         fail("standard output", strerror(errno));
+}
+
+/* The result of a command on blocks, as JSON. */
+static void print_result(const char *command, uint32_t nsid, uint64_t slba, size_t count)
+{
+    printf("{\"command\":\"%s\",\"nsid\":%u", command, nsid);
+    if (count != 0)
+        printf(",\"block\":%llu,\"count\":%zu", (unsigned long long)slba, count);
+}
+
+static void print_data(size_t len)
+{
+    fputs(",\"data\":\"", stdout);
+    for (size_t i = 0; i < len; i++)
+        printf("%02x", port.buffer[i]);
+    putchar('"');
 }
 
 /* A number of the command line; whether it is one. */
@@ -158,24 +196,53 @@ static int use_wrongly(void)
     return USAGE;
 }
 
+/* Sends a command on blocks, and waits for its answer; whether a comparison found equal blocks. */
+static bool send_command(const char *command, uint32_t nsid, uint64_t slba, uint32_t count, const uint8_t *bytes)
+{
+    size_t len = 512 * (size_t)count;
+    if (!strcmp(command, "read"))
+        return finish("Read", nvmehost_read(&port.host, nsid, slba, count));
+    if (!strcmp(command, "write"))
+        return finish("Write", nvmehost_write(&port.host, nsid, slba, bytes, len));
+    if (!strcmp(command, "compare"))
+        return finish("Compare", nvmehost_compare(&port.host, nsid, slba, bytes, len));
+    if (!strcmp(command, "zeroes"))
+        return finish("Write Zeroes", nvmehost_write_zeroes(&port.host, nsid, slba, count));
+    return finish("Flush", nvmehost_flush(&port.host, nsid));
+}
+
 static void execute(const char *command, uint32_t nsid, uint64_t slba, uint32_t count)
 {
     static uint8_t bytes[NVMEHOST_BUFFER];
-    size_t len = !strcmp(command, "write") || !strcmp(command, "compare") ? read_input(bytes) : 0;
+    bool is_read = !strcmp(command, "read"), is_compare = !strcmp(command, "compare");
+    if (is_compare || !strcmp(command, "write"))
+        count = (uint32_t)(read_input(bytes) / 512);
     begin();
     ask(nsid);
-    if (!strcmp(command, "read")) {
-        finish("Read", nvmehost_read(&port.host, nsid, slba, count));
+    bool is_equal = send_command(command, nsid, slba, count, bytes);
+    if (is_json) {
+        print_result(command, nsid, slba, count);
+        if (is_read)
+            print_data(512 * (size_t)count);
+        if (is_compare)
+            printf(",\"equal\":%s", is_equal ? "true" : "false");
+        puts("}");
+    } else if (is_read) {
         write_output(512 * (size_t)count);
-    } else if (!strcmp(command, "write")) {
-        finish("Write", nvmehost_write(&port.host, nsid, slba, bytes, len));
-    } else if (!strcmp(command, "compare")) {
-        finish("Compare", nvmehost_compare(&port.host, nsid, slba, bytes, len));
-    } else if (!strcmp(command, "zeroes")) {
-        finish("Write Zeroes", nvmehost_write_zeroes(&port.host, nsid, slba, count));
-    } else {
-        finish("Flush", nvmehost_flush(&port.host, nsid));
     }
+    if (!is_equal) {
+        fprintf(stderr, "nvmehost: %s: Compare: the blocks differ\n", address);
+        leave(DIFFERENT);
+    }
+}
+
+/* Takes the option --json out of the words; the number of words that are left. */
+static int take_options(int words, char **word)
+{
+    is_json = words > 1 && !strcmp(word[1], "--json");
+    for (int i = 1; is_json && i < words; i++)
+        word[i] = word[i + 1];
+    return words - is_json;
 }
 
 int main(int words, char **word)
@@ -185,6 +252,7 @@ int main(int words, char **word)
     uint64_t values[3] = { 1, 0, 0 };
     static const uint64_t most[3] = { UINT32_MAX, UINT64_MAX, 65536 };
     int wanted = 0;
+    words = take_options(words, word);
     if (words == 2 && !strcmp(word[1], "--help")) {
         fputs(usage, stdout);
         return 0;
@@ -207,5 +275,7 @@ int main(int words, char **word)
     } else {
         execute(word[2], (uint32_t)values[0], values[1], (uint32_t)values[2]);
     }
+    if (fflush(stdout))
+        fail("standard output", strerror(errno));
     leave(0);
 }

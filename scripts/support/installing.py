@@ -28,8 +28,10 @@ NVMELIVE=${NVMELIVE:-$library/nvmelive} exec "$library/lab/lab" "$@"
 # Others that put files of their own under the prefix, each with its words before it; and those of a release, in which
 # the library is a proved one, or none.
 Others = Tuple[Tuple[str, ...], ...]
-OTHERS: Others = (("scripts/library", "--install"), ("clients/nvme-tcp/install",))
-RELEASED: Others = (("scripts/library", "--install-proved"), ("clients/nvme-tcp/install",))
+OTHERS: Others = (("scripts/library", "--install"), ("scripts/host", "--install"),
+                  ("clients/nvme-tcp/install",))
+RELEASED: Others = (("scripts/library", "--install-proved"), ("scripts/host", "--install"),
+                    ("clients/nvme-tcp/install",))
 
 
 class NotInstalled(Exception):

@@ -1,4 +1,5 @@
 """Tests libnvmehost, the port and the program nvmehost, without a device."""
+import json
 import subprocess
 
 from support.host import building, header
@@ -7,6 +8,31 @@ from support.library.trying import NEEDED, STRICT
 TIME = 120
 # The tickets that are issued over a device that writes anything; the completions of a race, its seconds, and the most races.
 TICKETS, COMPLETIONS, SECONDS, RACES = 1000000, 300000, 1, 8
+ADDRESS = "0000:00:04.0"
+# Commands over a controller in memory, one after the other: the words, the length of the input, the status, and the
+# output or the object that it has as JSON, of the bytes that were written.
+COMMANDS = (
+    ([ADDRESS, "write", "1", "10"], 1024, 0, b""),
+    ([ADDRESS, "read", "1", "10", "2"], 0, 0, lambda blocks: blocks),
+    (["--json", ADDRESS, "read", "1", "11", "1"], 0, 0,
+     lambda blocks: {"command": "read", "nsid": 1, "block": 11, "count": 1, "data": blocks[512:].hex()}),
+    ([ADDRESS, "compare", "1", "10"], 1024, 0, b""), ([ADDRESS, "compare", "1", "12"], 512, 3, b""),
+    (["--json", ADDRESS, "compare", "1", "10"], 512, 0,
+     {"command": "compare", "nsid": 1, "block": 10, "count": 1, "equal": True}),
+    (["--json", ADDRESS, "compare", "1", "12"], 512, 3,
+     {"command": "compare", "nsid": 1, "block": 12, "count": 1, "equal": False}),
+    (["--json", ADDRESS, "write", "1", "12"], 512, 0, {"command": "write", "nsid": 1, "block": 12, "count": 1}),
+    (["--json", ADDRESS, "zeroes", "1", "10", "2"], 0, 0, {"command": "zeroes", "nsid": 1, "block": 10, "count": 2}),
+    ([ADDRESS, "read", "1", "11", "1"], 0, 0, bytes(512)), (["--json", ADDRESS, "flush", "1"], 0, 0,
+                                                            {"command": "flush", "nsid": 1}),
+    ([ADDRESS, "read", "2", "0", "1"], 0, 1, b""), ([ADDRESS, "read", "1", "2048", "1"], 0, 1, b""),
+    ([ADDRESS, "write", "1", "0"], 100, 1, b""),
+    ([ADDRESS, "identify"], 0, 0, b"model \nserial TEST\nfirmware \ncntlid 0\nnn 1\nmdts 5\noncs 0009\nvwc 0\n"
+                                  b"namespace 1: 2048 blocks of 512 bytes\n"),
+    (["--json", ADDRESS, "identify"], 0, 0,
+     {"model": "", "serial": "TEST", "firmware": "", "cntlid": 0, "nn": 1, "mdts": 5, "oncs": "0009", "vwc": 0,
+      "namespaces": [{"nsid": 1, "blocks": 2048, "block_size": 512}]}),
+)
 SANITIZERS = ["-fsanitize=address,undefined", "-fno-sanitize-recover=all"]
 
 
@@ -96,11 +122,28 @@ class Trial:
         program, address = self.prefix / "bin/nvmehost", "ffff:ff:1f.7"
         for words, wanted, said in (
                 ([], 2, "usage: "), ([address, "read"], 2, "usage: "), ([address, "dance"], 2, "usage: "),
+                (["--json"], 2, "usage: "), (["--json", address, "read"], 2, "usage: "),
                 (["nonsense", "identify"], 2, "is no PCI address"),
                 ([address, "identify"], 1, f"nvmehost: {address}: there is no such PCI device; lspci -D lists them\n"),
                 (["--help"], 0, "usage: ")):
             status, text = self.run([program, *words])
             problem = (status != wanted or said not in text) and f"status {status}\n{text}"
+            self.check(f"nvmehost {' '.join(words)}", problem)
+
+    def commands(self):
+        """The program over a controller in memory: what it prints, as text and as JSON, and its status."""
+        program = self.room / "memory-nvmehost"
+        problem = self.compiled(program, ("nvmehost.c", "port.c", "tests/memory_vfio.c", "tests/device.c"))
+        if problem:
+            self.check("the program over a controller in memory", problem)
+            return
+        blocks = bytes(range(256)) * 4
+        for words, given, wanted, said in COMMANDS:
+            ran = subprocess.run([str(program), *words], cwd=self.room, input=blocks[:given], capture_output=True,
+                                 timeout=TIME)
+            printed = json.loads(ran.stdout) if words[0] == "--json" else ran.stdout
+            expected = said(blocks) if callable(said) else said
+            problem = (ran.returncode, printed) != (wanted, expected) and f"status {ran.returncode}, {printed}"
             self.check(f"nvmehost {' '.join(words)}", problem)
 
 
@@ -114,4 +157,5 @@ def run(top, room):
     trial.hostile()
     trial.race()
     trial.program()
+    trial.commands()
     return 1 if trial.failed else 0
