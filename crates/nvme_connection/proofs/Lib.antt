@@ -1,0 +1,7 @@
+mod Data
+mod Facts
+mod Gathering
+mod Kept
+mod Reading
+mod Streams
+mod Verdicts

@@ -1,0 +1,5 @@
+pub mod Connections
+pub mod Streams
+pub mod Holding
+pub mod Laws
+pub mod Examples
