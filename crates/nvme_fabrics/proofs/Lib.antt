@@ -1,0 +1,6 @@
+mod BestOf
+mod Tables
+mod Changes
+mod RunLaws
+mod OwnHosts
+mod Refusals

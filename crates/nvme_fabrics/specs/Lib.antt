@@ -1,0 +1,9 @@
+pub mod Answers
+pub mod Requests
+pub mod Associations
+pub mod Places
+pub mod Sessions
+pub mod Commands
+pub mod Runs
+pub mod Laws
+pub mod Examples

@@ -1,0 +1,57 @@
+//! Laws over any run of inputs. Each is the contract of an empty function.
+
+ghost use Rattle.nvme_fabrics.specs.Laws.{
+  OwnHost,
+  OneQueue,
+  IsLive,
+  IsNamed,
+  SameController,
+  EndIsFinal,
+  NothingElse,
+  EndsTogether,
+  SameHosts,
+  RefusedKeeps,
+  ChosenIsFree,
+  NoneIsFree,
+};
+
+/// A connection is a queue of a controller only by a Connect of its own that named the controller's host, and after
+/// that host has authenticated itself if hosts have keys.
+fn own_host()
+    ensures { OwnHost }
+{}
+
+/// No connection is two queues, and no queue has two connections.
+fn one_queue()
+    ensures queues { OneQueue }
+    ensures live { IsLive }
+    ensures named { IsNamed }
+{}
+
+/// A refused Connect changes nothing.
+fn refused_keeps()
+    ensures { RefusedKeeps }
+{}
+
+/// A host that takes any controller gets a free one of its own, if there is one.
+fn free_controllers()
+    ensures chosen { ChosenIsFree }
+    ensures none { NoneIsFree }
+{}
+
+/// A queue never becomes that of another controller, and what has ended stays so.
+fn same_controller()
+    ensures same { SameController }
+    ensures ended { EndIsFinal }
+{}
+
+/// Nothing but a Connect of its own makes a connection a queue.
+fn nothing_else()
+    ensures { NothingElse }
+{}
+
+/// All queues of a controller end with its association. No input changes which host a controller has.
+fn ends_together()
+    ensures queues { EndsTogether }
+    ensures hosts { SameHosts }
+{}
