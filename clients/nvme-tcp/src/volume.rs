@@ -215,9 +215,11 @@ impl VolumeDisk {
 #[cfg(test)]
 mod tests {
     use super::format::{format, How};
+    use super::superblock::JOURNAL_AT;
     use super::*;
     use crate::controller::Data;
     use crate::nvme::{ENTRY, RESERVATION_REGISTER};
+    use crate::record::Record;
     use std::path::PathBuf;
     use std::time::Instant;
 
@@ -284,9 +286,30 @@ mod tests {
         assert_eq!((journal.epoch, after.1), (2, checkpoint));
         // One segment is left out, in which the last owner may write.
         let (place, segment) = (content.kept.place, content.kept.segment);
-        assert_eq!((after.0.kept.place, after.0.kept.segment), ((place + 2) % area::SEGMENTS, segment + 1));
+        assert_eq!((after.0.kept.place, after.0.kept.segment), ((place + 2) % area::SEGMENTS, segment + 2));
         drop(journal);
         fs::remove_file(path).unwrap();
+    }
+
+    #[test]
+    fn a_late_checkpoint_of_the_last_owner_is_not_taken() {
+        for place in 0..area::SEGMENTS {
+            let path = made("late");
+            let file = open_direct(&path, true).unwrap();
+            let record = Record { epoch: 0, event: Event::Checkpoint(kept(&path).1) }.bytes();
+            let begin_segment = |number, place| {
+                let at = JOURNAL_AT + (place % area::SEGMENTS * area::SEGMENT) as u64;
+                file.write_all_at(&area::checkpoint(number, &record), at).unwrap();
+            };
+            begin_segment(5, place);
+            let mut volume = opened(&path).unwrap();
+            let owned = volume.take().unwrap();
+            begin_segment(6, place + 1);
+            let found = kept(&path).0.kept;
+            assert_eq!((found.segment, found.place, found.records[0].epoch), (7, (place + 2) % area::SEGMENTS, 1));
+            drop(owned);
+            fs::remove_file(path).unwrap();
+        }
     }
 
     #[test]

@@ -59,8 +59,8 @@ pub struct VolumeLog {
 }
 
 impl VolumeLog {
-    /// Begins a segment with what persists of those before. It leaves one out, in which the last owner may have begun
-    /// a checkpoint: a write of it that is in progress meets nothing of this target.
+    /// Begins a segment with what persists of those before. It leaves a place and a number out, with which the last
+    /// owner may have begun a checkpoint: a write of it that is in progress meets nothing of this target, and is older.
     pub fn begin(
         file: File,
         lease: Arc<Lease>,
@@ -76,12 +76,13 @@ impl VolumeLog {
         Ok(log)
     }
 
+    /// Begins the segment whose number and place are `further` than those of the last.
     fn begin_segment(&mut self, further: usize) -> io::Result<()> {
         let event = Event::Checkpoint(self.replica.checkpoint());
         let record = Record { epoch: self.superblock.epoch, event }.bytes();
-        let pages = area::checkpoint(self.segment + 1, &record);
-        self.segment += 1;
+        self.segment += further as u64;
         self.place = (self.place + further) % SEGMENTS;
+        let pages = area::checkpoint(self.segment, &record);
         self.page = FIRST_PAGE;
         self.number = 1;
         self.write(0, &pages)
