@@ -74,11 +74,11 @@ pub fn zeroing(entry: &[u8; ENTRY], range: Range) -> [u8; ENTRY] {
     zeroing
 }
 
-/// The ranges that a command zeroes.
-pub fn ranges_to_zero<R: FromIterator<Range>>(entry: &[u8; ENTRY], data: Data<'_>, blocks: u64) -> R {
+/// How many blocks a command zeroes.
+pub fn blocks_to_zero(entry: &[u8; ENTRY], data: Data<'_>, blocks: u64) -> u64 {
     match plan_of(entry, data, blocks) {
-        Plan::Zero(bytes) => ranges_of(bytes).collect(),
-        Plan::Nothing(_) => R::from_iter([]),
+        Plan::Zero(bytes) => ranges_of(bytes).map(|it| it.count).sum(),
+        Plan::Nothing(_) => 0,
     }
 }
 

@@ -11,6 +11,7 @@ use crate::journal::Journal;
 use crate::listening::{plain, Listener};
 use crate::log::Topic;
 use crate::nvme::ENTRY;
+use crate::storage::Storage;
 use crate::system::{end_when_lost, is_asked_to_end, is_asked_to_read_again, Interest, Poll, Ready};
 use crate::target::{Effect, Handed, Target};
 use crate::worker::Finished;
@@ -149,7 +150,7 @@ impl<'a> Server<'a> {
 
     /// Serves every connection that is ready. If none is, and some wait for the kept run, blocks on the oldest write.
     fn turn(&mut self, ready: &mut Vec<Ready>, look: &mut Instant) -> Outcome<()> {
-        let is_patient = self.awaited().is_none() && !self.target.has_piece();
+        let is_patient = self.awaited().is_none() && !self.target.has_turn();
         let patience = if is_patient { LOOK } else { Duration::ZERO };
         self.target.hand_out();
         self.poll.wait(patience.as_millis() as i32, ready).map_err(Fault::System)?;
@@ -174,8 +175,8 @@ impl<'a> Server<'a> {
                 name => is_idle &= !self.serve(name, *it)?,
             }
         }
-        if self.target.has_piece() {
-            self.target.zero_piece()?;
+        if self.target.has_turn() {
+            self.target.take_turn()?;
             self.apply_effects()?;
         } else if is_idle {
             self.target.hand_out();
@@ -190,6 +191,7 @@ impl<'a> Server<'a> {
             self.resume_listeners(now)?;
             self.target.machine.rest_run()?;
             self.target.log.rest(now);
+            self.target.storage.iter_mut().for_each(Storage::rest);
         }
         Ok(())
     }

@@ -13,12 +13,12 @@ mod jobs;
 mod ledger;
 pub mod options;
 pub mod pending;
-pub mod pieces;
 mod reading;
 mod streams;
 mod syncs;
 mod workers;
 mod writing;
+pub mod zeroes;
 
 #[cfg(test)]
 mod tests;
@@ -27,8 +27,9 @@ use crate::answer::Answer;
 use crate::association::ConnectionId;
 use crate::fault::{Fault, Outcome};
 use crate::log::warn;
-use crate::nvme::{COMPARE, READ};
+use crate::nvme::{BLOCK, COMPARE, MOST_BLOCKS, READ};
 use crate::status::{READ_ERROR, WRITE_FAULT};
+use crate::system::ZeroRoom;
 use cache::Cache;
 pub use file::{blocks_of, is_read_only, Image, ImageDisk};
 use frames::{Extent, FRAME_BYTES};
@@ -47,7 +48,7 @@ use std::time::Instant;
 use streams::Streams;
 use syncs::Syncs;
 use workers::Workers;
-use writing::Zeroing;
+use writing::{Zeroing, MOST_WRITTEN};
 
 /// Commands wait with this many that wait for writes, this many zeroes, or this many bytes to read.
 const MOST_OPEN: usize = 4096;
@@ -79,6 +80,8 @@ pub struct Storage {
     /// The blocks of a command whose frames are not adjacent in memory, and whether the last command has them there.
     room: Vec<u8>,
     is_in_room: bool,
+    /// The room of commands that zero many blocks, once there was one.
+    zero_room: Option<ZeroRoom>,
     /// What the disk refused, so that its blocks may be older than those that were written.
     failure: Option<io::Error>,
     /// Whether a failure ends the target, since a kept run has no line for it.
@@ -114,6 +117,7 @@ impl Storage {
             starved: Vec::new(),
             room: Vec::new(),
             is_in_room: false,
+            zero_room: None,
             failure: None,
             keeps_run,
             name,
@@ -191,9 +195,8 @@ impl Storage {
             Need::Read { first, blocks } => (Extent { first, blocks }, true),
             Need::Write { first, blocks } => (Extent { first, blocks }, false),
             Need::Zero { first, blocks } if self.failure.is_none() => {
-                let extent = Extent { first, blocks };
-                self.room.resize(extent.bytes().max(self.room.len()), 0);
-                return (&mut self.room[..extent.bytes()], Brought { first, blocks: 0, flushes: false });
+                let bytes = Extent { first, blocks }.bytes();
+                return (self.room_for_zeros(bytes), Brought { first, blocks: 0, flushes: false });
             }
             Need::Zero { .. } | Need::Nothing => return (&mut [], Brought::default()),
             Need::Flush => return (&mut [], Brought { flushes: self.failure.is_none(), ..Brought::default() }),
@@ -213,6 +216,25 @@ impl Storage {
             self.frame(number);
         }
         (self.bring_bytes(extent, blocks), Brought { first, blocks, flushes: false })
+    }
+
+    /// A room for this many zeros. A long one takes no memory.
+    fn room_for_zeros(&mut self, bytes: usize) -> &mut [u8] {
+        if bytes > MOST_WRITTEN && self.zero_room.is_none() {
+            self.zero_room = ZeroRoom::new(MOST_BLOCKS as usize * BLOCK as usize).ok();
+        }
+        match &mut self.zero_room {
+            Some(room) if bytes > MOST_WRITTEN => room.lend(bytes),
+            _ => {
+                self.room.resize(bytes.max(self.room.len()), 0);
+                &mut self.room[..bytes]
+            }
+        }
+    }
+
+    /// Is called ten times a second.
+    pub fn rest(&mut self) {
+        self.zero_room.iter_mut().for_each(ZeroRoom::rest);
     }
 
     /// The bytes of blocks, the first of which are in the cache: in it, or in a room with copies of those.

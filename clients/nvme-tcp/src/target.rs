@@ -20,7 +20,7 @@ use crate::output::Buffers;
 use crate::proving::Prover;
 use crate::status::{AUTHENTICATION_REQUIRED, COMMAND_SEQUENCE, INACCESSIBLE, SUCCESS};
 use crate::storage::pending::{Issued, Waiting};
-use crate::storage::pieces::Pieces;
+use crate::storage::zeroes::LongZeroes;
 use crate::storage::Storage;
 use nvmesim::{Attachment, Need};
 use std::collections::VecDeque;
@@ -97,7 +97,7 @@ pub struct Target<'a> {
     /// The disk, unless the blocks are in memory; and the commands that wait for it.
     pub storage: Option<Storage>,
     pub waiting: Waiting,
-    pub pieces: Pieces,
+    pub long_zeroes: LongZeroes,
     /// Buffers of answers.
     pub buffers: Buffers,
     pub journal: Option<Journal>,
@@ -135,7 +135,7 @@ impl<'a> Target<'a> {
             identity,
             storage,
             waiting: Waiting::default(),
-            pieces: Pieces::default(),
+            long_zeroes: LongZeroes::default(),
             buffers: Buffers::default(),
             journal: None,
             effects: VecDeque::new(),

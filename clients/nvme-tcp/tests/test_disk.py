@@ -122,8 +122,8 @@ class Direct(Larger):
         super().setUp()
 
 
-class Pieces(TargetTest):
-    """Commands that zero many blocks, of which each piece is an event of its own."""
+class LongZeroes(TargetTest):
+    """Commands that zero many blocks: each is one event of the subsystem, whole or denied."""
 
     image, config = 131072, config_of(131072)
 
@@ -140,9 +140,14 @@ class Pieces(TargetTest):
         state = Path(f"/proc/{self.target.process.pid}/stat")
         self.wait_for(lambda: state.read_text(encoding="ascii").rsplit(") ", 1)[1].startswith("T"))
 
+    def executed_by(self) -> List[str]:
+        """The controllers of all commands that were executed, in order."""
+        return [it.split()[1] for it in self.script.read_text().splitlines() if it.startswith("execute ")]
+
     def test_others_are_served_between_two(self) -> None:
         a, b = self.host(queues=2), self.host(0xb2)
         self.assertEqual(b.write(131064, b"\1" * 4096), 0)
+        before = len(self.executed_by())
         self.stop()
         for cid in range(4):
             a.queues[0].send_command(0x08, 1, struct.pack("<QI", 0, 65535), cid=cid)
@@ -151,41 +156,72 @@ class Pieces(TargetTest):
         self.target.process.send_signal(signal.SIGCONT)
         self.assertEqual(b.queues[0].completion().data, b"\1" * 4096)
         self.assertEqual([queue.completion().status for queue in a.queues for _ in range(4)], [0] * 8)
-        # The script has what hosts were answered.
-        events = [it.split()[1] for it in self.script.read_text().splitlines() if it.startswith("execute ")]
-        last = len(events) - events[::-1].index("2")
-        self.assertGreater(events[last:].count("1"), 8 * 32 - 16)
+        # The read waits for two of them at most, and each is one event.
+        events = self.executed_by()[before:]
+        self.assertEqual(sorted(events), ["1"] * 8 + ["2"])
+        self.assertLessEqual(events.index("2"), 2)
+
+    def outcome(self, readers: Host, status: int) -> None:
+        """All is zeroed if the command has succeeded, and nothing if it was denied."""
+        zeroed = {readers.read(slba, 1).data == bytes(512) for slba in (*range(0, 65536, 2048), 65535)}
+        self.assertEqual(zeroed, {status == 0})
+        self.assertIn(status, (0, 0x4083))
 
     def test_a_host_that_is_fenced_meanwhile(self) -> None:
-        """Its pieces from then on are denied, and so is the command."""
+        """A reservation that comes at any moment denies the command as a whole, or comes after it."""
         a, b = self.host(), self.host(0xb2)
         self.assertEqual(b.register(0, 0xb), 0)
-        firsts = range(0, 65536, 2048)
-        for attempt in range(200):
-            self.assertEqual({a.write(slba, b"\1" * 512) for slba in firsts}, {0})
-            a.queues[0].send_command(0x08, 1, struct.pack("<QI", 0, 65535))
+        dataset = (0x09, struct.pack("<II", 0, 4), struct.pack("<IIQ", 0, 65536, 0))
+        for attempt in range(40):
+            opcode, words, data = dataset if attempt % 2 else (0x08, struct.pack("<QI", 0, 65535), b"")
+            self.assertEqual({a.write(slba, b"\1" * 512) for slba in (*range(0, 65536, 2048), 65535)}, {0})
+            a.queues[0].send_command(opcode, 1, words, data)
             time.sleep(attempt % 10 * 0.0005)
             self.assertEqual(b.acquire(0xb), 0)
-            status = a.queues[0].completion().status
-            zeroed = [b.read(slba, 1).data == bytes(512) for slba in firsts]
-            self.assertEqual(zeroed, sorted(zeroed, reverse=True))
-            self.assertEqual(status, 0 if all(zeroed) else 0x4083)
+            self.outcome(b, a.queues[0].completion().status)
             self.assertEqual(b.reserve(0x15, 1 << 8, 0xb), 0)
-            if any(zeroed) and not all(zeroed):
-                return
-        self.fail("it was never fenced in the middle")
+
+    def test_held_zeroes(self) -> None:
+        """A fence between fetch and execution denies the command as a whole."""
+        a, b = self.host(), self.host(0xb2)
+        self.assertEqual(b.register(0, 0xb), 0)
+        for is_fenced in (True, False):
+            self.assertEqual({a.write(slba, b"\1" * 512) for slba in (*range(0, 65536, 2048), 65535)}, {0})
+            self.target.ask("hold 1")
+            a.queues[0].send_command(0x08, 1, struct.pack("<QI", 0, 65535))
+            self.wait_for(lambda: self.target.ask("held 1") == "held 1 1")
+            if is_fenced:
+                self.assertEqual(b.acquire(0xb), 0)
+            before = len(self.executed_by())
+            self.target.ask("go 1")
+            status = a.queues[0].completion().status
+            self.assertEqual((status, self.executed_by()[before:]), (0x4083 if is_fenced else 0, ["1"]))
+            self.outcome(b, status)
+            if is_fenced:
+                self.assertEqual(b.reserve(0x15, 1 << 8, 0xb), 0)
 
     def test_a_host_that_goes(self) -> None:
-        """No piece is zeroed for it from then on, and the next host has its controller."""
+        """Its command is executed as a whole or not at all, and the next host has its controller."""
         a, b = self.host(), self.host(0xb2)
-        self.assertEqual(b.write(65535, b"\1" * 512), 0)
+        self.assertEqual({b.write(slba, b"\1" * 512) for slba in (1, 65535)}, {0})
         self.stop()
         a.queues[0].send_command(0x08, 1, struct.pack("<QI", 0, 65535))
         a.queues[0].socket.close()
         a.close()
         self.target.process.send_signal(signal.SIGCONT)
         self.assertEqual(self.host().write(0, b"\2" * 512), 0)
-        self.assertEqual([b.read(slba, 1).data[:1] for slba in (0, 65535)], [b"\2", b"\1"])
+        self.assertEqual(b.read(0, 1).data[:1], b"\2")
+        self.assertEqual(b.read(1, 1).data, b.read(65535, 1).data)
+
+    def test_memory(self) -> None:
+        """The room of so many zeros takes no memory afterwards."""
+        host = self.host()
+        status = Path(f"/proc/{self.target.process.pid}/status")
+        resident = lambda: 1024 * int(status.read_text().split("VmRSS:")[1].split()[0])
+        for _ in range(2):
+            before = resident()
+            self.assertEqual(host.queues[0].call(0x08, 1, struct.pack("<QI", 0, 65535)).status, 0)
+            self.wait_for(lambda: resident() < before + 4 * MEBIBYTE)
 
 
 @unittest.skipUnless(shutil.which("cc"), "there is no cc")

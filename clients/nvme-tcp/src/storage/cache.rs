@@ -1,10 +1,13 @@
 //! The frames of the disk that are in memory, at most a fixed number of them. A frame that no command and no work of
 //! the disk needs is replaced by the CLOCK algorithm: the hand passes frames that were used since it came by last.
 
-use super::frames::{Extent, Frame, Part, FRAME, FRAME_BYTES, MOST_PARTS};
+use super::frames::{Extent, Frame, Mask, Part, FRAME, FRAME_BYTES, MOST_PARTS};
 use std::cell::Cell;
 use std::collections::HashMap;
 use std::ops::Range;
+
+/// The number of no frame.
+const NOWHERE: u64 = u64::MAX;
 
 /// The frames in memory.
 pub struct Cache {
@@ -108,6 +111,20 @@ impl Cache {
         frame.failed &= !part.mask();
     }
 
+    /// Drops a frame, if the part is all of it and no command and no work of the disk needs it; whether it is gone.
+    pub fn drop_whole(&mut self, part: Part) -> bool {
+        match self.find(part.number) {
+            Some(place) if part.mask() == Mask::MAX && !self.frames[place].is_busy => {
+                self.places.remove(&part.number);
+                self.last.set(None);
+                self.frames[place].become_other(NOWHERE);
+                self.frames[place].is_recent = false;
+                true
+            }
+            _ => false,
+        }
+    }
+
     /// Changes a frame, and counts it again if it must stay.
     pub fn change<R>(&mut self, place: usize, act: impl FnOnce(&mut Frame) -> R) -> R {
         let frame = &mut self.frames[place];
@@ -192,6 +209,26 @@ mod tests {
         assert_eq!((cache.frames.len() as u64, cache.busy), (most, 3));
         assert!((0..most).all(|it| cache.find(it).is_some() == (3..6).contains(&it)));
         assert!((3 * most + 3..4 * most).all(|it| cache.find(it).is_some()));
+    }
+
+    #[test]
+    fn whole_frames_are_dropped() {
+        let mut cache = Cache::new(0);
+        let whole = |number| Part { number, from: 0, to: FRAME };
+        for number in 0..3 {
+            let place = cache.take(number);
+            cache.make_valid(place, whole(number));
+        }
+        let busy = cache.find(1).unwrap();
+        cache.change(busy, |it| it.dirty = 1);
+        let parts = [whole(0), whole(1), Part { to: FRAME - 1, ..whole(2) }, whole(3)];
+        assert_eq!(parts.map(|it| cache.drop_whole(it)), [true, false, false, false]);
+        assert_eq!([0, 1, 2, 3].map(|it| cache.find(it).is_some()), [false, true, true, false]);
+        for number in 9..9 + cache.most as u64 {
+            cache.take(number);
+        }
+        let place = cache.take(0);
+        assert_eq!((cache.at(place).valid, cache.frames.len()), (0, cache.most));
     }
 
     #[test]

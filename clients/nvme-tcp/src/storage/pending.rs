@@ -119,21 +119,26 @@ impl Target<'_> {
             || self.controllers[index].fetched() >= MOST_FETCHED
             || self.waiting.bytes_of(index) >= MOST_DATA
             || matches!(opcode, WRITE_ZEROES | DATASET_MANAGEMENT)
-                && (storage.has_many_zeroes() || self.pieces.is_full())
+                && (storage.has_many_zeroes() || self.long_zeroes.is_full())
     }
 
     /// Whether a connection has commands that will be answered.
     pub fn owes(&self, connection: ConnectionId) -> bool {
         self.waiting.has_of(connection)
-            || self.pieces.has_of(connection)
+            || self.long_zeroes.has_of(connection)
             || self.storage.as_ref().map_or(false, |it| it.owes(connection))
     }
 
     /// Executes an I/O command over the disk, or has it wait.
     pub fn io_over_disk(&mut self, issued: Issued, data: Data<'_>) -> Outcome<Option<Answer>> {
-        if self.begin_pieces(&issued, data) {
+        if self.wait_for_turn(&issued, data) {
             return Ok(None);
         }
+        self.execute_now(issued, data)
+    }
+
+    /// Executes an I/O command over the disk, or has it wait for blocks.
+    pub fn execute_now(&mut self, issued: Issued, data: Data<'_>) -> Outcome<Option<Answer>> {
         if issued.opcode == DATASET_MANAGEMENT {
             let ticket = self.storage.as_mut().map(|it| it.open(issued.index));
             let answer = self.deallocate(issued.index, issued.qid, &issued.entry, data, ticket)?;
@@ -313,6 +318,6 @@ impl Target<'_> {
                 self.forget(id, index, pending.was_held);
             }
         }
-        self.drop_pieces(index, qid);
+        self.long_zeroes.drop(index, qid);
     }
 }

@@ -10,7 +10,7 @@ use nvmesim::Need;
 use std::mem;
 
 /// The most bytes of one write.
-const MOST_WRITTEN: usize = 1 << 20;
+pub(super) const MOST_WRITTEN: usize = 1 << 20;
 /// The most bytes of writes that are in progress.
 const MOST_IN_PROGRESS: usize = 8 << 20;
 /// A write of at most this many bytes is made at once, if the system takes it into its memory and there is one host.
@@ -47,7 +47,8 @@ impl Storage {
         }
     }
 
-    /// Zeros replace blocks in the cache, and on the disk later. Blocks that were to be written are zeros instead.
+    /// Zeros replace blocks in the cache, and on the disk later. Blocks that were to be written are zeros instead. Whole
+    /// frames leave the cache if they can: that takes less time, and one that comes back has zeros.
     pub(super) fn take_zeros(&mut self, extent: Extent, ticket: u64) {
         // A long room is not kept.
         if self.room.len() > MOST_WRITTEN {
@@ -59,6 +60,9 @@ impl Storage {
         let mut tickets = vec![ticket];
         self.ledger.add(ticket);
         for part in extent.parts() {
+            if self.cache.drop_whole(part) {
+                continue;
+            }
             if let Some(place) = self.cache.find(part.number) {
                 self.cache.zero(place, part);
                 self.cache.change(place, |frame| {

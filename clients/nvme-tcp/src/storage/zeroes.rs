@@ -1,0 +1,77 @@
+//! Commands that zero many blocks of a disk. Each is executed whole, and one is in each turn of the event loop, so that
+//! other hosts are served between two.
+
+use super::pending::Issued;
+use super::Owed;
+use crate::association::ConnectionId;
+use crate::bytes::{u16_at, u32_at};
+use crate::controller::Data;
+use crate::deallocating::blocks_to_zero;
+use crate::fault::Outcome;
+use crate::nvme::{DATASET_MANAGEMENT, WRITE_ZEROES};
+use crate::target::Target;
+use std::collections::VecDeque;
+
+/// A command that zeroes at most this many blocks does not wait for a turn.
+const FEW: u64 = 2048;
+/// The most commands of all hosts that wait.
+const MOST: usize = 64;
+
+/// The commands that wait for a turn, with their data. None is fetched yet.
+#[derive(Default)]
+pub struct LongZeroes {
+    list: VecDeque<(Issued, Vec<u8>)>,
+}
+
+impl LongZeroes {
+    pub fn is_full(&self) -> bool {
+        self.list.len() >= MOST
+    }
+
+    pub fn has_of(&self, connection: ConnectionId) -> bool {
+        self.list.iter().any(|(it, _)| it.connection == connection)
+    }
+
+    /// Drops the commands of a controller with their queue, or with all queues.
+    pub fn drop(&mut self, index: usize, qid: Option<u16>) {
+        self.list.retain(|(it, _)| it.index != index || qid.map_or(false, |qid| it.qid != qid));
+    }
+}
+
+impl Target<'_> {
+    /// Has a command wait for its turn if it zeroes many blocks; whether it does.
+    pub fn wait_for_turn(&mut self, issued: &Issued, data: Data<'_>) -> bool {
+        let entry = &issued.entry;
+        let blocks = match issued.opcode {
+            DATASET_MANAGEMENT => blocks_to_zero(entry, data, self.configuration.blocks(u32_at(entry, 4))),
+            WRITE_ZEROES => u64::from(u16_at(entry, 48)) + 1,
+            _ => return false,
+        };
+        let bytes = if let Data::ToController(bytes) = data { bytes } else { &[] };
+        if blocks > FEW {
+            self.long_zeroes.list.push_back((*issued, bytes.to_vec()));
+        }
+        blocks > FEW
+    }
+
+    /// Whether a command can have its turn now.
+    pub fn has_turn(&self) -> bool {
+        !self.long_zeroes.list.is_empty() && self.storage.as_ref().map_or(false, |it| !it.has_many_zeroes())
+    }
+
+    /// Executes the next command whose turn it is.
+    pub fn take_turn(&mut self) -> Outcome<()> {
+        let (issued, bytes) = match self.long_zeroes.list.pop_front() {
+            Some(next) => next,
+            None => return Ok(()),
+        };
+        let data = if bytes.is_empty() { Data::FromController(0) } else { Data::ToController(&bytes) };
+        if let Some(answer) = self.execute_now(issued, data)? {
+            let Issued { connection, mut entry, opcode, .. } = issued;
+            entry[0] = opcode;
+            let owed = Owed { connection, entry, answer, is_synced: false };
+            self.storage.iter_mut().zip([owed]).for_each(|(storage, owed)| storage.answers.push_back(owed));
+        }
+        Ok(())
+    }
+}
