@@ -289,6 +289,10 @@ fn serve_over(options: Options, configuration: Configuration, source: Source, ke
         None => Subsystem::open_lent(&configuration.config, &mut bytes[BLOCKS_AT..]),
     };
     let subsystem = subsystem.map_err(end(REFUSED, options.config.display()))?;
+    if source.blocks().is_some() {
+        // Memory is all that it costs if this fails.
+        let _ = system::give_back_zeros();
+    }
     let control =
         optional(&options.control, |path| locking::bind(path.display(), options.waits, || control::listen(path)))?;
     let Taken { journal, disk, identity } = take(source, &options, &configuration)?;

@@ -1,12 +1,13 @@
 //! System calls that the standard library lacks: its poll, epoll(7), options of sockets, space and locks of files,
-//! signals, what keeps memory secret, and memory that is mapped. One of four files with unsafe code. The others are `libcrypto.rs`,
-//! `processor.rs` and clients/rust/src/raw.rs, which calls the library.
+//! signals, what keeps memory secret, and memory that is mapped. One of four files with unsafe code. The others are
+//! `libcrypto.rs`, `processor.rs` and clients/rust/src/raw.rs, which calls the library.
 //!
 //! Why it is safe: `Event` has the layout of the kernel's `struct epoll_event` on x86-64, which is packed; arrays and
 //! values have the lengths that the calls are given; and nobody else owns a descriptor that a call has returned. The
 //! signal handler stores to an atomic value and calls signal(2), as a handler may. A `ZeroRoom` has its addresses for
 //! itself. Several are of one byte, which is zero at any time: only an execution of Write Zeroes has the room, and it is
-//! proved to store nothing else.
+//! proved to store nothing else. A page of zeros that is given back reads as zeros, and while there is one thread nobody
+//! writes it meanwhile.
 
 use std::fs::File;
 use std::io;
@@ -234,6 +235,44 @@ impl Poll {
     }
 }
 
+/// Mappings of fewer bytes are left alone.
+const LEAST_MAPPED: usize = 1 << 20;
+const PAGE: usize = 4096;
+/// MADV_NOHUGEPAGE.
+const SMALL_PAGES: i32 = 15;
+
+/// The addresses of a line of /proc/self/maps, if it is memory of this process that no file is below.
+fn own_memory(line: &str) -> Option<(usize, usize)> {
+    let words: Vec<&str> = line.split_whitespace().collect();
+    let (from, to) = match words[..] {
+        [range, "rw-p", _, _, "0"] => range.split_once('-')?,
+        _ => return None,
+    };
+    Some((usize::from_str_radix(from, 16).ok()?, usize::from_str_radix(to, 16).ok()?))
+}
+
+fn has_only_zeros(page: usize) -> bool {
+    let words = unsafe { std::slice::from_raw_parts(page as *const u64, PAGE / 8) };
+    words.iter().all(|it| *it == 0)
+}
+
+/// Gives back pages of large mappings that have only zeros, and so take memory for nothing: the memory of the
+/// controllers' hosts, of which the target uses little. It is called before there is a second thread.
+pub fn give_back_zeros() -> io::Result<()> {
+    let maps = std::fs::read_to_string("/proc/self/maps")?;
+    for (from, to) in maps.lines().filter_map(own_memory).filter(|(from, to)| to - from >= LEAST_MAPPED) {
+        unsafe { madvise(from as *mut u8, to - from, SMALL_PAGES) };
+        let mut begin = from;
+        for page in (from..=to).step_by(PAGE) {
+            if page == to || !has_only_zeros(page) {
+                unsafe { madvise(begin as *mut u8, page - begin, NOT_NEEDED) };
+                begin = page + PAGE;
+            }
+        }
+    }
+    Ok(())
+}
+
 /// PROT_READ | PROT_WRITE, MAP_SHARED, MAP_PRIVATE | MAP_ANONYMOUS | MAP_NORESERVE, and MAP_FIXED.
 const READ_WRITE: i32 = 3;
 const SHARED: i32 = 1;
@@ -303,6 +342,15 @@ impl Drop for ZeroRoom {
 #[cfg(test)]
 mod tests {
     use super::*;
+
+    #[test]
+    fn own_memory_has_no_file() {
+        assert_eq!(own_memory("7f10-7f20 rw-p 00000000 00:00 0 "), Some((0x7f10, 0x7f20)));
+        for other in ["7f10-7f20 r--p 00000000 00:00 0", "7f-80 rw-p 0 00:00 0 [heap]", "7f-80 rw-p 0 fe:00 33 /lib/it"]
+        {
+            assert_eq!(own_memory(other), None);
+        }
+    }
 
     #[test]
     fn a_room_of_zeros() {

@@ -216,12 +216,26 @@ class LongZeroes(TargetTest):
     def test_memory(self) -> None:
         """The room of so many zeros takes no memory afterwards."""
         host = self.host()
-        status = Path(f"/proc/{self.target.process.pid}/status")
-        resident = lambda: 1024 * int(status.read_text().split("VmRSS:")[1].split()[0])
+        before = self.target.memory()
         for _ in range(2):
-            before = resident()
             self.assertEqual(host.queues[0].call(0x08, 1, struct.pack("<QI", 0, 65535)).status, 0)
-            self.wait_for(lambda: resident() < before + 4 * MEBIBYTE)
+            self.wait_for(lambda: self.target.memory() < before + 4 * MEBIBYTE)
+
+
+class ManyHosts(TargetTest):
+    """As many hosts as there may be."""
+
+    image, options, hosts = 131072, ["--cache", "4M"], range(0xa1, 0xb1)
+    config = "".join([*(f"controller {it - 0xa0} host {it:#x}\n" for it in hosts),
+                      f"namespace 1 blocks {image} shared\n", *(f"attached {it - 0xa0} 1\n" for it in hosts)])
+
+    def test_memory(self) -> None:
+        """Of the 4 MiB that each controller's host has, the target takes what is used."""
+        hosts = [self.host(it) for it in self.hosts]
+        for slba, host in enumerate(hosts):
+            self.assertEqual(host.write(256 * slba, bytes([slba]) * 131072), 0)
+            self.assertEqual(host.read(256 * slba, 256).data, bytes([slba]) * 131072)
+        self.assertLess(self.target.memory(), 36 * MEBIBYTE)
 
 
 @unittest.skipUnless(shutil.which("cc"), "there is no cc")
