@@ -77,9 +77,10 @@ Place = Union[int, Tuple[str, int]]
 class Connection:
     """A connection that sends and receives whole PDUs. `digests` as in ICReq."""
 
-    def __init__(self, port: Place, digests: int = 0, alignment: int = 0, opens: bool = True) -> None:
+    def __init__(self, port: Place, digests: int = 0, alignment: int = 0, opens: bool = True,
+                 timeout: float = 20) -> None:
         place = port if isinstance(port, tuple) else ("127.0.0.1", port)
-        self.socket = socket.create_connection(place, timeout=20)
+        self.socket = socket.create_connection(place, timeout=timeout)
         self.socket.setsockopt(socket.IPPROTO_TCP, socket.TCP_NODELAY, 1)
         self.come = bytearray()
         self.digests, self.alignment = digests, alignment
@@ -137,8 +138,9 @@ class Connection:
 class Queue(Connection):
     """A queue. `call` sends a command and waits for its completion; `send_command` and `completion` are its halves."""
 
-    def __init__(self, port: Place, digests: int = 0, alignment: int = 0, part: int = 32768) -> None:
-        super().__init__(port, digests, alignment)
+    def __init__(self, port: Place, digests: int = 0, alignment: int = 0, part: int = 32768,
+                 timeout: float = 20) -> None:
+        super().__init__(port, digests, alignment, timeout=timeout)
         self.next_cid, self.part = 0, part
         self.came: Dict[int, bytes] = {}
         self.going: Dict[int, bytes] = {}
@@ -205,7 +207,7 @@ class Host:
     """A host with its queues."""
 
     def __init__(self, port: Place, host: int, queues: int = 1, size: int = 64, keep_alive: int = 0, digests: int = 0,
-                 **how: int) -> None:
+                 **how: float) -> None:
         self.port, self.host = port, host
         self.admin = Queue(port, digests, **how)
         completion = self.admin.connect(0, host, keep_alive=keep_alive)

@@ -1,0 +1,110 @@
+"""The helpers of the scenes in which a target moves: the power switch of guests, and hosts that write and connect again
+by themselves."""
+import socket
+import threading
+import time
+import unittest
+from typing import Callable, List
+
+from linux.fencer import Fencer
+from linux.writers import Expected, Watch, Writer, turns
+from tests.host import BLOCK
+from tests.targets import BLOCKS, PROGRAM, TargetTest
+
+OLD, NEW = b"\1" * BLOCK, b"\2" * BLOCK
+
+
+class Blocks(unittest.TestCase):
+    def test_answered(self) -> None:
+        expected = Expected()
+        expected.asks(1, OLD)
+        self.assertEqual([expected.faults(it) for it in (bytes(2 * BLOCK), bytes(BLOCK) + OLD)], [[], []])
+        self.assertEqual(expected.unsure(), [1])
+        expected.answered(1, OLD)
+        self.assertEqual(expected.faults(bytes(2 * BLOCK)), ["block 1 has lost what was answered"])
+        expected.asks(1, NEW)
+        self.assertEqual([expected.faults(bytes(BLOCK) + it) for it in (OLD, NEW)], [[], []])
+        self.assertEqual(expected.faults(bytes(BLOCK) + OLD[1:] + b"\2"), ["block 1 has lost what was answered"])
+
+    def test_turns(self) -> None:
+        self.assertEqual(turns([(3, 4, "t2"), (1, 2, "t1"), (2, 3, "t1")]), ["t1", "t2"])
+        self.assertEqual(turns([(1, 2, "t1"), (3, 4, "t2"), (5, 6, "t1")]), ["t1", "t2", "t1"])
+
+
+class Power(unittest.TestCase):
+    def ask(self, kill: Callable[[str], bool], line: str) -> str:
+        fencer = Fencer(kill, 0)
+        fencer.start()
+        self.addCleanup(fencer.close)
+        with socket.create_connection(("127.0.0.1", fencer.port), 5) as connection:
+            connection.sendall(f"{line}\n".encode())
+            answer = connection.makefile().read().strip()
+        self.fenced = fencer.fenced
+        return answer
+
+    def test_lines(self) -> None:
+        killed: List[str] = []
+        for line, answer in (("reboot t1", "done"), ("off t1", "done"), ("monitor", "done"), ("list", "done"),
+                             ("reboot", "refused"), ("", "refused"), ("burn t1", "refused"), ("off t1 t2", "refused")):
+            self.assertEqual(self.ask(lambda name: not killed.append(name), line), answer, line)
+        self.assertEqual(killed, ["t1", "t1"])
+
+    def test_a_guest_that_is_not_there(self) -> None:
+        self.assertEqual((self.ask(lambda name: False, "reboot t3"), self.fenced), ("refused", []))
+
+    def test_it_answers_after_the_end(self) -> None:
+        may_end, ended = threading.Event(), []
+
+        def kill(name: str) -> bool:
+            may_end.wait(5)
+            ended.append(name)
+            return True
+        threading.Timer(0.2, may_end.set).start()
+        self.assertEqual((self.ask(kill, "reboot t1"), ended), ("done", ["t1"]))
+
+
+@unittest.skipUnless(PROGRAM, "NVMETCP names no program")
+class Writers(TargetTest):
+    image = BLOCKS
+
+    def writer(self, host: int = 0xa1, **how: bool) -> Writer:
+        writer = Writer(self.target.port, host, range(8), **how)
+        self.addCleanup(writer.close)
+        writer.start()
+        return writer
+
+    def test_it_connects_again(self) -> None:
+        writer = self.writer()
+        self.wait_for(lambda: len(writer.answers) > 3)
+        begun = time.monotonic()
+        self.target.kill()
+        self.target.start(self.target.port)
+        self.wait_for(lambda: writer.outage(begun) is not None)
+        writer.close()
+        self.assertEqual((writer.faults, writer.expected.faults(self.target.image.read_bytes())), ([], []))
+        self.assertGreater(len(writer.expected.may), 1)
+
+    def test_a_fenced_host(self) -> None:
+        """Each answer must be a conflict: one that is not is a fault, and so is a conflict of one that is not fenced."""
+        holder = self.host(0xb2)
+        self.assertEqual([holder.register(0, 0xb), holder.acquire(0xb, kind=3)], [0, 0])
+        fenced = self.writer(is_fenced=True)
+        self.wait_for(lambda: len(fenced.answers) > 3)
+        self.assertEqual((fenced.faults, fenced.expected.may), ([], {}))
+        fenced.close()
+        other = self.writer()
+        self.wait_for(lambda: other.faults)
+        self.assertIn("of a1 is answered 0x4083", other.faults[0])
+        other.close()
+        self.assertEqual(holder.reserve(0x15, 3 << 8, 0xb), 0)
+        fenced = self.writer(is_fenced=True)
+        self.wait_for(lambda: fenced.faults)
+        self.assertIn("of a1 is answered 0x0", fenced.faults[0])
+
+    def test_watch(self) -> None:
+        watch = Watch({"t1": self.target.port, "t2": 1})
+        watch.start()
+        self.wait_for(lambda: len(watch.seen) > 3)
+        watch.close()
+        self.assertEqual(turns(watch.seen), ["t1"])
+
