@@ -1,12 +1,11 @@
 """A cluster of two Debian nodes with Pacemaker, whose fence agent is fence_nvme_pr."""
 import re
-import socket
 import subprocess
 import time
 from pathlib import Path
 from typing import Callable, Dict
 
-from linux.machines import Guest, say
+from linux.machines import SLOWER, Guest, ask_monitor, say
 from linux.scenes import AGAIN, FENCED, READ, Stage, free_port, stage, write
 
 NODES = ("a1", "b2")
@@ -19,7 +18,17 @@ LIST = "fence_nvme_pr --action=list --devices=/dev/nvme0n1"
 STATE = "crm_mon -1 | sed -n '/Node List/,$p'"
 LOG = "/var/log/pacemaker/pacemaker.log"
 # Time limits for what Pacemaker does by itself, in a guest without KVM.
-SETTLED = 600
+SETTLED = 600 * SLOWER
+
+
+def nodes_image(built: Path) -> Path:
+    """The root file system of nodes, which is made once."""
+    image, maker = built.parent / "nodes/root.img", Path(__file__).parent / "nodes"
+    if not image.is_file() or image.stat().st_mtime < maker.stat().st_mtime:
+        say("making the root file system of the nodes")
+        if subprocess.run([maker, image]).returncode:
+            raise AssertionError("the root file system of the nodes could not be made")
+    return image
 
 
 class Cluster:
@@ -27,11 +36,7 @@ class Cluster:
 
     def __init__(self, it: Stage) -> None:
         self.it = it
-        self.image = it.built.parent / "nodes/root.img"
-        if not self.image.is_file():
-            say("making the root file system of the nodes")
-            if subprocess.run([Path(__file__).parent / "nodes", self.image]).returncode:
-                raise AssertionError("the root file system of the nodes could not be made")
+        self.image = nodes_image(it.built)
         self.ports = dict(zip(NODES, (free_port(), free_port())))
 
     def boot(self, host: str) -> Guest:
@@ -49,14 +54,7 @@ class Cluster:
     def pull(self, host: str) -> None:
         """Pulls the cable of the cluster's network out of a node. Its other network stays."""
         say(f"{host} loses the network of the cluster; its connection to the disk stays")
-        with socket.socket(socket.AF_UNIX) as monitor:
-            monitor.settimeout(SETTLED)
-            monitor.connect(str(self.monitor(host)))
-            monitor.sendall(b"set_link cluster off\ninfo network\n")
-            answer = b""
-            # QEMU drops the commands of a connection that is closed before they are executed.
-            while b"cluster: index=0" not in answer:
-                answer += monitor.recv(4096)
+        ask_monitor(self.monitor(host), "set_link cluster off\ninfo network", b"cluster: index=0")
 
     def join(self, guest: Guest) -> None:
         """A node joins. It tries the agent first, whose first start takes longest: Pacemaker waits for 10 seconds."""

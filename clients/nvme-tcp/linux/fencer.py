@@ -3,7 +3,7 @@ import socket
 import threading
 from typing import Callable
 
-# Where it listens, for guests at 10.0.2.2.
+# The port that it listens at, for guests at 10.0.2.2.
 PORT = 7000
 # How long a client may take to send its line.
 PATIENCE = 10.0
@@ -18,7 +18,7 @@ class Fencer(threading.Thread):
     def __init__(self, kill: Callable[[str], bool], port: int = PORT) -> None:
         super().__init__(daemon=True)
         self.kill, self.fenced = kill, []
-        self.server = socket.create_server(("127.0.0.1", port))
+        self.server = socket.create_server(("", port))
         self.port = self.server.getsockname()[1]
 
     def run(self) -> None:

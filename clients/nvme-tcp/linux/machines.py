@@ -2,6 +2,7 @@
 import os
 import re
 import select
+import socket
 import subprocess
 import time
 from pathlib import Path
@@ -9,8 +10,10 @@ from typing import Sequence
 
 # The address at which a guest reaches the machine that it runs on.
 ADDRESS = "10.0.2.2"
+# A factor for time limits, on machines that are slow or busy.
+SLOWER = float(os.environ.get("SLOWER", "1"))
 # Time limits for a guest to boot, and for a line.
-BOOT, LINE = 180, 120
+BOOT, LINE = 180 * SLOWER, 120 * SLOWER
 
 
 class Guest:
@@ -91,6 +94,18 @@ class Guest:
         self.process.kill()
         self.process.wait()
         self.console.close()
+
+
+def ask_monitor(path: Path, lines: str, answer: bytes) -> None:
+    """Sends lines to a QEMU monitor, and waits for an answer to the last one."""
+    with socket.socket(socket.AF_UNIX) as monitor:
+        monitor.settimeout(LINE)
+        monitor.connect(str(path))
+        monitor.sendall(f"{lines}\n".encode())
+        come = b""
+        # QEMU drops the commands of a connection that is closed before they are executed.
+        while answer not in come:
+            come += monitor.recv(4096)
 
 
 def say(text: str) -> None:

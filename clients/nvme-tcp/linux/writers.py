@@ -3,7 +3,7 @@ import random
 import struct
 import threading
 import time
-from typing import Dict, List, Optional, Sequence
+from typing import Dict, List, Optional, Sequence, Tuple
 
 from tests.host import BLOCK, Ended, Host, Place, Queue
 
@@ -46,8 +46,8 @@ class Writer(threading.Thread):
         self.expected, self.random = Expected(), random.Random(host)
         self.host: Optional[Host] = None
         self.count, self.is_closed = 0, False
-        # The times of answers, and the faults.
-        self.answers: List[float] = []
+        # When each answered command was sent, and when it was answered; and the faults.
+        self.answers: List[Tuple[float, float]] = []
         self.faults: List[str] = []
 
     def connected(self) -> Host:
@@ -70,8 +70,9 @@ class Writer(threading.Thread):
         content = struct.pack("<QQ", self.number, self.count) * (BLOCK // 16)
         if not self.is_fenced:
             self.expected.asks(place, content)
+        sent = time.monotonic()
         status = host.write(place, content)
-        self.answers.append(time.monotonic())
+        self.answers.append((sent, time.monotonic()))
         if self.is_fenced != (status in CONFLICTS) or status not in (0, *CONFLICTS):
             self.faults.append(f"write {self.count} of {self.number:x} is answered {status:#x}")
         elif status == 0:
@@ -83,13 +84,12 @@ class Writer(threading.Thread):
             self.host = None
 
     def outage(self, begun: float) -> Optional[float]:
-        """The seconds from a moment to the next answer of a command that was sent later."""
-        later = [it for it in list(self.answers) if it > begun]
-        return later[0] - begun if later else None
+        """The seconds from a moment to the first answer of a command that was sent later."""
+        return next((answered - begun for sent, answered in list(self.answers) if sent > begun), None)
 
     def longest(self, begun: float) -> float:
         """The longest time between two answers, of which the second is after a moment."""
-        times = list(self.answers)
+        times = [answered for _, answered in list(self.answers)]
         return max((later - earlier for earlier, later in zip(times, times[1:]) if later > begun), default=0.0)
 
     def close(self) -> None:
@@ -104,8 +104,8 @@ class Watch(threading.Thread):
     def __init__(self, places: Dict[str, Place]) -> None:
         super().__init__(daemon=True)
         self.places, self.is_closed = places, False
-        # Who has answered when.
-        self.seen: List[tuple] = []
+        # From when to when each answer took, and whose it was.
+        self.seen: List[Tuple[float, float, str]] = []
 
     def run(self) -> None:
         while not self.is_closed:
@@ -123,7 +123,7 @@ class Watch(threading.Thread):
         self.join()
 
 
-def turns(seen: Sequence[tuple]) -> List[str]:
+def turns(seen: Sequence[Tuple[float, float, str]]) -> List[str]:
     """Who has answered, in the order of time, each turn once."""
     names: List[str] = []
     for _, _, name in sorted(seen):

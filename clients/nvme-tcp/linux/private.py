@@ -1,0 +1,41 @@
+"""A network of the scene's own: a bridge between guests, by TAP devices, and the programs of the scene."""
+import contextlib
+import ctypes
+import os
+import subprocess
+from typing import Iterator
+
+# The namespace of the network, in unshare(2) and setns(2).
+NEWNET = 0x40000000
+# The address of the scene on the bridge.
+OWN = "10.88.0.254"
+
+
+def call(name: str, *words: int) -> None:
+    """A call of the C library that returns 0."""
+    library = ctypes.CDLL(None, use_errno=True)
+    if getattr(library, name)(*words) != 0:
+        fault = os.strerror(ctypes.get_errno())
+        raise AssertionError(f"{name}: {fault}; scenes with a network of their own are for root")
+
+
+def tap(guest: str) -> str:
+    """The name of a guest's device."""
+    return f"tap-{guest}"
+
+
+@contextlib.contextmanager
+def private_network(*guests: str) -> Iterator[None]:
+    """Puts this thread, and those that it starts, into a network with a bridge to these guests."""
+    before = os.open("/proc/thread-self/ns/net", os.O_RDONLY)
+    call("unshare", NEWNET)
+    try:
+        lines = ["link set lo up", "link add hosts type bridge", f"addr add {OWN}/24 dev hosts", "link set hosts up"]
+        for it in guests:
+            lines += [f"tuntap add {tap(it)} mode tap", f"link set {tap(it)} master hosts up"]
+        for line in lines:
+            subprocess.run(["ip", *line.split()], check=True)
+        yield
+    finally:
+        call("setns", before, NEWNET)
+        os.close(before)

@@ -1,0 +1,104 @@
+"""Machines in namespaces, for scenes whose guests would take too long without KVM. They share this machine's kernel."""
+import os
+import signal
+import subprocess
+import time
+from pathlib import Path
+from typing import List
+
+from linux.machines import BOOT, Guest, say
+
+HERE = Path(__file__).resolve().parent
+# The bridge by which rooms reach the scene, at the address that guests of QEMU have for it.
+OUTSIDE = ("management", "10.0.2.2")
+
+
+class Room(Guest):
+    """A machine in namespaces. `run` types a line into its shell, as for a guest."""
+
+    def __init__(self, root: Path, folder: Path, host: str) -> None:
+        self.host, self.come = host, b""
+        self.console = open(folder / f"console-{host}.txt", "ab")
+        words = ["unshare", "--pid", "--mount", "--net", "--uts", "--ipc", "--fork", "--kill-child", "--propagation",
+                 "private", HERE / "room", host, root, folder]
+        self.process = subprocess.Popen(words, stdin=subprocess.PIPE, stdout=subprocess.PIPE, bufsize=0,
+                                        stderr=subprocess.STDOUT, start_new_session=True)
+        self.first = self.find_first()
+        plug_in(host, self.first)
+        self.wait(BOOT)
+        say(f"{host} is up, in namespaces")
+
+    def find_first(self) -> int:
+        """The first process of the machine, in whose network the cables end."""
+        children = Path(f"/proc/{self.process.pid}/task/{self.process.pid}/children")
+        last = time.monotonic() + BOOT
+        while not children.read_text().split() and time.monotonic() < last:
+            time.sleep(0.05)
+        return int(children.read_text().split()[0])
+
+    def members(self) -> List[int]:
+        """All processes of the machine."""
+        found = []
+        mine = os.readlink(f"/proc/{self.first}/ns/pid")
+        for it in Path("/proc").iterdir():
+            try:
+                if it.name.isdigit() and os.readlink(it / "ns/pid") == mine:
+                    found.append(int(it.name))
+            except OSError:
+                pass
+        return found
+
+    def signal(self, number: int) -> None:
+        for it in self.members():
+            try:
+                os.kill(it, number)
+            except ProcessLookupError:
+                pass
+
+    def freeze(self) -> None:
+        """Stops all processes."""
+        self.signal(signal.SIGSTOP)
+
+    def thaw(self) -> None:
+        self.signal(signal.SIGCONT)
+
+    def cut(self) -> None:
+        """Takes the cable to the other machine out."""
+        subprocess.run(["nsenter", "-t", str(self.first), "-n", "ip", "link", "set", "eth1", "down"], check=True)
+
+    def hang(self) -> None:
+        raise AssertionError("the disk of a machine in namespaces can't hang: play this scene with guests")
+
+    def end(self) -> None:
+        """Ends all processes at once. Returns after their end."""
+        if Path(f"/proc/{self.first}").exists():
+            os.kill(self.first, signal.SIGKILL)
+        self.process.kill()
+        self.process.wait()
+        while Path(f"/proc/{self.first}").exists():
+            time.sleep(0.01)
+
+    def close(self) -> None:
+        self.end()
+        self.console.close()
+
+
+def ip(line: str) -> None:
+    subprocess.run(["ip", *line.split()], check=True)
+
+
+def make_cables(*hosts: str) -> None:
+    """The bridge to the scene, and the cable between two rooms."""
+    name, address = OUTSIDE
+    for line in (f"link add {name} type bridge", f"addr add {address}/24 dev {name}", f"link set {name} up"):
+        ip(line)
+    ip("link add cable-{} type veth peer name cable-{}".format(*hosts))
+
+
+def plug_in(host: str, first: int) -> None:
+    """Connects a room to its networks: eth0 to the scene, eth1 to the other room, eth2 to the hosts."""
+    ip(f"link set cable-{host} name eth1 netns {first}")
+    # The room waits for the last one.
+    for device, bridge in (("eth0", OUTSIDE[0]), ("eth2", "hosts")):
+        ip(f"link add {device}-{host} type veth peer name {device} netns {first}")
+        ip(f"link set {device}-{host} master {bridge} up")
