@@ -45,9 +45,9 @@ class Twin(Guest):
         super().__init__(it.built, it.folder, name, cpus=2, archive="node.gz", devices=[
             "-drive", f"file={it.root},if=virtio,snapshot=on,format=raw",
             "-drive", f"file={it.volume},if=virtio,format=raw,file.locking=off",
-            "-netdev", cable, "-device", f"virtio-net-pci,netdev=cluster,mac=52:54:00:00:01:0{number}",
+            "-netdev", cable, "-device", f"virtio-net-pci,netdev=cluster,mac=52:54:00:00:01:0{number},romfile=",
             "-netdev", f"tap,id=hosts,ifname={tap(name)},script=no,downscript=no",
-            "-device", f"virtio-net-pci,netdev=hosts,mac=52:54:00:00:02:0{number}",
+            "-device", f"virtio-net-pci,netdev=hosts,mac=52:54:00:00:02:0{number},romfile=",
             "-fsdev", f"local,id=share,path={it.share(name)},security_model=none",
             "-device", "virtio-9p-pci,fsdev=share,mount_tag=share",
             "-fsdev", f"local,id=modules,path={modules},security_model=none,readonly=on",
@@ -109,7 +109,9 @@ class Moves:
         self.guests[name] = guest
         text = guest.run("sh /share/target-node; echo status $?", SETTLED)
         self.wants(f"{name} is set up", "status 0" in text)
-        guest.run("corosync && sleep 2 && { pacemakerd >/dev/null 2>&1 & }", SETTLED)
+        # Pacemaker gives up ten seconds later if Corosync does not answer.
+        guest.run("corosync; until corosync-cmapctl totem.token >/dev/null 2>&1; do sleep 1; done; "
+                  "pacemakerd >/dev/null 2>&1 &", SETTLED)
 
     def kill(self, name: str) -> bool:
         """Ends a machine. Returns after its process has ended, or that there is none of this name."""
@@ -159,19 +161,20 @@ class Moves:
     def wait_for_answers(self, name: str, begun: float) -> None:
         """Waits until each host has an answer, and shows a machine's console meanwhile."""
         last = time.monotonic() + SETTLED
-        while not all(it.outage(begun) for it in self.writers) and time.monotonic() < last:
+        while not all(it.is_answered(begun) for it in self.writers) and time.monotonic() < last:
             self.guests[name].rest(1)
-        self.wants("each host is answered", all(it.outage(begun) for it in self.writers))
+        self.wants("each host is answered", all(it.is_answered(begun) for it in self.writers))
 
     def moved(self, begun: float, is_fenced: bool = True) -> None:
         """The target moves from t1 to t2."""
-        self.wait_for_answers("t2", begun)
         self.serves("t2")
+        self.wait_for_answers("t2", time.monotonic())
         self.wants("t1 was fenced" if is_fenced else "no machine was fenced",
-                   self.fencer.fenced == (["t1"] if is_fenced else []))
-        for it in self.writers:
-            say(f"host {it.number:x}: {it.outage(begun) or 0:.1f} s until an answer, at most "
-                f"{it.longest(begun):.1f} s between two, with a token of {TOKEN} ms")
+                   set(self.fencer.fenced) == ({"t1"} if is_fenced else set()))
+        if is_fenced:
+            self.guests["t2"].run("stonith_admin --history t1 --verbose | grep successful", SETTLED)
+        outages = ", ".join(f"{it.longest(begun):.1f}" for it in self.writers)
+        say(f"seconds without an answer, for hosts a1, b2 and c3: {outages}; the token is {TOKEN} ms")
 
     def end(self) -> None:
         """The hosts end, and read what they wrote."""
@@ -183,6 +186,7 @@ class Moves:
         host = Host(ADDRESS, 0xa1)
         blocks = b"".join(host.read(it, 64).data for it in range(0, 256, 64))
         host.close()
+        self.guests["t2"].run("cat /run/nvmetcp-disk/log")
         for it in self.writers[:2]:
             faults = it.expected.faults(blocks)
             self.wants(f"host {it.number:x} reads what was answered, or what it asked for later {faults}", not faults)

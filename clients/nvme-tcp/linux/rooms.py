@@ -19,8 +19,11 @@ class Room(Guest):
     def __init__(self, root: Path, folder: Path, host: str) -> None:
         self.host, self.come = host, b""
         self.console = open(folder / f"console-{host}.txt", "ab")
+        # A device for each, so that neither meets the other's locks and pages.
+        words = ["losetup", "--find", "--show", folder / "volume"]
+        self.disk = subprocess.run(words, stdout=subprocess.PIPE, text=True, check=True).stdout.strip()
         words = ["unshare", "--pid", "--mount", "--net", "--uts", "--ipc", "--fork", "--kill-child", "--propagation",
-                 "private", HERE / "room", host, root, folder]
+                 "private", HERE / "room", host, root, folder, self.disk]
         self.process = subprocess.Popen(words, stdin=subprocess.PIPE, stdout=subprocess.PIPE, bufsize=0,
                                         stderr=subprocess.STDOUT, start_new_session=True)
         self.first = self.find_first()
@@ -80,6 +83,7 @@ class Room(Guest):
 
     def close(self) -> None:
         self.end()
+        subprocess.run(["losetup", "--detach", self.disk], check=True)
         self.console.close()
 
 

@@ -83,9 +83,9 @@ class Writer(threading.Thread):
             self.host.close()
             self.host = None
 
-    def outage(self, begun: float) -> Optional[float]:
-        """The seconds from a moment to the first answer of a command that was sent later."""
-        return next((answered - begun for sent, answered in list(self.answers) if sent > begun), None)
+    def is_answered(self, begun: float) -> bool:
+        """Whether a command that was sent after a moment has an answer."""
+        return any(sent > begun for sent, _ in self.answers[-1:])
 
     def longest(self, begun: float) -> float:
         """The longest time between two answers, of which the second is after a moment."""

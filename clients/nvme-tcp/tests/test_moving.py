@@ -79,8 +79,12 @@ class Writers(TargetTest):
         begun = time.monotonic()
         self.target.kill()
         self.target.start(self.target.port)
-        self.wait_for(lambda: writer.outage(begun) is not None)
+        self.assertFalse(writer.is_answered(time.monotonic()))
+        self.wait_for(lambda: writer.is_answered(begun))
         writer.close()
+        gaps = [later - earlier for (_, earlier), (_, later) in zip(writer.answers, writer.answers[1:])]
+        self.assertEqual(writer.longest(0), max(gaps))
+        self.assertEqual(writer.longest(time.monotonic()), 0)
         self.assertEqual((writer.faults, writer.expected.faults(self.target.image.read_bytes())), ([], []))
         self.assertGreater(len(writer.expected.may), 1)
 
