@@ -28,6 +28,8 @@ ADDRESS = ("10.88.0.9", PORT)
 TOKEN = int(1000 * SLOWER)
 # Machines are guests, or namespaces of this kernel, which needs no emulation.
 ROOMS = bool(os.environ.get("ROOMS"))
+# What the target keeps of its run, in the folder that it shares with the scene.
+KEEP = "--script /share/run.nvme --force"
 FOLLOWS = {"t1": "t2", "t2": "t1"}
 # Hosts, their keys, and the blocks that they write.
 WRITERS = {0xa1: (0xa, range(0, 40)), 0xb2: (0xb, range(100, 140))}
@@ -94,8 +96,10 @@ class Moves:
         """The folder that a machine and the scene share."""
         share = self.folder / f"share-{name}"
         share.mkdir(exist_ok=True)
-        for it in ("fence_guest", "init", "target-node", "targets.crm"):
+        for it in ("fence_guest", "init", "target-node"):
             shutil.copy(HERE / it, share)
+        text = (HERE / "targets.crm").read_text()
+        (share / "targets.crm").write_text(text.replace("--trust-network", f"--trust-network {KEEP}"))
         shutil.copy(PROGRAM, share / "nvmetcp")
         shutil.copy(HERE.parent / "ocf/nvmetcp", share / "agent")
         text = (HERE / "targets.corosync.conf").read_text()
