@@ -87,7 +87,8 @@ class Moves:
         self.writers: List[Writer] = []
         self.ports = {it: free_port() for it in MACHINES}
         (folder / "config.nvme").write_text(config(BLOCKS, "a1", "b2", "c3", "a1", "b2", "c3"))
-        subprocess.run([PROGRAM, "format", self.volume, "--config", folder / "config.nvme"], check=True)
+        words = [PROGRAM, "format", self.volume, "--config", folder / "config.nvme"]
+        subprocess.run(words, stdout=subprocess.DEVNULL, check=True)
         self.fencer = Fencer(self.kill)
         self.fencer.start()
         self.watch = Watch({it: (f"10.88.0.{it[1:]}", PORT) for it in MACHINES})

@@ -31,6 +31,11 @@ class Room(Guest):
         self.wait(BOOT)
         say(f"{host} is up, in namespaces")
 
+    def type(self, line: str) -> None:
+        """As a terminal does, it shows the line."""
+        self.come += f"{line}\n".encode()
+        super().type(line)
+
     def find_first(self) -> int:
         """The first process of the machine, in whose network the cables end."""
         children = Path(f"/proc/{self.process.pid}/task/{self.process.pid}/children")
