@@ -2,6 +2,7 @@
 import os
 import signal
 import subprocess
+import threading
 import time
 from pathlib import Path
 from typing import List
@@ -17,7 +18,7 @@ class Room(Guest):
     """A machine in namespaces. `run` types a line into its shell, as for a guest."""
 
     def __init__(self, root: Path, folder: Path, host: str) -> None:
-        self.host, self.come = host, b""
+        self.host, self.come, self.ending = host, b"", threading.Lock()
         self.console = open(folder / f"console-{host}.txt", "ab")
         # A device for each, so that neither meets the other's locks and pages.
         words = ["losetup", "--find", "--show", folder / "volume"]
@@ -79,12 +80,11 @@ class Room(Guest):
 
     def end(self) -> None:
         """Ends all processes at once. Returns after their end."""
-        if Path(f"/proc/{self.first}").exists():
-            os.kill(self.first, signal.SIGKILL)
-        self.process.kill()
-        self.process.wait()
-        while Path(f"/proc/{self.first}").exists():
-            time.sleep(0.01)
+        with self.ending:
+            if self.process.poll() is None:
+                os.kill(self.first, signal.SIGKILL)
+            # unshare ends after the first process, which ends after all others.
+            self.process.wait()
 
     def close(self) -> None:
         self.end()
