@@ -3,6 +3,7 @@ use Rattle.std.specs.Prelude.{ℕ, Bool, true, false, List, [], ◌∷◌, ◌++
 use Rattle.nvme_pdu.specs.declared.agreed.Agreed.{Agreed}
 use Rattle.nvme_pdu.specs.declared.kind.Kind.TheVariants.{H2cTermReq, H2cData}
 use Rattle.nvme_pdu.specs.declared.layout.PduLayout.{PduLayout}
+use Rattle.nvme_connection.specs.declared.raw.RawConnection.{RawConnection}
 use Rattle.nvme_connection.specs.declared.stage.Stage.TheVariants.{Complete}
 use Rattle.nvme_connection.specs.Connections.{Connection, Outcome, Completes}
 use Rattle.nvme_connection.specs.Streams.{Judge}
@@ -95,3 +96,21 @@ is_padded = Completes (record {
   };
   is_sound = true;
 })
+
+-- a struct of zeros, except for its stage
+abbrev pub raw_at : ℕ → RawConnection
+raw_at stage = record {
+  count = 0;
+  length = 0;
+  data_offset = 0;
+  data_length = 0;
+  kind = 0;
+  header = 0;
+  stage = stage;
+  is_last = false;
+  header_digest = false;
+  data_digest = false;
+  is_open = false;
+  agreed = record { header_digests = false; data_digests = false; alignment = 0 };
+  kept = replicate 128 0;
+}

@@ -3,3 +3,4 @@ pub mod Streams
 pub mod Holding
 pub mod Laws
 pub mod Examples
+pub mod Raws

@@ -4,6 +4,7 @@
 ghost use Rattle.std.specs.Prelude.{◌≡◌, ◌++◌, ◌∷◌, [], true, false, length, take, replicate, Some, None};
 ghost use Rattle.nvme_pdu.specs.Checking.{invalid};
 ghost use Rattle.nvme_pdu.specs.Examples.{plain, digested};
+ghost use Rattle.nvme_pdu.specs.declared.kind.Kind.TheVariants.{H2cData, R2t};
 ghost use Rattle.nvme_connection.specs.declared.stage.Stage.TheVariants.{Taking, Whole, Complete, Ended};
 ghost use Rattle.nvme_connection.specs.Connections.{
   Breaks,
@@ -23,7 +24,10 @@ ghost use Rattle.nvme_connection.specs.Examples.{
   most_of_request,
   opened_with,
   padded,
+  raw_at,
 };
+ghost use Rattle.nvme_connection.specs.Holding.{Holds};
+ghost use Rattle.nvme_connection.specs.Raws.{kind_of, value_of};
 ghost use Rattle.nvme_connection.specs.Streams.{
   after_bytes,
   after_stream,
@@ -90,4 +94,13 @@ fn digests()
     ensures wrong_header { stream (judge false true) (opened_with digested) guarded
         ≡ Breaks wrong_header_digest guarded ∷ [] }
     ensures not_data { data_in digested (take 34 guarded) ≡ 11 ∷ 12 ∷ 13 ∷ 14 ∷ [] }
+{}
+
+/// In a struct of zeros nothing has come, and with a stage that there is not the connection has ended.
+fn structs()
+    ensures zeros { Holds (value_of (raw_at 0)) begin }
+    ensures whole { (value_of (raw_at 1)).stage ≡ Whole }
+    ensures other { (value_of (raw_at 4)).stage ≡ Ended }
+    ensures bytes { kind_of 6 ≡ H2cData }
+    ensures unknown { kind_of 8 ≡ R2t }
 {}

@@ -8,6 +8,7 @@ mod judging;
 mod keeping;
 mod laws;
 mod looking;
+mod raw;
 mod settling;
 mod stage;
 mod taken;
@@ -15,5 +16,6 @@ mod taking;
 
 pub use connection::Connection;
 pub use judged::{Judged, Verdict};
+pub use raw::RawConnection;
 pub use stage::Stage;
 pub use taken::Taken;
