@@ -76,8 +76,7 @@ enum {
     NVMESIM_HAS_EVENT = 36,     /* a line of the text is an event, which a configuration can't have */
     NVMESIM_EMPTY = 37,         /* the configuration has no controller */
     NVMESIM_TOO_LONG = 38,      /* the text has more than 4,194,304 bytes */
-    NVMESIM_IN_MEMORY = 39,     /* the blocks are in memory, so none are brought */
-    NVMESIM_BAD_PDU = 40        /* a field of a PDU is wrong */
+    NVMESIM_IN_MEMORY = 39      /* the blocks are in memory, so none are brought; nvmetcp.h has others */
 };
 
 /* Which event it is, of a nvmesim_event. */
@@ -259,31 +258,6 @@ typedef struct nvmesim_read {
     uint32_t what; /* NVMESIM_OK, or why it is refused */
 } nvmesim_read;
 
-/* What ICReq and ICResp agree on; all 0 before. */
-typedef struct nvmesim_pdu_agreed {
-    bool header_digests, data_digests;
-    uint8_t alignment; /* HPDA, 0 to 31 */
-} nvmesim_pdu_agreed;
-
-/* The fields of a host's PDU. Those that it does not have are 0. */
-typedef struct nvmesim_pdu_fields {
-    uint32_t what;             /* NVMESIM_OK, or NVMESIM_BAD_PDU; `field` is then the offset of the wrong field */
-    uint32_t field, offset;    /* FEI of H2CTermReq, DATAO of H2CData */
-    uint16_t status, cid, tag; /* the Fatal Error Status, CCCID, TTAG */
-    nvmesim_pdu_agreed agreed; /* what ICReq asks for */
-} nvmesim_pdu_fields;
-
-/* The layout of a PDU. The digest of its header is right after it, that of its data right after them. */
-typedef struct nvmesim_pdu_layout {
-    uint32_t what, field;              /* as above, or NVMESIM_OUTSIDE */
-    uint32_t length;                   /* PLEN; at most 131,331 if the PDU is a host's */
-    uint32_t data_offset, data_length; /* without data, the offset is that of the end */
-    uint16_t status;                   /* the Fatal Error Status */
-    uint8_t kind, header;              /* PDU-Type, HLEN */
-    bool is_last;                      /* LAST_PDU */
-    bool header_digest, data_digest;   /* whether there is one */
-} nvmesim_pdu_layout;
-
 /* The version of the library. */
 uint32_t nvmesim_version(void);
 
@@ -424,24 +398,6 @@ uint32_t nvmesim_set_notice_mask(nvmesim_notices *notices, uint32_t nsid, uint32
 uint32_t nvmesim_count_notices(const nvmesim_notices *notices);
 void nvmesim_notice_page(const nvmesim_notices *notices, uint8_t *page);
 void nvmesim_take_notice(nvmesim_notices *notices);
-
-/* PDUs of NVMe/TCP, without a subsystem: the layout of a host's PDU by its first 8 bytes, and the fields of an ICReq (128
- * bytes), all of which is granted, of an H2CData with `length` bytes of data, and of an H2CTermReq. OK, or BAD_PDU. */
-nvmesim_pdu_layout nvmesim_pdu_layout_of(const nvmesim_pdu_agreed *agreed, const uint8_t *head);
-nvmesim_pdu_fields nvmesim_pdu_ic_request(const uint8_t *request);
-nvmesim_pdu_fields nvmesim_pdu_host_data(const uint8_t *header, uint32_t length);
-nvmesim_pdu_fields nvmesim_pdu_host_termination(const uint8_t *header);
-
-/* Write a controller's header and return its layout: ICResp (128 bytes; no data, no digest); CapsuleResp, with an entry
- * of 16 bytes; R2T for the first `length` bytes; C2HData with all data of a command; C2HTermReq, with up to 128 of the
- * `received` bytes as its data. OK, or OUTSIDE if HPDA or C2HData is too large, and nothing is written. Bytes between
- * a header and its data are 0. */
-void nvmesim_pdu_ic_response(const nvmesim_pdu_agreed *agreed, uint8_t *header);
-nvmesim_pdu_layout nvmesim_pdu_response(const nvmesim_pdu_agreed *agreed, const uint8_t *entry, uint8_t *header);
-nvmesim_pdu_layout nvmesim_pdu_ready(const nvmesim_pdu_agreed *agreed, uint16_t cid, uint16_t tag, uint32_t length,
-                                     uint8_t *header);
-nvmesim_pdu_layout nvmesim_pdu_data(const nvmesim_pdu_agreed *agreed, uint16_t cid, uint32_t length, uint8_t *header);
-nvmesim_pdu_layout nvmesim_pdu_termination(uint16_t status, uint32_t field, uint32_t received, uint8_t *header);
 
 /* The standard's name of a status, as "Reservation Conflict" for 0 and 83h, or "Unlisted" for one that no command
  * answers: as many of its bytes as fit into the buffer, then zeros. The result is the length of the name, at most

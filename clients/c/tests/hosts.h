@@ -47,5 +47,6 @@ void brought(void);
 
 /* Tests PDUs of NVMe/TCP. */
 void pdus(void);
+void connections(void);
 
 #endif

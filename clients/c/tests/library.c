@@ -442,6 +442,7 @@ int main(int count, char **words) {
     needs();
     brought();
     pdus();
+    connections();
     reservations();
     names();
     texts();

@@ -1,5 +1,6 @@
 /* Tests of the calls on PDUs of NVMe/TCP. */
 #include "hosts.h"
+#include <nvmetcp.h>
 
 static const nvmesim_pdu_agreed none = {false, false, 0}, digests = {true, true, 1};
 

@@ -14,7 +14,6 @@ pub mod Needs
 pub mod Noticing
 pub mod Opening
 pub mod Over
-pub mod Pdus
 pub mod Queues
 pub mod Reading
 pub mod Submitting

@@ -69,8 +69,6 @@ pub const EMPTY: u32 = 37;
 pub const TOO_LONG: u32 = 38;
 /// The blocks of the subsystem are in memory, so that none are brought.
 pub const IN_MEMORY: u32 = 39;
-/// A PDU has a field at fault.
-pub const BAD_PDU: u32 = 40;
 
 /// A host stores bytes in its memory.
 pub const EVENT_STORE: u32 = 1;

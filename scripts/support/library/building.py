@@ -1,4 +1,4 @@
-"""Builds the library for C of the crate nvme_library."""
+"""Builds the library for C of the crates nvme_library and nvme_tcp_library."""
 import os
 import shutil
 import subprocess
@@ -9,7 +9,8 @@ from support import proving, toolchain
 
 # The interface's number, as in nvmesim.h: that of the shared object's name.
 VERSION = "3"
-CRATE = "nvme_library"
+CRATES = ("nvme_library", "nvme_tcp_library")
+HEADERS = ("nvmesim.h", "nvmetcp.h")
 MOST_TOLD = 4000
 PKGCONFIG = """prefix=${{pcfiledir}}/../..
 includedir=${{prefix}}/include
@@ -39,7 +40,7 @@ def call(words, folder):
     return ran.stdout
 
 
-def is_built_over_ci(top, name=CRATE):
+def is_built_over_ci(top, name):
     """Builds a crate's archive from the libraries that `rt ci` has just built, if they are there; whether it could. Then `rt
     lib` would prove all of them again; otherwise it takes kept ones."""
     rt = toolchain.load(top)
@@ -51,7 +52,7 @@ def is_built_over_ci(top, name=CRATE):
         return crate.build_static([]) == 0
 
 
-def proved_archive(top, name=CRATE):
+def proved_archive(top, name):
     """Proves a crate and builds its archive, if that is not done yet."""
     folder = top / "crates" / name
     if not is_built_over_ci(top, name):
@@ -70,18 +71,20 @@ def is_newer(archive, sources):
 
 
 def built_archives(top):
-    """The built archives that are newer than their sources: the proved one first, if it is there."""
+    """What is built and newer than its sources, as lists of archives: the proved ones first, if they are there."""
     try:
         rt = toolchain.load(top)
     except toolchain.NoToolchain:
         return []
-    crate = toolchain.crates_of(rt, str(top))[CRATE]
-    newest = max(proving.newest_source(it) for it in [*crate.below(), crate])
-    # The unproved archive also depends on the header, and on these scripts.
-    makers = [top / "clients/c/nvmesim.h", *Path(__file__).parent.glob("*.py")]
-    proved, unproved = Path(crate.folder, "out", f"lib{CRATE}.a"), unproved_archive(top)
-    found = [proved] if is_newer(proved, newest) else []
-    return [*found, unproved] if is_newer(unproved, max(newest, *(it.stat().st_mtime for it in makers))) else found
+    known = toolchain.crates_of(rt, str(top))
+    crates = [known[it] for it in CRATES]
+    newest = [max(proving.newest_source(it) for it in [*crate.below(), crate]) for crate in crates]
+    # The unproved archive also depends on the headers, and on these scripts.
+    makers = [*(top / "clients/c" / it for it in HEADERS), *Path(__file__).parent.glob("*.py")]
+    proved, unproved = [Path(it.folder, "out", f"lib{it.name}.a") for it in crates], unproved_archive(top)
+    found = [proved] if all(map(is_newer, proved, newest)) else []
+    is_last = is_newer(unproved, max(*newest, *(it.stat().st_mtime for it in makers)))
+    return [*found, [unproved]] if is_last else found
 
 
 def whole_object(archive, room, prefix="nvmesim"):
@@ -96,26 +99,37 @@ def whole_object(archive, room, prefix="nvmesim"):
 
 def build(top, prefix):
     """Builds the proved library and installs it under a folder."""
-    put(top, proved_archive(top), prefix)
+    put(top, [proved_archive(top, it) for it in CRATES], prefix)
 
 
-def put(top, archive, prefix):
-    """Installs the library of this archive under a folder."""
+def objects_of(archives, room):
+    """One object for each archive, in a room."""
+    made = []
+    for archive in archives:
+        place = room / archive.stem
+        place.mkdir()
+        made.append(whole_object(archive, place).replace(room / f"{archive.stem}.o").name)
+    return made
+
+
+def put(top, archives, prefix):
+    """Installs the library of these archives under a folder."""
     for part in ("include", "lib/pkgconfig"):
         (prefix / part).mkdir(parents=True, exist_ok=True)
     with tempfile.TemporaryDirectory(prefix="nvmesim-object-") as place:
         room = Path(place)
-        made = whole_object(archive, room)
-        call(["ar", "rcs", "libnvmesim.a", made.name], room)
+        made = objects_of(archives, room)
+        call(["ar", "rcs", "libnvmesim.a", *made], room)
         shared = f"libnvmesim.so.{VERSION}"
-        call(["cc", "-shared", "-o", shared, f"-Wl,-soname,{shared}", made.name], room)
+        call(["cc", "-shared", "-o", shared, f"-Wl,-soname,{shared}", *made], room)
         for name in ("libnvmesim.a", shared):
             shutil.copyfile(room / name, prefix / "lib" / name)
     link = prefix / "lib" / "libnvmesim.so"
     if link.is_symlink() or link.exists():
         link.unlink()
     os.symlink(shared, link)
-    shutil.copyfile(top / "clients" / "c" / "nvmesim.h", prefix / "include" / "nvmesim.h")
+    for name in HEADERS:
+        shutil.copyfile(top / "clients" / "c" / name, prefix / "include" / name)
     text = PKGCONFIG.format(version=VERSION)
     (prefix / "lib" / "pkgconfig" / "nvmesim.pc").write_text(text, encoding="utf-8")
 

@@ -1,5 +1,7 @@
-"""Compares nvmesim.h with the crate nvme_library: exports, their parameters, structs and numbers."""
+"""Compares nvmesim.h and nvmetcp.h with their crates: exports, their parameters, structs and numbers."""
 import re
+
+from support.library.building import CRATES, HEADERS
 
 # What a parameter or a result of an export is in C.
 TYPES = {
@@ -20,7 +22,15 @@ TYPES = {
     "&Agreed": ["const nvmesim_pdu_agreed *"], "Agreed": ["nvmesim_pdu_agreed"], "LayoutSeen": ["nvmesim_pdu_layout"],
     "PduFields": ["nvmesim_pdu_fields"], "&[u8; 8]": ["const uint8_t *"], "&[u8; 16]": ["const uint8_t *"],
     "&[u8; 24]": ["const uint8_t *"], "&[u8; 128]": ["const uint8_t *"], "&mut [u8; 24]": ["uint8_t *"],
-    "&mut [u8; 128]": ["uint8_t *"],
+    "&mut [u8; 128]": ["uint8_t *"], "&[u8; 1024]": ["const uint8_t *"], "[u8; 128]": ["uint8_t[128]"],
+    "[u8; 256]": ["uint8_t[256]"], "[u32; 16]": ["uint32_t[16]"], "&[HostId]": ["const nvmesim_host_id *", "size_t"],
+    "&RawConnection": ["const nvmesim_connection *"], "&mut RawConnection": ["nvmesim_connection *"],
+    "Taken": ["nvmesim_taken"], "Verdict": ["nvmesim_verdict"], "&mut FabricsHandle": ["nvmesim_fabrics *"],
+    "&RawSession": ["const nvmesim_session *"], "&mut RawSession": ["nvmesim_session *"],
+    "RawRequest": ["nvmesim_request"], "&RawRequest": ["const nvmesim_request *"],
+    "&RawJudged": ["const nvmesim_judged *"], "FabricsAnswer": ["nvmesim_fabrics_answer"],
+    "Admitted": ["nvmesim_admitted"], "Executed": ["nvmesim_executed"], "LiveSession": ["nvmesim_live_session"],
+    "QueueConnection": ["nvmesim_queue_connection"],
 }
 # The structs that C sees whole, by their names there.
 STRUCTS = {"Answer": "nvmesim_answer", "Controller": "nvmesim_controller", "Namespace": "nvmesim_namespace",
@@ -28,17 +38,28 @@ STRUCTS = {"Answer": "nvmesim_answer", "Controller": "nvmesim_controller", "Name
            "Needed": "nvmesim_needed", "Hold": "nvmesim_hold", "Registrant": "nvmesim_registered", "Event": "nvmesim_event",
            "Written": "nvmesim_written", "Read": "nvmesim_read", "HostView": "nvmesim_host_view",
            "Change": "nvmesim_change", "Disk": "nvmesim_disk", "ExecutedOver": "nvmesim_executed_over", "Notice": "nvmesim_notice", "RawNotices": "nvmesim_notices",
-           "Agreed": "nvmesim_pdu_agreed", "LayoutSeen": "nvmesim_pdu_layout", "PduFields": "nvmesim_pdu_fields"}
+           "Agreed": "nvmesim_pdu_agreed", "LayoutSeen": "nvmesim_pdu_layout", "PduFields": "nvmesim_pdu_fields",
+           "RawConnection": "nvmesim_connection", "Taken": "nvmesim_taken", "Verdict": "nvmesim_verdict",
+           "HostId": "nvmesim_host_id", "RawRequest": "nvmesim_request", "RawSession": "nvmesim_session",
+           "RawJudged": "nvmesim_judged", "FabricsAnswer": "nvmesim_fabrics_answer", "Admitted": "nvmesim_admitted",
+           "Executed": "nvmesim_executed", "LiveSession": "nvmesim_live_session",
+           "QueueConnection": "nvmesim_queue_connection"}
 # Structs of another crate that C holds.
-OTHERS = ("nvme_brought/src/disk.rt", "nvme_notices/src/notice.rt", "nvme_notices/src/raw.rt", "nvme_pdu/src/agreed.rt")
+OTHERS = ("nvme_brought/src/disk.rt", "nvme_notices/src/notice.rt", "nvme_notices/src/raw.rt",
+          "nvme_pdu/src/agreed.rt", "nvme_connection/src/raw.rt")
 EXPORT = re.compile(r'#\[unsafe\(no_mangle\)\]\s*pub extern "C" fn (\w+)\(([^)]*)\)(?: -> (\w+))?')
-NUMBER = re.compile(r"^pub const (\w+): u32 = (\d+);", re.M)
+NUMBER = re.compile(r"^pub const (\w+): u(?:32|8) = (\d+);", re.M)
 
 
 def sources(top):
-    """The text of the crate, and of the structs of others."""
-    files = sorted((top / "crates" / "nvme_library" / "src").glob("*.rt")) + [top / "crates" / it for it in OTHERS]
-    return "\n".join(it.read_text(encoding="utf-8") for it in files)
+    """The text of the crates, and of the structs of others."""
+    files = [it for name in CRATES for it in sorted((top / "crates" / name / "src").glob("*.rt"))]
+    return "\n".join(it.read_text(encoding="utf-8") for it in [*files, *(top / "crates" / it for it in OTHERS)])
+
+
+def text_of(folder):
+    """The text of the headers in a folder."""
+    return "\n".join((folder / it).read_text(encoding="utf-8") for it in HEADERS)
 
 
 def without_comments(text):
@@ -46,7 +67,7 @@ def without_comments(text):
 
 
 def exports(text):
-    """The exports of the crate, as C declares them: the result's type and those of the parameters, by their names."""
+    """The exports of the crates, as C declares them: the result's type and those of the parameters, by their names."""
     found = {}
     for name, parameters, result in EXPORT.findall(text):
         kinds = [it.split(":", 1)[1].strip() for it in parameters.split(",") if it.strip()]
@@ -55,7 +76,7 @@ def exports(text):
 
 
 def declarations(header):
-    """The functions that the header declares, in the same form."""
+    """The functions that the headers declare, in the same form."""
     found = {}
     for result, name, parameters in re.findall(r"^(\w+) (nvmesim_\w+)\(([^)]*)\);", without_comments(header), re.M):
         kinds = [re.sub(r"\s*\w+$", "", " ".join(it.split())) or it.strip() for it in parameters.split(",")]
@@ -90,7 +111,7 @@ def header_numbers(header):
 
 
 def differences(top, header):
-    """The differences between the header and the crate, line by line."""
+    """The differences between the headers and the crates, line by line."""
     text = sources(top)
     pairs = [("exports", exports(text), declarations(header)), ("numbers", numbers(text), header_numbers(header))]
     pairs += [(it, dict(rattle_fields(text, it)), dict(c_fields(header, STRUCTS[it]))) for it in STRUCTS]
@@ -98,6 +119,6 @@ def differences(top, header):
               for it in STRUCTS]
     for what, crate, c in pairs:
         if not crate:
-            yield f"{what}: the crate has none"
+            yield f"{what}: the crates have none"
         elif crate != c:
-            yield f"{what}: the crate has {crate}, the header {c}"
+            yield f"{what}: the crates have {crate}, the headers {c}"

@@ -23,7 +23,7 @@ COUNTED = 1000000
 WRAPPED = "-Wl," + ",".join(f"--wrap={it}" for it in
                             ("malloc", "calloc", "realloc", "aligned_alloc", "posix_memalign", "free"))
 # The lines of the crate's file that may be unsafe, at most.
-UNSAFE = 220
+UNSAFE = 270
 
 
 class Trial:
@@ -33,7 +33,8 @@ class Trial:
         self.top, self.clients, self.room, self.failed = top, top / "clients" / "c", room, 0
         self.prefix = room / "installed"
         self.archive = self.prefix / "lib" / "libnvmesim.a"
-        self.sources = [self.clients / "tests" / f"{it}.c" for it in ("library", "needs", "brought", "pdus", "hosts")]
+        self.sources = [self.clients / "tests" / f"{it}.c"
+                        for it in ("library", "needs", "brought", "pdus", "connections", "hosts")]
 
     def check(self, what, problem):
         if problem:
@@ -58,8 +59,8 @@ class Trial:
         return {line.split()[-1] for line in text.splitlines() if line.strip() and not line.endswith(":")}
 
     def names(self):
-        """It exports exactly the names of the header, and needs only the listed ones."""
-        declared = set(header.declarations((self.prefix / "include/nvmesim.h").read_text(encoding="utf-8")))
+        """It exports exactly the names of the headers, and needs only the listed ones."""
+        declared = set(header.declarations(header.text_of(self.prefix / "include")))
         for file, words in ((self.archive, ["-g", "--defined-only"]),
                             (self.prefix / "lib/libnvmesim.so", ["-D", "--defined-only"])):
             found = self.symbols(file, words)
@@ -144,7 +145,7 @@ class Trial:
         self.check("the tests of the one without proofs", problem)
         kept = building.built_archives(self.top)
         self.check("the library that scripts/install takes: the proved one, else that",
-                   kept[1:] != [building.unproved_archive(self.top)] and f"{kept}")
+                   kept[1:] != [[building.unproved_archive(self.top)]] and f"{kept}")
 
     def rust(self):
         """The crate: its tests, those in its documents, the example, and where it is unsafe."""
@@ -209,15 +210,15 @@ class Trial:
 def run(top, room):
     """Tests the library under the folder `installed` of a room; the status."""
     trial = Trial(top, Path(room))
-    text = (trial.prefix / "include/nvmesim.h").read_text(encoding="utf-8")
-    trial.check("the header and the crate", "\n".join(header.differences(top, text)))
+    text = header.text_of(trial.prefix / "include")
+    trial.check("the headers and the crates", "\n".join(header.differences(top, text)))
     trial.names()
     flags = trial.flags()
     trial.example("two_hosts", flags)
     trial.example("image", [f"-I{trial.prefix}/include", trial.archive], [trial.room / "disk.img"])
     trial.images()
-    (trial.room / "header.cc").write_text('#include "nvmesim.h"\n', encoding="utf-8")
-    trial.check("the header in C++", trial.compiled(
+    (trial.room / "header.cc").write_text('#include "nvmetcp.h"\n', encoding="utf-8")
+    trial.check("the headers in C++", trial.compiled(
         ["c++", "-std=c++11", *STRICT[1:], f"-I{trial.prefix}/include", "-c", "header.cc", "-o", "header.o"]))
     trial.tests("the tests", ["-O2"], limit=True, count=OPENED)
     trial.steady()

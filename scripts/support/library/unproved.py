@@ -1,7 +1,7 @@
 """Builds the library for C without its proofs, in half a minute.
 
-The toolchain makes a static library of proved crates alone, but compiles a program of unproved ones. So the crate gets
-a `main` that calls each export, in a copy. Of the module that comes of that the exports are given their names for
+The toolchain makes a static library of proved crates alone, but compiles a program of unproved ones. So one of the
+crates gets a `main` that calls each export of both, in a copy. Of the module that comes of that the exports are given their names for
 others, and those that answer a structure a function of C before them: Rattle's own calls leave it in memory that the
 caller names.
 """
@@ -13,8 +13,10 @@ from typing import Dict, List, Set, Tuple
 
 from support.building import unproved
 from support.library import header
-from support.library.building import CRATE, NotBuilt, call, put, unproved_archive
+from support.library.building import CRATES, HEADERS, NotBuilt, call, put, unproved_archive
 
+# The crate that gets the `main`, and the other crate with exports.
+CRATE, TCP = CRATES
 LENT = "nvme_lent"
 # What the header declares of a call: its result, and its parameters.
 Declared = Tuple[str, List[str]]
@@ -29,14 +31,19 @@ VALUES = {"Global": "alloc", "&mut Handle": "&mut sim", "u8": "n as u8", "u16": 
           "&Change": "&change", "&HostView": "&view", "&RawNotices": "&notices", "&mut RawNotices": "&mut notices",
           "&mut [u8; 64]": "&mut page", "&Agreed": "&agreed", "&[u8; 8]": "&head", "&[u8; 16]": "&posted",
           "&[u8; 24]": "&header", "&[u8; 128]": "&request", "&mut [u8; 24]": "&mut header",
-          "&mut [u8; 128]": "&mut request",
+          "&mut [u8; 128]": "&mut request", "&[u8; 1024]": "&data", "&[HostId]": "&hosts",
+          "&RawConnection": "&connection", "&mut RawConnection": "&mut connection",
+          "&mut FabricsHandle": "&mut fabrics", "&RawSession": "&session", "&mut RawSession": "&mut session",
+          "&RawRequest": "&asked", "&RawJudged": "&judged",
           "LentBytes": "LentBytes { at: ptr::null_mut(), len: n }",
           "Disk": "Disk { blocks: n as u64, content: DiskContent {} }"}
 MAIN = """
 use nvme_brought::{{Disk, DiskContent}};
+use nvme_connection::RawConnection;
 use nvme_lent::LentBytes;
 use nvme_notices::{{Notice, RawNotices}};
 use nvme_pdu::Agreed;
+use nvme_tcp_library::{{FabricsHandle, HostId, RawJudged, RawRequest, RawSession}};
 use std::process::ExitCode;
 use std::rt::Env;
 use std::{{env, io, ptr}};
@@ -58,24 +65,35 @@ fn main(rt: HostRuntime) -> io::Result<ExitCode> {{
     let mut page = [0u8; 64];
     let agreed = Agreed {{ header_digests: n == 3, data_digests: n == 4, alignment: n as u8 }};
     let (head, posted, mut header, mut request) = ([n as u8; 8], [n as u8; 16], [n as u8; 24], [n as u8; 128]);
+    let (data, hosts) = ([n as u8; 1024], [HostId {{ low: n as u64, high: n as u64 }}]);
+    let mut connection = RawConnection {{ count: n, length: n as u32, data_offset: n as u32, data_length: n as u32,
+        kind: n as u8, header: n as u8, stage: n as u8, is_last: n == 3, header_digest: n == 4, data_digest: n == 5,
+        is_open: n == 6, agreed, kept: [n as u8; 128] }};
+    let mut fabrics = FabricsHandle::closed(alloc);
+    let asked = RawRequest {{ host_low: n as u64, host_high: n as u64, host_nqn: [n as u8; 256], cntlid: n as u16,
+        qid: n as u16, entries: n as u16 }};
+    let mut session = RawSession {{ connection: n as u64, request: asked, kind: n as u32, index: n as u16,
+        qid: n as u16 }};
+    let judged = RawJudged {{ authenticating: [n as u32; 16], subsystem: n as u32, is_whole: n == 3, is_known: n == 4,
+        is_allowed: n == 5, is_enabled: n == 6, created_sct: n as u8, created_sc: n as u8 }};
 {calls}
     Ok(ExitCode::from(0))
 }}
 """
 # How an export is named in the module, and what its definition begins with.
-NAMED = re.compile(r'@"nvme_library::\w+::(nvmesim_\w+)"')
-DEFINED = re.compile(r'^define internal (.*@"nvme_library::\w+::(nvmesim_\w+)".*)$', re.M)
+NAMED = re.compile(rf'@"(?:{"|".join(CRATES)})::\w+::(nvmesim_\w+)"')
+DEFINED = re.compile(rf'^define internal (.*@"(?:{"|".join(CRATES)})::\w+::(nvmesim_\w+)".*)$', re.M)
 # A function that its source has inlined everywhere, and the definition of a function in the module, with its name.
 INLINED = re.compile(r"#\[inline\(always\)\]\s*(?:#\[[^\]]*\]\s*)*(?:pub(?:\([^)]*\))?\s+)?fn (\w+)")
 INTERNAL = re.compile(r'^(define internal [^\n]*?@"([^"]+)"\([^\n]*\)) (#\d+ \{)$', re.M)
 # What is before the name of an export that C calls by another function.
 BEHIND = "rattle_"
 # Structures of two words, which Rattle's calls leave in registers as C's do.
-IN_REGISTERS = ("nvmesim_written",)
+IN_REGISTERS = ("nvmesim_written", "nvmesim_queue_connection")
 
 
-def calls(sources: Path) -> List[str]:
-    """A call of each export."""
+def calls(sources: Path, before: str) -> List[str]:
+    """A call of each export of a crate, whose path has these words before it."""
     found = []
     for path in sorted(sources.glob("*.rt")):
         for name, words in EXPORT.findall(path.read_text(encoding="utf-8")):
@@ -83,22 +101,25 @@ def calls(sources: Path) -> List[str]:
             unknown = [it for it in kinds if it not in VALUES]
             if unknown:
                 raise NotBuilt(f"{name} takes {unknown[0]}, which is not known here")
-            found.append(f"    let _ = {path.stem}::{name}({', '.join(VALUES[it] for it in kinds)});")
+            found.append(f"    let _ = {before}{path.stem}::{name}({', '.join(VALUES[it] for it in kinds)});")
     return found
 
 
 def copies(top: Path, room: Path) -> Dict[str, Path]:
-    """Copies of both crates as a program, by their names."""
-    for name in (CRATE, LENT):
+    """Copies of the crates as a program, by their names."""
+    for name in (CRATE, TCP, LENT):
         shutil.copytree(top / "crates" / name, room / name, ignore=shutil.ignore_patterns("out", "wrong-bodies"))
     lent = room / LENT / "src" / "bytes.rt"
     text = lent.read_text(encoding="utf-8")
     lent.write_text(re.sub(r"^    (at|len):", r"    pub \1:", text, flags=re.M), encoding="utf-8")
+    handle = room / TCP / "src" / "handle.rt"
+    handle.write_text(handle.read_text(encoding="utf-8").replace("pub(crate) fn", "pub fn"), encoding="utf-8")
     root = room / CRATE / "src" / "lib.rt"
-    text = root.read_text(encoding="utf-8") + MAIN.format(calls="\n".join(calls(root.parent)))
+    made = [*calls(root.parent, ""), *calls(handle.parent, f"{TCP}::")]
+    text = root.read_text(encoding="utf-8") + MAIN.format(calls="\n".join(made))
     root.with_name("main.rt").write_text(text, encoding="utf-8")
     root.unlink()
-    return {name: room / name for name in (CRATE, LENT)}
+    return {name: room / name for name in (CRATE, TCP, LENT)}
 
 
 def answering(declared: Dict[str, Declared]) -> List[str]:
@@ -109,7 +130,7 @@ def answering(declared: Dict[str, Declared]) -> List[str]:
 
 def shims(declared: Dict[str, Declared]) -> str:
     """Functions of C before the exports that answer a structure."""
-    text = ['#include "nvmesim.h"']
+    text = [f'#include "{it}"' for it in HEADERS]
     for name in answering(declared):
         result, kinds = declared[name]
         words = ", ".join(f"{kind} a{at}" for at, kind in enumerate(kinds))
@@ -155,7 +176,7 @@ def exported(module: str, behind: List[str]) -> str:
 
 def compiled(kit: unproved.Kit, room: Path, top: Path) -> Path:
     """The archive of the module that is kept in the room."""
-    declared = header.declarations((top / "clients/c/nvmesim.h").read_text(encoding="utf-8"))
+    declared = header.declarations(header.text_of(top / "clients/c"))
     words = (room / unproved.WORDS).read_text(encoding="utf-8").splitlines()
     words = [it for it in words if not it.startswith(("-fsanitize", "-O", "--sysroot=", "-fPIE"))]
     words = words[:words.index("-o")] + words[words.index("-o") + 2:]
@@ -181,6 +202,7 @@ def archive(top: Path) -> Path:
             kit.is_free.set()
             for name, folder in copies(top, room).items():
                 kit.crates[name].folder = str(folder)
+            kit.crates[CRATE].deps += [kit.crates[it] for it in (TCP, "nvme_pdu", "nvme_connection")]
             unproved.kept_module(kit, CRATE, room)
         except (unproved.NotBuilt, unproved.toolchain.NoToolchain) as error:
             raise NotBuilt(str(error)) from error
@@ -193,4 +215,4 @@ def archive(top: Path) -> Path:
 
 def build(top: Path, prefix: Path) -> None:
     """Builds the library without its proofs, and puts it under a folder."""
-    put(top, archive(top), prefix)
+    put(top, [archive(top)], prefix)

@@ -6,8 +6,8 @@ use Rattle.nvme_pdu.specs.declared.fields.HostData.{HostData}
 use Rattle.nvme_pdu.specs.declared.layout.PduLayout.{PduLayout}
 use Rattle.nvme_pdu.specs.declared.writing.Written.{Written}
 use Rattle.nvme_pdu.specs.Headers.{number_of}
-use Rattle.nvme_library.specs.declared.pdus.LayoutSeen.{LayoutSeen}
-use Rattle.nvme_library.specs.declared.pdus.PduFields.{PduFields}
+use Rattle.nvme_tcp_library.specs.declared.pdus.LayoutSeen.{LayoutSeen}
+use Rattle.nvme_tcp_library.specs.declared.pdus.PduFields.{PduFields}
 
 -- a fault, or the reason in a termination request, without other fields
 abbrev pub no_digests : Agreed

@@ -6,7 +6,7 @@ ghost use Rattle.nvme_pdu.specs.Agreeing.{agreed_of};
 ghost use Rattle.nvme_pdu.specs.Fields.{host_data, host_termination};
 ghost use Rattle.nvme_pdu.specs.Layouts.{layout_of};
 ghost use Rattle.nvme_pdu.specs.Writing.{ic_response, response, ready, controller_data, termination};
-ghost use Rattle.nvme_library.specs.Pdus.{
+ghost use Rattle.nvme_tcp_library.specs.Pdus.{
   agreed_seen,
   data_seen,
   fields_with,
@@ -235,7 +235,7 @@ impl PduFields {
 
 impl LayoutSeen {
     /// A layout in the form for C.
-    fn of(layout: PduLayout) -> Self
+    pub(crate) fn of(layout: PduLayout) -> Self
         ensures { result ≡ laid_out layout }
     {
         LayoutSeen {
@@ -254,7 +254,7 @@ impl LayoutSeen {
     }
 
     /// No layout.
-    fn without(what: u32, fatal: Fatal) -> Self
+    pub(crate) fn without(what: u32, fatal: Fatal) -> Self
         ensures { result ≡ layout_without what fatal }
     {
         LayoutSeen {

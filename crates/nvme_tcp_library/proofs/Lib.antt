@@ -1,0 +1,3 @@
+mod ReadBack
+pub mod Values
+pub mod Verdicts

@@ -1,0 +1,29 @@
+-- Worked examples of `examples.rt`.
+use Rattle.std.specs.Prelude.{ℕ, Option, replicate}
+use Rattle.nvme_pdu.specs.declared.fatal.Fatal.{Fatal}
+use Rattle.nvme_connection.specs.declared.taken.Taken.{Taken as Bytes}
+use Rattle.nvme_tcp_library.specs.declared.opening.HostId.{HostId}
+use Rattle.nvme_tcp_library.specs.declared.sessions.RawRequest.{RawRequest}
+use Rattle.nvme_tcp_library.specs.declared.sessions.RawSession.{RawSession}
+use Rattle.nvme_tcp_library.specs.Sessions.{no_request, session_with}
+
+-- a struct of C with this kind
+abbrev pub of_kind : ℕ → RawSession
+of_kind kind = session_with 7 no_request kind 3 2
+
+-- four bytes, of which two are data
+abbrev pub four : Option Fatal → Bytes
+four breach = record { count = 4; data_begin = 1; data_end = 3; data_offset = 8; breach = breach }
+
+abbrev pub asked : RawRequest
+asked = record {
+  host_low = 1;
+  host_high = 2;
+  host_nqn = replicate 256 0;
+  cntlid = 65535;
+  qid = 0;
+  entries = 32;
+}
+
+abbrev pub host : HostId
+host = record { low = 1; high = 2 }

@@ -1,0 +1,63 @@
+//! The codes of answers, and other numbers. `nvmesim.h` and `nvmetcp.h` have the same.
+
+/// The call succeeded.
+pub const OK: u32 = 0;
+/// There are no controllers: no `nvmesim_fabrics_open` came before.
+pub const CLOSED: u32 = 16;
+/// HPDA or C2HData is too large.
+pub const OUTSIDE: u32 = 18;
+/// There are controllers already.
+pub const ALREADY_OPEN: u32 = 22;
+/// There are too many controllers.
+pub const TOO_MANY: u32 = 25;
+/// Memory was refused.
+pub const NO_MEMORY: u32 = 27;
+/// The controller has no such queue.
+pub const NO_QUEUE: u32 = 28;
+/// A PDU has a field at fault.
+pub const BAD_PDU: u32 = 40;
+/// The connection has no PDU that the call is about.
+pub const NO_PDU: u32 = 41;
+
+/// A connection takes the bytes of a PDU.
+pub const STAGE_TAKING: u8 = 0;
+/// A PDU is whole.
+pub const STAGE_WHOLE: u8 = 1;
+/// A PDU is complete.
+pub const STAGE_COMPLETE: u8 = 2;
+/// A connection has ended.
+pub const STAGE_ENDED: u8 = 3;
+
+/// A connection has not connected.
+pub const SESSION_NOT_CONNECTED: u32 = 0;
+/// Its host has to authenticate itself.
+pub const SESSION_AUTHENTICATING: u32 = 1;
+/// It is a queue of a controller.
+pub const SESSION_QUEUE: u32 = 2;
+/// It is the Admin Queue of a discovery controller.
+pub const SESSION_DISCOVERY: u32 = 3;
+/// It has ended.
+pub const SESSION_ENDED: u32 = 4;
+
+/// SUBNQN names this subsystem.
+pub const SUBSYSTEM_NVM: u32 = 0;
+/// It names the discovery subsystem.
+pub const SUBSYSTEM_DISCOVERY: u32 = 1;
+/// It names another.
+pub const SUBSYSTEM_OTHER: u32 = 2;
+
+/// A command or a Connect is refused.
+pub const REFUSED: u32 = 0;
+/// Authentication Send or Authentication Receive.
+pub const COMMAND_AUTHENTICATE: u32 = 1;
+/// Disconnect.
+pub const COMMAND_DISCONNECT: u32 = 2;
+/// Property Get.
+pub const COMMAND_GET_PROPERTY: u32 = 3;
+/// Property Set.
+pub const COMMAND_SET_PROPERTY: u32 = 4;
+
+/// A Connect is for a controller.
+pub const PLACE_CONTROLLER: u32 = 1;
+/// A Connect is for a discovery controller.
+pub const PLACE_DISCOVERY: u32 = 2;
