@@ -1,6 +1,9 @@
-//! The calls of libnvmesim that take pointers, as `nvmesim.h` declares them. `raw.rs` makes them.
+//! The calls of libnvmesim that take pointers, as `nvmesim.h` and `nvmetcp.h` declare them. `raw.rs` makes them.
 
-use crate::layout::{Answer, Bytes, Change, Disk, Event, ExecutedOver, HostView, Notices, Read, Sim, Written};
+use crate::layout::{
+    Answer, Bytes, Change, Connection, Disk, Event, ExecutedOver, Fabrics, HostId, HostView, Notices, Read, Sim, Taken,
+    Written,
+};
 use crate::{Attachment, Controller, Namespace};
 
 macro_rules! opening {
@@ -90,5 +93,8 @@ extern "C" {
     pub fn nvmesim_count_notices(notices: *const Notices) -> u32;
     pub fn nvmesim_notice_page(notices: *const Notices, page: *mut u8);
     pub fn nvmesim_take_notice(notices: *mut Notices);
+    pub fn nvmesim_connection_take(connection: *mut Connection, bytes: *const u8, count: usize) -> Taken;
+    pub fn nvmesim_fabrics_open(fabrics: *mut Fabrics, hosts: *const HostId, count: usize, has_keys: bool) -> u32;
+    pub fn nvmesim_fabrics_close(fabrics: *mut Fabrics);
     pub fn nvmesim_answer_line(event: *const Event, answer: *const Answer, line: *mut u8, room: usize) -> Written;
 }

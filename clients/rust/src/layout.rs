@@ -1,4 +1,4 @@
-//! The structs of `nvmesim.h`, with their layout in memory.
+//! The structs of `nvmesim.h` and `nvmetcp.h`, with their layout in memory.
 
 use crate::pdu::Agreed;
 use crate::{Attachment, Controller, Namespace};
@@ -168,6 +168,146 @@ pub struct PduLayout {
     pub is_last: bool,
     pub header_digest: bool,
     pub data_digest: bool,
+}
+
+#[repr(C)]
+#[derive(Clone)]
+pub struct Connection {
+    pub count: usize,
+    pub length: u32,
+    pub data_offset: u32,
+    pub data_length: u32,
+    pub kind: u8,
+    pub header: u8,
+    pub stage: u8,
+    pub is_last: bool,
+    pub header_digest: bool,
+    pub data_digest: bool,
+    pub is_open: bool,
+    pub agreed: Agreed,
+    pub kept: [u8; 128],
+}
+
+impl Connection {
+    /// Zeros: nothing has come.
+    pub const NONE: Connection = Connection {
+        count: 0,
+        length: 0,
+        data_offset: 0,
+        data_length: 0,
+        kind: 0,
+        header: 0,
+        stage: 0,
+        is_last: false,
+        header_digest: false,
+        data_digest: false,
+        is_open: false,
+        agreed: Agreed { header_digests: false, data_digests: false, alignment: 0 },
+        kept: [0; 128],
+    };
+}
+
+#[repr(C)]
+pub struct Taken {
+    pub count: usize,
+    pub data_begin: usize,
+    pub data_end: usize,
+    pub data_offset: usize,
+    pub what: u32,
+    pub field: u32,
+    pub status: u16,
+}
+
+#[repr(C)]
+pub struct Verdict {
+    pub layout: PduLayout,
+    pub is_sound: bool,
+}
+
+#[repr(C)]
+pub struct Fabrics {
+    pub controllers: *mut c_void,
+    pub is_open: bool,
+}
+
+#[repr(C)]
+pub struct HostId {
+    pub low: u64,
+    pub high: u64,
+}
+
+#[repr(C)]
+#[derive(Clone, Copy)]
+pub struct Request {
+    pub host_low: u64,
+    pub host_high: u64,
+    pub host_nqn: [u8; 256],
+    pub cntlid: u16,
+    pub qid: u16,
+    pub entries: u16,
+}
+
+impl Request {
+    /// Zeros.
+    pub const NONE: Request = Request { host_low: 0, host_high: 0, host_nqn: [0; 256], cntlid: 0, qid: 0, entries: 0 };
+}
+
+#[repr(C)]
+#[derive(Clone)]
+pub struct Session {
+    pub connection: u64,
+    pub request: Request,
+    pub kind: u32,
+    pub index: u16,
+    pub qid: u16,
+}
+
+#[repr(C)]
+pub struct Judged {
+    pub authenticating: [u32; 16],
+    pub subsystem: u32,
+    pub is_whole: bool,
+    pub is_known: bool,
+    pub is_allowed: bool,
+    pub is_enabled: bool,
+    pub created_sct: u8,
+    pub created_sc: u8,
+}
+
+#[repr(C)]
+pub struct FabricsAnswer {
+    pub what: u32,
+    pub dw0: u32,
+    pub sct: u8,
+    pub sc: u8,
+}
+
+#[repr(C)]
+pub struct Admitted {
+    pub request: Request,
+    pub answer: FabricsAnswer,
+    pub place: u32,
+    pub index: u16,
+}
+
+#[repr(C)]
+pub struct Executed {
+    pub answer: FabricsAnswer,
+    pub command: u32,
+}
+
+#[repr(C)]
+pub struct LiveSession {
+    pub what: u32,
+    pub kind: u32,
+    pub index: u16,
+    pub qid: u16,
+}
+
+#[repr(C)]
+pub struct QueueConnection {
+    pub connection: u64,
+    pub what: u32,
 }
 
 /// A configuration, as the calls take it.

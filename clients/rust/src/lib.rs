@@ -76,6 +76,8 @@
 #![deny(unsafe_code)]
 #![warn(missing_docs)]
 
+pub mod connection;
+pub mod fabrics;
 mod foreign;
 mod layout;
 mod lines;
@@ -365,12 +367,13 @@ impl<'a> Subsystem<'a> {
     }
 }
 
-// The numbers of answers, as nvmesim.h has them.
+// The numbers of answers, as the headers have them.
 const OK: u32 = 0;
 const TOOK: u32 = 4;
 const POSTED: u32 = 6;
 const CQ_FULL: u32 = 8;
 const FIRST_REFUSAL: u32 = 16;
+const BAD_PDU: u32 = 40;
 
 fn opened<'a>(config: &Config, blocks: Blocks<'_, 'a>) -> Result<Subsystem<'a>, OpenError> {
     let parts = (&config.controllers[..], &config.namespaces[..], &config.attached[..]);

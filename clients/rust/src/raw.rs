@@ -5,8 +5,9 @@
 
 use crate::foreign::*;
 use crate::layout::{
-    Answer, Blocks, Bytes, Change, Command, Event, ExecutedOver, Hold, HostView, Needed, Notices, Parts, PduFields,
-    PduLayout, Queue, Read, Registered, Sim, Written,
+    Admitted, Answer, Blocks, Bytes, Change, Command, Connection, Event, Executed, ExecutedOver, Fabrics,
+    FabricsAnswer, Hold, HostId, HostView, Judged, LiveSession, Needed, Notices, Parts, PduFields, PduLayout, Queue,
+    QueueConnection, Read, Registered, Request, Session, Sim, Taken, Verdict, Written,
 };
 use crate::pdu::Agreed;
 use crate::{Attachment, Brought, Controller, Namespace};
@@ -15,22 +16,23 @@ use std::arch::x86_64::{_mm_prefetch, _MM_HINT_T0};
 use std::marker::PhantomData;
 use std::{ptr, slice};
 
-/// Declares the calls that take numbers alone, and makes each a method of a handle.
+/// Declares the calls that take a struct and then numbers and references, and makes each a method.
 macro_rules! plain_calls {
-    ($($name:ident = $call:ident($($word:ident: $kind:ty),*) -> $result:ty;)+) => {
+    ($of:ty, $at:ident: $sim:ty; $($name:ident = $call:ident($($word:ident: $kind:ty),*) -> $result:ty;)+) => {
         extern "C" {
-            $(fn $call(sim: *mut Sim $(, $word: $kind)*) -> $result;)+
+            $(fn $call(sim: *mut $sim $(, $word: $kind)*) -> $result;)+
         }
 
-        impl Handle<'_> {
+        impl $of {
             $(pub fn $name(&mut self $(, $word: $kind)*) -> $result {
-                unsafe { $call(&mut self.sim $(, $word)*) }
+                unsafe { $call(&mut self.$at $(, $word)*) }
             })+
         }
     };
 }
 
 plain_calls! {
+    Handle<'_>, sim: Sim;
     write32 = nvmesim_write32(cntlid: u16, offset: u64, value: u32) -> Answer;
     read32 = nvmesim_read32(cntlid: u16, offset: u64) -> Answer;
     fetch = nvmesim_fetch(cntlid: u16, qid: u16) -> Answer;
@@ -192,7 +194,13 @@ pub fn answer_line(event: &Event, answer: &Answer, line: &mut [u8]) -> Written {
     unsafe { nvmesim_answer_line(event, answer, line.as_mut_ptr(), line.len()) }
 }
 
-/// Declares the calls on PDUs, which take numbers and references, and makes each a function.
+/// Takes bytes of a connection.
+#[inline]
+pub fn connection_take(connection: &mut Connection, bytes: &[u8]) -> Taken {
+    unsafe { nvmesim_connection_take(connection, bytes.as_ptr(), bytes.len()) }
+}
+
+/// Declares the calls on PDUs and connections, which take numbers and references, and makes each a function.
 macro_rules! pdu_calls {
     ($($name:ident = $call:ident($($word:ident: $kind:ty),+) -> $result:ty;)+) => {
         extern "C" {
@@ -216,4 +224,44 @@ pdu_calls! {
     pdu_ready = nvmesim_pdu_ready(agreed: &Agreed, cid: u16, tag: u16, n: u32, header: &mut [u8; 24]) -> PduLayout;
     pdu_data = nvmesim_pdu_data(agreed: &Agreed, cid: u16, n: u32, header: &mut [u8; 24]) -> PduLayout;
     pdu_termination = nvmesim_pdu_termination(status: u16, field: u32, n: u32, header: &mut [u8; 24]) -> PduLayout;
+    connection_judge = nvmesim_connection_judge(at: &mut Connection, header: bool, bytes: bool) -> Verdict;
+    connection_refuse = nvmesim_connection_refuse(at: &mut Connection, status: u16, field: u32) -> Verdict;
+    connection_layout = nvmesim_connection_layout(at: &Connection) -> PduLayout;
+    connection_wanted = nvmesim_connection_wanted(at: &Connection) -> usize;
+}
+
+/// Associations that are open.
+pub struct Associations {
+    fabrics: Fabrics,
+}
+
+impl Associations {
+    /// Opens associations for these hosts: what the call answered, and they.
+    pub fn open(hosts: &[HostId], has_keys: bool) -> (u32, Self) {
+        let mut it = Associations { fabrics: Fabrics { controllers: ptr::null_mut(), is_open: false } };
+        let answer = unsafe { nvmesim_fabrics_open(&mut it.fabrics, hosts.as_ptr(), hosts.len(), has_keys) };
+        (answer, it)
+    }
+}
+
+// As a handle.
+unsafe impl Send for Associations {}
+
+impl Drop for Associations {
+    fn drop(&mut self) {
+        unsafe { nvmesim_fabrics_close(&mut self.fabrics) }
+    }
+}
+
+plain_calls! {
+    Associations, fabrics: Fabrics;
+    live = nvmesim_fabrics_live(session: &Session) -> LiveSession;
+    connection = nvmesim_fabrics_connection(index: u16, qid: u16) -> QueueConnection;
+    admitted = nvmesim_fabrics_admitted(session: &Session, entry: &[u8; 64], data: &[u8; 1024], judged: &Judged) -> Admitted;
+    admits = nvmesim_fabrics_admits(index: u16, request: &Request, is_enabled: bool) -> FabricsAnswer;
+    connect = nvmesim_fabrics_connect(session: &mut Session, entry: &[u8; 64], data: &[u8; 1024], it: &Judged) -> FabricsAnswer;
+    authenticate = nvmesim_fabrics_authenticate(session: &mut Session, is_enabled: bool, sct: u8, sc: u8) -> FabricsAnswer;
+    execute = nvmesim_fabrics_execute(session: &mut Session, entry: &[u8; 64]) -> Executed;
+    end_session = nvmesim_fabrics_end_session(session: &mut Session) -> u32;
+    end_association = nvmesim_fabrics_end_association(index: u16) -> u32;
 }

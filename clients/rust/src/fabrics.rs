@@ -1,0 +1,314 @@
+//! Which connection is a queue of which controller, by Connect, authentication, Disconnect and Property Set.
+//!
+//! ```
+//! use nvmesim::fabrics::{Fabrics, Judged, Live, Session};
+//!
+//! let mut fabrics = Fabrics::new(&[0xa1], false)?;
+//! let mut session = Session::new(7);
+//! let (mut entry, mut data) = ([0; 64], [0; 1024]);
+//! (entry[44], data[0], data[16], data[17], data[512]) = (31, 0xa1, 0xff, 0xff, b'h');
+//! let answer = fabrics.connect(&mut session, &entry, &data, &Judged::default());
+//! assert_eq!((answer.sct, answer.sc, answer.dw0), (0, 0, 1));
+//! assert_eq!(fabrics.live(&session), Live::Queue { index: 0, qid: 0 });
+//! assert_eq!(fabrics.connection(0, 0), Some(7));
+//! fabrics.end_session(&mut session);
+//! assert_eq!(fabrics.live(&session), Live::Ended);
+//! # Ok::<_, nvmesim::OpenError>(())
+//! ```
+
+use crate::layout;
+use crate::raw::Associations;
+use crate::{OpenError, OK};
+
+/// The fields of a completion that an answer sets.
+#[derive(Clone, Copy, Debug, PartialEq, Eq)]
+pub struct Answer {
+    /// Double word 0.
+    pub dw0: u32,
+    /// Status Code Type.
+    pub sct: u8,
+    /// Status Code.
+    pub sc: u8,
+}
+
+impl Answer {
+    /// Whether the status is a success.
+    pub fn is_success(&self) -> bool {
+        (self.sct, self.sc) == (0, 0)
+    }
+}
+
+/// What a Connect asks for.
+#[derive(Clone, Copy, Debug, PartialEq, Eq)]
+pub struct Request {
+    /// HOSTID.
+    pub host_id: u128,
+    /// HOSTNQN: a text, NUL, and anything.
+    pub host_nqn: [u8; 256],
+    /// CNTLID; FFFFh is any controller of the host.
+    pub cntlid: u16,
+    /// QID: 0 is the Admin Queue.
+    pub qid: u16,
+    /// The number of entries of the queue, SQSIZE and one.
+    pub entries: u16,
+}
+
+/// What a Connect connects to.
+#[derive(Clone, Copy, Debug, PartialEq, Eq)]
+pub enum Place {
+    /// A discovery controller.
+    Discovery,
+    /// The controller at this place, one less than CNTLID.
+    Controller(u16),
+}
+
+/// The subsystem that SUBNQN names.
+#[derive(Clone, Copy, Debug, PartialEq, Eq)]
+pub enum Subsystem {
+    /// This one.
+    Nvm = 0,
+    /// The discovery subsystem.
+    Discovery = 1,
+    /// Another.
+    Other = 2,
+}
+
+/// What the caller knows of a Connect. The default is a Connect to which nothing is opposed.
+#[derive(Clone, Copy, Debug)]
+pub struct Judged {
+    /// The subsystem that SUBNQN names.
+    pub subsystem: Subsystem,
+    /// Whether the command's data are 1,024 bytes.
+    pub is_whole: bool,
+    /// Whether the host has a key, if hosts need one.
+    pub is_known: bool,
+    /// Whether the host may connect from its address.
+    pub is_allowed: bool,
+    /// Whether the Admin Queue of the controller is enabled.
+    pub is_enabled: bool,
+    /// Status Code Type and Status Code of the creation of the I/O queues.
+    pub created: (u8, u8),
+    /// The number of hosts that authenticate themselves for each controller.
+    pub authenticating: [u32; 16],
+}
+
+impl Default for Judged {
+    fn default() -> Judged {
+        let (subsystem, created, authenticating) = (Subsystem::Nvm, (0, 0), [0; 16]);
+        Judged {
+            subsystem,
+            is_whole: true,
+            is_known: true,
+            is_allowed: true,
+            is_enabled: true,
+            created,
+            authenticating,
+        }
+    }
+}
+
+/// What a connection is now.
+#[derive(Clone, Copy, Debug, PartialEq, Eq)]
+pub enum Live {
+    /// Nothing yet: it has not connected.
+    NotConnected,
+    /// Its host has to authenticate itself to the controller at this place.
+    Authenticating(u16),
+    /// A queue of the controller at a place.
+    Queue {
+        /// The place, one less than CNTLID.
+        index: u16,
+        /// The queue.
+        qid: u16,
+    },
+    /// The Admin Queue of a discovery controller.
+    Discovery,
+    /// Nothing any more.
+    Ended,
+}
+
+impl Live {
+    #[inline]
+    fn of(kind: u32, index: u16, qid: u16) -> Live {
+        match kind {
+            0 => Live::NotConnected,
+            AUTHENTICATING => Live::Authenticating(index),
+            2 => Live::Queue { index, qid },
+            3 => Live::Discovery,
+            _ => Live::Ended,
+        }
+    }
+}
+
+/// A Fabrics command that its connection may issue.
+#[derive(Clone, Copy, Debug, PartialEq, Eq)]
+pub enum Command {
+    /// Authentication Send or Authentication Receive.
+    Authenticate,
+    /// Disconnect.
+    Disconnect,
+    /// Property Get of a property that there is.
+    GetProperty,
+    /// Property Set of Controller Configuration.
+    SetProperty,
+}
+
+/// What a connection was when a call last changed it: `Fabrics::live` says what it is now.
+#[derive(Clone)]
+pub struct Session {
+    raw: layout::Session,
+}
+
+impl Session {
+    /// A connection that has not connected. No other connection ever has its number.
+    pub fn new(connection: u64) -> Session {
+        Session { raw: layout::Session { connection, request: layout::Request::NONE, kind: 0, index: 0, qid: 0 } }
+    }
+
+    /// The number of the connection.
+    pub fn connection(&self) -> u64 {
+        self.raw.connection
+    }
+
+    /// What it was when a call last changed it.
+    #[inline]
+    pub fn last(&self) -> Live {
+        Live::of(self.raw.kind, self.raw.index, self.raw.qid)
+    }
+
+    /// What its Connect asked for, while its host has to authenticate itself.
+    pub fn request(&self) -> Option<Request> {
+        (self.raw.kind == AUTHENTICATING).then(|| self.raw.request.into())
+    }
+}
+
+const AUTHENTICATING: u32 = 1;
+
+/// The controllers of a subsystem and their associations.
+pub struct Fabrics {
+    raw: Associations,
+}
+
+impl Fabrics {
+    /// A subsystem without associations, whose controllers have these hosts, by rising CNTLID from 1. With `has_keys`
+    /// hosts have to authenticate themselves. It takes memory once.
+    pub fn new(hosts: &[u128], has_keys: bool) -> Result<Fabrics, OpenError> {
+        let halves = |it: &u128| layout::HostId { low: *it as u64, high: (it >> 64) as u64 };
+        let (answer, raw) = Associations::open(&hosts.iter().map(halves).collect::<Vec<_>>(), has_keys);
+        match answer {
+            OK => Ok(Fabrics { raw }),
+            25 => Err(OpenError::TooMany),
+            _ => Err(OpenError::NoMemory),
+        }
+    }
+
+    /// What a connection is now: a queue only as long as its association names it.
+    #[inline]
+    pub fn live(&mut self, session: &Session) -> Live {
+        let it = self.raw.live(&session.raw);
+        Live::of(it.kind, it.index, it.qid)
+    }
+
+    /// The connection of a queue of the controller at a place.
+    pub fn connection(&mut self, index: u16, qid: u16) -> Option<u64> {
+        let it = self.raw.connection(index, qid);
+        (it.what == OK).then_some(it.connection)
+    }
+
+    /// What a Connect asks for, and what `connect` will connect it to; or the answer of the first rule that it breaks.
+    pub fn admitted(
+        &mut self,
+        session: &Session,
+        entry: &[u8; 64],
+        data: &[u8; 1024],
+        judged: &Judged,
+    ) -> Result<(Request, Place), Answer> {
+        let it = self.raw.admitted(&session.raw, entry, data, &judged.into());
+        match it.place {
+            1 => Ok((it.request.into(), Place::Controller(it.index))),
+            2 => Ok((it.request.into(), Place::Discovery)),
+            _ => Err(it.answer.into()),
+        }
+    }
+
+    /// Whether a request may have its queue at the controller at a place: a success, or the answer of the first rule that
+    /// is broken.
+    pub fn admits(&mut self, index: u16, request: &Request, is_enabled: bool) -> Answer {
+        self.raw.admits(index, &request.into(), is_enabled).into()
+    }
+
+    /// Executes a Connect. A refused one changes nothing.
+    pub fn connect(&mut self, session: &mut Session, entry: &[u8; 64], data: &[u8; 1024], judged: &Judged) -> Answer {
+        self.raw.connect(&mut session.raw, entry, data, &judged.into()).into()
+    }
+
+    /// The host of a connection has authenticated itself: the connection becomes the queue that its Connect asked for, or
+    /// ends. Any other connection stays what it is.
+    pub fn authenticate(&mut self, session: &mut Session, is_enabled: bool, created: (u8, u8)) -> Answer {
+        self.raw.authenticate(&mut session.raw, is_enabled, created.0, created.1).into()
+    }
+
+    /// Executes a Fabrics command other than Connect, as far as associations go; or the answer of the first rule that is
+    /// broken, and nothing has changed.
+    pub fn execute(&mut self, session: &mut Session, entry: &[u8; 64]) -> Result<Command, Answer> {
+        let it = self.raw.execute(&mut session.raw, entry);
+        match it.command {
+            1 => Ok(Command::Authenticate),
+            2 => Ok(Command::Disconnect),
+            3 => Ok(Command::GetProperty),
+            4 => Ok(Command::SetProperty),
+            _ => Err(it.answer.into()),
+        }
+    }
+
+    /// A connection ends: its queue ends, and with the Admin Queue the association.
+    pub fn end_session(&mut self, session: &mut Session) {
+        self.raw.end_session(&mut session.raw);
+    }
+
+    /// The association of the controller at a place ends, if there is one.
+    pub fn end_association(&mut self, index: u16) {
+        self.raw.end_association(index);
+    }
+}
+
+impl From<layout::FabricsAnswer> for Answer {
+    fn from(it: layout::FabricsAnswer) -> Answer {
+        Answer { dw0: it.dw0, sct: it.sct, sc: it.sc }
+    }
+}
+
+impl From<layout::Request> for Request {
+    fn from(it: layout::Request) -> Request {
+        let host_id = u128::from(it.host_high) << 64 | u128::from(it.host_low);
+        Request { host_id, host_nqn: it.host_nqn, cntlid: it.cntlid, qid: it.qid, entries: it.entries }
+    }
+}
+
+impl From<&Request> for layout::Request {
+    fn from(it: &Request) -> layout::Request {
+        layout::Request {
+            host_low: it.host_id as u64,
+            host_high: (it.host_id >> 64) as u64,
+            host_nqn: it.host_nqn,
+            cntlid: it.cntlid,
+            qid: it.qid,
+            entries: it.entries,
+        }
+    }
+}
+
+impl From<&Judged> for layout::Judged {
+    fn from(it: &Judged) -> layout::Judged {
+        layout::Judged {
+            authenticating: it.authenticating,
+            subsystem: it.subsystem as u32,
+            is_whole: it.is_whole,
+            is_known: it.is_known,
+            is_allowed: it.is_allowed,
+            is_enabled: it.is_enabled,
+            created_sct: it.created.0,
+            created_sc: it.created.1,
+        }
+    }
+}
