@@ -11,7 +11,7 @@ from tests.targets import has_keys
 HERE = Path(__file__).resolve().parent.parent
 # The calls of libcrypto, the instruction of the processor, the system calls, and the calls of the library.
 UNSAFE = [HERE / "src/libcrypto.rs", HERE / "src/processor.rs", HERE / "src/system.rs", HERE.parent / "rust/src/raw.rs"]
-MOST_LINES = 229
+MOST_LINES = 267
 
 
 class Sources(unittest.TestCase):
