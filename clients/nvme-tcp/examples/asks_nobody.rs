@@ -79,7 +79,7 @@ impl Connection {
         }
         let mut at = 0;
         while self.end - at >= pdu::COMMON {
-            let layout = match pdu::layout_of(&self.input[at..self.end], PLAIN) {
+            let layout = match PLAIN.layout(first(&self.input[at..self.end])) {
                 Ok(layout) => layout,
                 Err(_) => return false,
             };

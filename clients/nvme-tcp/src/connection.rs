@@ -11,7 +11,7 @@ use crate::fault::{Fault, Outcome};
 use crate::input::{Input, Rooms};
 use crate::nvme::{ENTRY, FLUSH};
 use crate::output::Output;
-use crate::pdu::{self, Agreed, Fatal, HostData, Kind, Layout, COMMON};
+use crate::pdu::{self, Fatal, HostData, Kind, Layout, COMMON};
 use crate::pointer::Pointer;
 use crate::proving::goes_before_proof;
 use crate::status::{
@@ -19,6 +19,7 @@ use crate::status::{
 };
 use crate::target::Target;
 use crate::transfers::{Part, Transfers};
+use nvmesim::connection::{Connection as Framing, Stage, Verdict};
 use std::io::{self, Read, Write};
 use std::mem;
 use std::net::{Shutdown, TcpStream};
@@ -40,17 +41,7 @@ const BEHIND_LONG: usize = 4 << 10;
 /// Limit of unsent answers: above it no further command of the host is executed.
 const OUTPUT_FULL: usize = 128 << 10;
 
-/// How far a connection is.
-#[derive(Clone, Copy, Debug, PartialEq, Eq)]
-enum Phase {
-    /// It waits for ICReq.
-    Begun,
-    Open,
-    /// Sends what is queued, and receives nothing more.
-    Ending,
-}
-
-/// Why no PDU is taken.
+/// Why a PDU is not executed.
 enum Stop {
     /// The host has broken the transport's rules: the connection ends.
     Fatal(Fatal),
@@ -74,10 +65,12 @@ impl From<Fault> for Stop {
 pub struct Connection {
     pub socket: TcpStream,
     pub queue: HostQueue,
-    phase: Phase,
-    agreed: Agreed,
+    /// Which of the bytes that came are which PDU. Each byte is given to it once, in order.
+    framing: Framing,
+    /// Whether it sends what is queued, and receives nothing more.
+    is_ending: bool,
     transfers: Transfers,
-    /// What was received and not taken yet.
+    /// The bytes of the PDU in hand, and those that were received after them.
     input: Input,
     /// What to send.
     output: Output,
@@ -97,8 +90,8 @@ impl Connection {
         Connection {
             socket,
             queue,
-            phase: Phase::Begun,
-            agreed: Agreed::default(),
+            framing: Framing::new(),
+            is_ending: false,
             transfers: Transfers::default(),
             input: Input::default(),
             output: Output::default(),
@@ -121,7 +114,7 @@ impl Connection {
 
     /// Whether to receive more, and whether there is something to send.
     pub fn wants(&self) -> (bool, bool) {
-        (self.phase == Phase::Ending || !self.is_full() && !self.waits_for_disk, self.output.len() != 0)
+        (self.is_ending || !self.is_full() && !self.waits_for_disk, self.output.len() != 0)
     }
 
     /// Whether PDUs can be taken that had to wait.
@@ -165,84 +158,93 @@ impl Connection {
     /// Limit of bytes that wait after a receive: few after an incomplete long PDU, so that little of the next one has
     /// to be moved to the front.
     fn most_wanted(&self) -> usize {
-        let head = self.input.waiting();
-        let layout = if head.len() < COMMON { None } else { pdu::layout_of(head, self.agreed).ok() };
-        match layout {
-            Some(layout) if layout.length > head.len().max(LONG) => ROOM.min(layout.length + BEHIND_LONG),
-            _ => ROOM,
+        let length = self.input.unit().len() + self.framing.wanted();
+        if length > self.input.waiting().len().max(LONG) {
+            ROOM.min(length + BEHIND_LONG)
+        } else {
+            ROOM
         }
     }
 
     /// Takes complete PDUs while there is space for their answers.
     pub fn take_all(&mut self, target: &mut Target<'_>) -> Outcome<()> {
         let mut input = mem::take(&mut self.input);
-        let mut result = Ok(());
-        self.waits_for_disk = false;
-        while result.is_ok() && self.phase != Phase::Ending && !self.is_full() {
-            if self.is_busy(target, input.waiting()) {
-                self.waits_for_disk = true;
-                break;
-            }
-            match self.take_one(target, input.waiting()) {
-                Ok(0) => break,
-                Ok(length) => input.taken(length),
-                Err(Stop::Fatal(fatal)) => self.terminate(target, fatal, input.waiting()),
-                Err(Stop::Fault(fault)) => result = Err(fault),
-            }
-        }
+        let result = self.take_from(target, &mut input);
         self.waits = self.is_full();
-        if self.phase == Phase::Ending {
+        if self.is_ending {
             input.clear();
         }
         self.input = input;
         result
     }
 
-    /// Takes the first PDU, if it is whole: its length, or 0.
-    fn take_one(&mut self, target: &mut Target<'_>, bytes: &[u8]) -> Result<usize, Stop> {
-        if bytes.len() < COMMON {
-            return Ok(0);
+    fn take_from(&mut self, target: &mut Target<'_>, input: &mut Input) -> Outcome<()> {
+        self.waits_for_disk = false;
+        while !self.is_ending && !self.is_full() {
+            if self.is_busy(target, input.waiting()) {
+                self.waits_for_disk = true;
+                break;
+            }
+            if !self.take_one(target, input)? {
+                break;
+            }
         }
-        if (self.phase == Phase::Begun) != (bytes[0] == pdu::IC_REQUEST) {
-            return Err(pdu::OUT_OF_SEQUENCE.into());
+        Ok(())
+    }
+
+    /// Takes the bytes of the PDU in hand, and executes it if it is complete then; whether it was whole.
+    fn take_one(&mut self, target: &mut Target<'_>, input: &mut Input) -> Outcome<bool> {
+        let taken = self.framing.take(input.fresh());
+        input.taken(taken.count);
+        if let Some(fatal) = taken.breach {
+            self.terminate(target, fatal);
         }
-        let layout = pdu::layout_of(bytes, self.agreed)?;
-        if bytes.len() < layout.length {
-            return Ok(0);
+        let layout = match (self.framing.stage(), self.framing.layout()) {
+            (Stage::Whole, Some(layout)) => layout,
+            _ => return Ok(false),
+        };
+        let unit = input.unit();
+        let verdict = self.framing.judge(pdu::has_right_header(&layout, unit), pdu::has_right_data(&layout, unit));
+        match verdict {
+            Some(Verdict::Completes { layout, is_sound }) => match self.execute(target, &layout, is_sound, unit) {
+                Err(Stop::Fatal(fatal)) => {
+                    self.framing.refuse(fatal);
+                    self.terminate(target, fatal);
+                }
+                Err(Stop::Fault(fault)) => return Err(fault),
+                Ok(()) => (),
+            },
+            Some(Verdict::Breaks(fatal)) => self.terminate(target, fatal),
+            None => (),
         }
-        let unit = &bytes[..layout.length];
-        if !pdu::has_right_header(&layout, unit) {
-            return Err(pdu::WRONG_HEADER_DIGEST.into());
-        }
+        input.drop_unit();
+        Ok(true)
+    }
+
+    /// Executes a complete PDU.
+    fn execute(&mut self, target: &mut Target<'_>, layout: &Layout, is_sound: bool, unit: &[u8]) -> Result<(), Stop> {
         match layout.kind {
-            Kind::IcReq => self.open(unit)?,
-            Kind::CapsuleCmd => self.capsule(target, &layout, unit)?,
-            Kind::H2cData => self.host_data(target, &layout, unit)?,
+            Kind::IcReq => pdu::ic_response(&mut self.output, *self.framing.agreed()),
+            Kind::CapsuleCmd => self.capsule(target, layout, is_sound, unit)?,
+            Kind::H2cData => self.host_data(target, layout, is_sound, unit)?,
             _ => {
                 let status = Fatal::of(first(unit)).status;
                 target.say(format_args!("a host ends its connection, with status {status}"));
                 self.is_closed = true;
             }
         }
-        Ok(layout.length)
-    }
-
-    fn open(&mut self, unit: &[u8]) -> Result<(), Fatal> {
-        self.agreed = Agreed::of(first(unit))?;
-        pdu::ic_response(&mut self.output, self.agreed);
-        self.phase = Phase::Open;
         Ok(())
     }
 
     /// A command. It is executed as soon as it has its data.
-    fn capsule(&mut self, target: &mut Target<'_>, layout: &Layout, unit: &[u8]) -> Result<(), Stop> {
+    fn capsule(&mut self, target: &mut Target<'_>, layout: &Layout, is_sound: bool, unit: &[u8]) -> Result<(), Stop> {
         let mut entry = [0; ENTRY];
         entry.copy_from_slice(&unit[COMMON..COMMON + ENTRY]);
         self.queue.advance();
         if self.transfers.count() >= usize::from(self.queue.entries) {
             return Err(pdu::OUT_OF_SEQUENCE.into());
         }
-        if let Some(status) = self.refusal(target, &entry, layout, unit) {
+        if let Some(status) = self.refusal(target, &entry, is_sound) {
             return Ok(self.answer(target, &entry, Answer::of(status))?);
         }
         let data = pdu::data_in(layout, unit);
@@ -262,7 +264,7 @@ impl Connection {
     }
 
     /// Why a command is not looked at, if it is not.
-    fn refusal(&self, target: &Target<'_>, entry: &[u8; ENTRY], layout: &Layout, unit: &[u8]) -> Option<Status> {
+    fn refusal(&self, target: &Target<'_>, entry: &[u8; ENTRY], is_sound: bool) -> Option<Status> {
         let cid = u16_at(entry, 2);
         let waits = match self.queue.session {
             Session::None if !fabrics::is_connect(entry) => return Some(COMMAND_SEQUENCE),
@@ -270,7 +272,7 @@ impl Connection {
             Session::Controller { index, qid: 0 } => target.waits(index, cid),
             _ => false,
         };
-        if !pdu::has_right_data(layout, unit) {
+        if !is_sound {
             Some(TRANSIENT_TRANSPORT)
         } else if waits || self.transfers.has(cid) || self.queue.proof.as_ref().map_or(false, |it| it.waits(cid)) {
             Some(COMMAND_ID_CONFLICT)
@@ -282,15 +284,14 @@ impl Connection {
     /// Asks for data of commands that wait for them.
     fn request_data(&mut self) {
         while let Some(it) = self.transfers.next_request() {
-            pdu::ready_to_transfer(&mut self.output, self.agreed, it.cid, it.tag, it.length);
+            pdu::ready_to_transfer(&mut self.output, *self.framing.agreed(), it.cid, it.tag, it.length);
         }
     }
 
-    fn host_data(&mut self, target: &mut Target<'_>, layout: &Layout, unit: &[u8]) -> Result<(), Stop> {
+    fn host_data(&mut self, target: &mut Target<'_>, layout: &Layout, is_sound: bool, unit: &[u8]) -> Result<(), Stop> {
         let data = pdu::data_in(layout, unit);
         let HostData { cid, tag, offset } = HostData::of(first(unit), data.len() as u32)?;
-        let (is_last, is_sound) = (layout.is_last, pdu::has_right_data(layout, unit));
-        let part = Part { cid, tag, offset: offset as usize, is_last, is_sound, data };
+        let part = Part { cid, tag, offset: offset as usize, is_last: layout.is_last, is_sound, data };
         if let Some(transfer) = self.transfers.take(&part)? {
             if transfer.is_sound {
                 self.carry_out(target, &transfer.entry, Data::ToController(transfer.data(&part)))?;
@@ -311,7 +312,7 @@ impl Connection {
 
     /// Takes the result of work for its host's authentication.
     pub fn finish_work(&mut self, target: &mut Target<'_>, done: Done) -> Outcome<()> {
-        if self.phase == Phase::Ending {
+        if self.is_ending {
             return Ok(());
         }
         let before = self.queue.session;
@@ -354,7 +355,7 @@ impl Connection {
             target.say(format_args!("command {cid} has status {}", answer.status));
         }
         self.output.take_from(&mut target.buffers);
-        let (out, agreed) = (&mut self.output, self.agreed);
+        let (out, agreed) = (&mut self.output, *self.framing.agreed());
         match answer.data {
             Payload::None => (),
             Payload::Bytes(bytes) => pdu::controller_data::<Fault>(out, agreed, cid, bytes.len(), |room| {
@@ -371,23 +372,23 @@ impl Connection {
         put(&mut entry, 8, &self.queue.sqhd().to_le_bytes());
         put(&mut entry, 12, &cid.to_le_bytes());
         put(&mut entry, 14, &answer.status.field().to_le_bytes());
-        pdu::response(&mut self.output, self.agreed, &entry);
+        pdu::response(&mut self.output, agreed, &entry);
         Ok(())
     }
 
-    /// Sends the termination request, and ends.
-    fn terminate(&mut self, target: &Target<'_>, fatal: Fatal, bytes: &[u8]) {
+    /// Sends the termination request, which repeats the beginning of the PDU at fault, and ends.
+    fn terminate(&mut self, target: &Target<'_>, fatal: Fatal) {
         target.say(format_args!("a connection is ended: {fatal:?}"));
         self.closing = Some(Closing::Protocol);
         // Answers to commands precede it, and may be partly sent.
-        pdu::termination(&mut self.output, fatal, &bytes[..bytes.len().min(pdu::IC)]);
+        pdu::termination(&mut self.output, fatal, self.framing.kept());
         self.end();
     }
 
     /// Sends what is queued, receives nothing more, and waits a moment for the host to close the connection: if the
     /// target closed it while bytes of the host are in flight, its last answers would be lost.
     pub fn end(&mut self) {
-        self.phase = Phase::Ending;
+        self.is_ending = true;
         self.deadline = Some(Instant::now() + BEFORE_CLOSE);
     }
 
@@ -402,7 +403,7 @@ impl Connection {
             }
         }
         self.output.leave_to(&mut target.buffers);
-        let is_over = self.phase == Phase::Ending && !target.owes(self.queue.connection);
+        let is_over = self.is_ending && !target.owes(self.queue.connection);
         if is_over && self.socket.shutdown(Shutdown::Write).is_err() {
             self.is_closed = true;
         }

@@ -31,6 +31,8 @@ pub struct Input {
     bytes: Vec<u8>,
     begin: usize,
     end: usize,
+    /// How many of them, from the first on, are of the PDU in hand.
+    in_hand: usize,
     has_room: bool,
 }
 
@@ -40,14 +42,31 @@ impl Input {
         &self.bytes[self.begin..self.end]
     }
 
-    /// Number of bytes taken.
-    pub fn taken(&mut self, count: usize) {
-        self.begin += count;
+    /// Those of the PDU in hand, as far as they were taken.
+    pub fn unit(&self) -> &[u8] {
+        &self.waiting()[..self.in_hand]
     }
 
-    /// All of them were taken.
+    /// Those that were not taken yet.
+    pub fn fresh(&self) -> &[u8] {
+        &self.waiting()[self.in_hand..]
+    }
+
+    /// Number of bytes taken of those that were not.
+    pub fn taken(&mut self, count: usize) {
+        self.in_hand += count;
+    }
+
+    /// The PDU in hand is done: its bytes are not needed any more.
+    pub fn drop_unit(&mut self) {
+        self.begin += self.in_hand;
+        self.in_hand = 0;
+    }
+
+    /// None of them is needed any more.
     pub fn clear(&mut self) {
         self.begin = self.end;
+        self.in_hand = 0;
     }
 
     /// Appends what `receive` returns, up to `most` bytes in all. `receive` returns how many bytes it has written to
@@ -107,9 +126,14 @@ mod tests {
                 waits.extend(bytes);
                 assert!(input.waiting() == waits);
                 let count = if turn % 3 == 0 { waits.len() / 2 } else { waits.len() };
-                input.taken(count);
-                waits.drain(..count);
+                let count = count.max(input.unit().len());
+                input.taken(count - input.unit().len());
                 input.leave(&mut rooms);
+                assert!(input.unit() == &waits[..count] && input.fresh() == &waits[count..]);
+                if turn % 2 == 0 {
+                    input.drop_unit();
+                    waits.drain(..count);
+                }
                 assert!(input.waiting() == waits);
             }
         }
@@ -123,6 +147,7 @@ mod tests {
         input.leave(&mut rooms);
         assert!(input.has_room && rooms.free.is_empty());
         input.taken(1);
+        input.drop_unit();
         input.leave(&mut rooms);
         assert!(!input.has_room && rooms.free.len() == 1 && input.waiting() == [7; FEW]);
         let count = input.fill(&mut rooms, FEW + 5, |room| Ok::<usize, ()>(room.len()));

@@ -1,17 +1,16 @@
 //! PDUs of NVMe/TCP: the library lays them out and writes their headers; digests are computed here.
 
-use crate::bytes::{first, first_mut, u32_at};
+use crate::bytes::{first_mut, u32_at};
 use crate::digest::crc32c;
 use crate::output::Output;
 use crate::window::MOST_DATA;
 pub use nvmesim::pdu::{Agreed, Fatal, HostData, Kind, Layout};
 
-/// The numbers of ICReq, with which a connection begins, and of CapsuleCmd.
-pub const IC_REQUEST: u8 = 0x00;
+/// The number of CapsuleCmd.
 pub const COMMAND_CAPSULE: u8 = 0x04;
 /// The sizes of headers: what all have, those of ICReq and ICResp, and those of all others that a controller sends.
 pub const COMMON: usize = 8;
-pub const IC: usize = 128;
+const IC: usize = 128;
 const HEADER: usize = 24;
 const DIGEST: usize = 4;
 
@@ -22,15 +21,8 @@ pub const MOST: usize = 255 + MOST_DATA + DIGEST;
 
 /// A PDU came out of its turn.
 pub const OUT_OF_SEQUENCE: Fatal = Fatal { status: 2, field: 0 };
-/// A header's digest is wrong.
-pub const WRONG_HEADER_DIGEST: Fatal = Fatal { status: 3, field: 0 };
 /// Data were sent that nobody asked for.
 pub const OUT_OF_RANGE: Fatal = Fatal { status: 4, field: 0 };
-
-/// The layout of a PDU of a host, of which at least eight bytes have come.
-pub fn layout_of(bytes: &[u8], agreed: Agreed) -> Result<Layout, Fatal> {
-    agreed.layout(first(bytes))
-}
 
 /// Whether the digest of the header is right, if there is one.
 pub fn has_right_header(layout: &Layout, unit: &[u8]) -> bool {

@@ -38,11 +38,12 @@ def digest_of(data: bytes) -> bytes:
 
 
 class Ended(Exception):
-    """The target ended the connection, with the Fatal Error Status of its termination request, or None without one."""
+    """The target ended the connection, with the Fatal Error Status of its termination request, or None without one, and
+    with the bytes that this repeats."""
 
-    def __init__(self, status: Optional[int]) -> None:
+    def __init__(self, status: Optional[int], repeated: bytes = b"") -> None:
         super().__init__(f"the target has ended the connection, status {status}")
-        self.status = status
+        self.status, self.repeated = status, repeated
 
 
 class Completion(NamedTuple):
@@ -100,7 +101,7 @@ class Connection:
                 unit = bytes(self.come[:length])
                 del self.come[:length]
                 if unit[0] == TERMINATION:
-                    raise Ended(int.from_bytes(unit[8:10], "little"))
+                    raise Ended(int.from_bytes(unit[8:10], "little"), unit[24:])
                 return unit[0], unit
             try:
                 came = self.socket.recv(1 << 18)

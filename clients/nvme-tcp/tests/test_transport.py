@@ -99,6 +99,9 @@ class Units(TargetTest):
                 self.wait_until_free()
 
     def ends(self, unit: bytes, digests: int = 0) -> int:
+        return self.ended(unit, digests).status
+
+    def ended(self, unit: bytes, digests: int = 0) -> Ended:
         host = Host(self.target.port, 0xa1, queues=1, digests=digests)
         host.queues[0].socket.sendall(unit)
         with self.assertRaises(Ended) as ended:
@@ -106,7 +109,16 @@ class Units(TargetTest):
                 host.queues[0].unit()
         host.close()
         self.wait_until_free()
-        return ended.exception.status
+        return ended.exception
+
+    def test_what_a_termination_repeats(self) -> None:
+        """The PDU at fault, up to 128 bytes of it; only the eight that all have if the fault is there. Bytes after it
+        are not looked at."""
+        flush = struct.pack("<BBBBI", CAPSULE, 0, 72, 0, 72) + entry_of(0x00, 1, 1, b"", 0, 0x5a)
+        short, long = (struct.pack("<BBBBIHHIII", HOST_DATA, 4, 24, 24, 24 + count, 1, 0, 0, count, 0) +
+                       bytes(range(count)) for count in (4, 256))
+        for sent, length in ((flush[:2] + b"\x47" + flush[3:], 8), (short, 28), (long, 128)):
+            self.assertEqual(self.ended(sent + flush * 3).repeated, sent[:length])
 
     def test_each_field_of_a_capsule(self) -> None:
         entry = entry_of(0x01, 1, 1, struct.pack("<QI", 0, 0), 512, 0x01)
