@@ -75,8 +75,8 @@ impl Target<'_> {
 
     /// Answers requests that wait for an event, as many as have one.
     pub fn tell_events(&mut self, index: usize) {
+        let admin = self.fabrics.connection(index as u16, 0);
         if let Some(association) = &mut self.associations[index] {
-            let admin = association.queues[0];
             while let (Some((cid, dw0)), Some(admin)) = (association.events.due(), admin) {
                 let answer = Answer { dw0, ..Answer::of(SUCCESS) };
                 self.effects.push_back(Effect::Answer(admin, request_entry(cid), answer));

@@ -1,36 +1,26 @@
 //! What Connect makes: queues of hosts, and the association of a host's queues with a controller.
 
+use crate::bytes::text_of;
 use crate::discovery::Discovery;
 use crate::events::Events;
 use crate::features::Features;
-use crate::nvme::QUEUES;
 use crate::proving::Proof;
+use nvmesim::fabrics::{Request, Session};
 use std::net::SocketAddr;
 use std::time::{Duration, Instant};
 
 /// The name of a connection, which is never used again.
 pub type ConnectionId = u64;
 
-/// What a queue belongs to.
-#[derive(Clone, Copy, Debug, PartialEq, Eq)]
-pub enum Session {
-    /// Nothing: it has not been connected.
-    None,
-    /// Nothing yet: its host has to prove who it is.
-    Unproved,
-    /// A queue of a controller, which is one of the target's by its place.
-    Controller { index: usize, qid: u16 },
-    /// The queue of a discovery controller.
-    Discovery(Discovery),
-}
-
 /// A queue at its host: a connection, and what Connect has said of it.
 pub struct HostQueue {
-    pub connection: ConnectionId,
+    /// What the connection is, which only the library changes.
+    pub session: Session,
     /// The addresses of the host and of the target.
     pub peer: SocketAddr,
     pub local: SocketAddr,
-    pub session: Session,
+    /// Its discovery controller, if it is the queue of one.
+    pub discovery: Discovery,
     /// How many entries it has, and how many of them were taken, modulo that.
     pub entries: u16,
     head: u16,
@@ -44,9 +34,13 @@ pub struct HostQueue {
 impl HostQueue {
     /// A connection that has sent nothing.
     pub fn new(connection: ConnectionId, peer: SocketAddr, local: SocketAddr) -> HostQueue {
-        let (session, entries, head) = (Session::None, 1, 0);
+        let (session, discovery, entries, head) = (Session::new(connection), Discovery::default(), 1, 0);
         let (has_flow_control, proof, is_over) = (true, None, false);
-        HostQueue { connection, peer, local, session, entries, head, has_flow_control, proof, is_over }
+        HostQueue { session, peer, local, discovery, entries, head, has_flow_control, proof, is_over }
+    }
+
+    pub fn connection(&self) -> ConnectionId {
+        self.session.connection()
     }
 
     /// Takes a command.
@@ -55,8 +49,7 @@ impl HostQueue {
     }
 
     /// What Connect has said.
-    pub fn connect(&mut self, session: Session, entries: u16, has_flow_control: bool) {
-        self.session = session;
+    pub fn connect(&mut self, entries: u16, has_flow_control: bool) {
         self.entries = entries;
         self.head = 1 % entries;
         self.has_flow_control = has_flow_control;
@@ -72,15 +65,13 @@ impl HostQueue {
     }
 }
 
-/// A host's queues at a controller.
+/// What a host has at a controller, besides its queues: the library knows their connections.
 pub struct Association {
     pub host_id: [u8; 16],
     pub host_name: Vec<u8>,
     /// The addresses of its admin queue: the host's, and the target's.
     pub peer: SocketAddr,
     pub local: SocketAddr,
-    /// The connection of each queue, that of the admin queue first.
-    pub queues: [Option<ConnectionId>; QUEUES],
     pub admin_entries: u16,
     /// Keep Alive Timeout in seconds; 0 is none.
     keep_alive_seconds: u32,
@@ -92,14 +83,11 @@ pub struct Association {
 impl Association {
     /// The association that an admin queue makes. Its Keep Alive Timer begins now.
     pub fn new(queue: &HostQueue, data: &ConnectData) -> Association {
-        let mut queues = [None; QUEUES];
-        queues[0] = Some(queue.connection);
         Association {
             host_id: data.host_id,
             host_name: data.host_name.clone(),
             peer: queue.peer,
             local: queue.local,
-            queues,
             admin_entries: data.entries,
             keep_alive_seconds: whole_seconds(data.keep_alive),
             heard: Instant::now(),
@@ -143,13 +131,19 @@ fn whole_seconds(milliseconds: u32) -> u32 {
 }
 
 /// What Connect has said.
-#[derive(Clone)]
 pub struct ConnectData {
     pub host_id: [u8; 16],
-    pub cntlid: u16,
     pub host_name: Vec<u8>,
     pub qid: u16,
     pub entries: u16,
     /// The Keep Alive Timeout in milliseconds.
     pub keep_alive: u32,
+}
+
+impl ConnectData {
+    /// What a request asks for, with a Keep Alive Timeout.
+    pub fn of(request: &Request, keep_alive: u32) -> ConnectData {
+        let (host_id, host_name) = (request.host_id.to_le_bytes(), text_of(&request.host_nqn).to_vec());
+        ConnectData { host_id, host_name, qid: request.qid, entries: request.entries, keep_alive }
+    }
 }

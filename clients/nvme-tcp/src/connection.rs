@@ -1,7 +1,7 @@
 //! A connection: bytes become PDUs, PDUs become commands, and their answers go back.
 
 use crate::answer::{Answer, Payload};
-use crate::association::{HostQueue, Session};
+use crate::association::HostQueue;
 use crate::authentication::Done;
 use crate::bytes::{first, put, u16_at};
 use crate::controller::Data;
@@ -20,6 +20,7 @@ use crate::status::{
 use crate::target::Target;
 use crate::transfers::{Part, Transfers};
 use nvmesim::connection::{Connection as Framing, Stage, Verdict};
+use nvmesim::fabrics::Live;
 use std::io::{self, Read, Write};
 use std::mem;
 use std::net::{Shutdown, TcpStream};
@@ -105,7 +106,7 @@ impl Connection {
 
     /// Whether its Connect has not succeeded yet.
     pub fn is_pending(&self) -> bool {
-        self.queue.session == Session::None
+        self.queue.session.last() == Live::NotConnected
     }
 
     pub fn is_late(&self, now: Instant) -> bool {
@@ -131,8 +132,8 @@ impl Connection {
             (Some(&pdu::COMMAND_CAPSULE), Some(opcode)) => *opcode,
             _ => FLUSH,
         };
-        match self.queue.session {
-            Session::Controller { index, qid } => qid != 0 && target.is_busy(index, opcode),
+        match self.queue.session.last() {
+            Live::Queue { index, qid } => qid != 0 && target.is_busy(index.into(), opcode),
             _ => false,
         }
     }
@@ -266,10 +267,10 @@ impl Connection {
     /// Why a command is not looked at, if it is not.
     fn refusal(&self, target: &Target<'_>, entry: &[u8; ENTRY], is_sound: bool) -> Option<Status> {
         let cid = u16_at(entry, 2);
-        let waits = match self.queue.session {
-            Session::None if !fabrics::is_connect(entry) => return Some(COMMAND_SEQUENCE),
-            Session::Unproved if !goes_before_proof(entry) => return Some(AUTHENTICATION_REQUIRED),
-            Session::Controller { index, qid: 0 } => target.waits(index, cid),
+        let waits = match self.queue.session.last() {
+            Live::NotConnected if !fabrics::is_connect(entry) => return Some(COMMAND_SEQUENCE),
+            Live::Authenticating(_) if !goes_before_proof(entry) => return Some(AUTHENTICATION_REQUIRED),
+            Live::Queue { index, qid: 0 } => target.waits(index.into(), cid),
             _ => false,
         };
         if !is_sound {
@@ -305,7 +306,7 @@ impl Connection {
     }
 
     fn carry_out(&mut self, target: &mut Target<'_>, entry: &[u8; ENTRY], data: Data<'_>) -> Outcome<()> {
-        let before = self.queue.session;
+        let before = self.queue.session.last();
         let answer = target.carry_out(&mut self.queue, entry, data)?;
         self.follow(target, before, answer.map(|answer| (*entry, answer)))
     }
@@ -315,18 +316,13 @@ impl Connection {
         if self.is_ending {
             return Ok(());
         }
-        let before = self.queue.session;
+        let before = self.queue.session.last();
         let answer = target.finish_work(&mut self.queue, done)?;
         self.follow(target, before, answer)
     }
 
     /// Answers a command, if it has an answer, and follows changes of the queue, which was this before.
-    fn follow(
-        &mut self,
-        target: &mut Target<'_>,
-        before: Session,
-        answer: Option<([u8; ENTRY], Answer)>,
-    ) -> Outcome<()> {
+    fn follow(&mut self, target: &mut Target<'_>, before: Live, answer: Option<([u8; ENTRY], Answer)>) -> Outcome<()> {
         self.set_deadline(before, Instant::now());
         if let Some((entry, answer)) = answer {
             self.answer(target, &entry, answer)?;
@@ -338,12 +334,12 @@ impl Connection {
     }
 
     /// Sets the deadline after a command on a queue that was this before. Nothing extends the time of a proof.
-    fn set_deadline(&mut self, before: Session, now: Instant) {
-        self.deadline = match self.queue.session {
-            Session::Unproved if before == Session::None => Some(now + BEFORE_PROOF),
-            Session::None | Session::Unproved => self.deadline,
-            Session::Discovery(_) => Some(now + DISCOVERY_IDLE),
-            Session::Controller { .. } => None,
+    fn set_deadline(&mut self, before: Live, now: Instant) {
+        self.deadline = match self.queue.session.last() {
+            Live::Authenticating(_) if before == Live::NotConnected => Some(now + BEFORE_PROOF),
+            Live::NotConnected | Live::Authenticating(_) | Live::Ended => self.deadline,
+            Live::Discovery => Some(now + DISCOVERY_IDLE),
+            Live::Queue { .. } => None,
         };
     }
 
@@ -403,7 +399,7 @@ impl Connection {
             }
         }
         self.output.leave_to(&mut target.buffers);
-        let is_over = self.is_ending && !target.owes(self.queue.connection);
+        let is_over = self.is_ending && !target.owes(self.queue.connection());
         if is_over && self.socket.shutdown(Shutdown::Write).is_err() {
             self.is_closed = true;
         }
@@ -418,6 +414,7 @@ pub fn is_passing(error: &io::Error) -> bool {
 #[cfg(test)]
 mod tests {
     use super::*;
+    use nvmesim::fabrics::{Fabrics, Judged};
     use std::net::TcpListener;
 
     #[test]
@@ -428,15 +425,18 @@ mod tests {
         let mut it = Connection::new(TcpStream::connect(address).unwrap(), queue);
         let start = Instant::now();
         let at = |seconds| start + Duration::from_secs(seconds);
-        it.queue.session = Session::Unproved;
-        it.set_deadline(Session::None, start);
+        let mut fabrics = Fabrics::new(&[0xa1], true).unwrap();
+        let (mut entry, mut data) = ([0; ENTRY], [0; 1024]);
+        (entry[44], data[0], data[16], data[17], data[512]) = (31, 0xa1, 0xff, 0xff, b'h');
+        assert!(fabrics.connect(&mut it.queue.session, &entry, &data, &Judged::default()).is_success());
+        it.set_deadline(Live::NotConnected, start);
         for seconds in [1, 60, 119] {
-            it.set_deadline(Session::Unproved, at(seconds));
+            it.set_deadline(Live::Authenticating(0), at(seconds));
             assert!(!it.is_late(at(seconds)));
         }
         assert!(!it.is_late(at(120)) && it.is_late(at(121)));
-        it.queue.session = Session::Controller { index: 0, qid: 0 };
-        it.set_deadline(Session::Unproved, at(119));
+        assert!(fabrics.authenticate(&mut it.queue.session, true, (0, 0)).is_success());
+        it.set_deadline(Live::Authenticating(0), at(119));
         assert!(!it.is_late(at(1_000_000)));
     }
 }

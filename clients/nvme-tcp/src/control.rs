@@ -214,11 +214,11 @@ impl Target<'_> {
     }
 
     /// The hosts that are there, as JSON.
-    fn hosts(&self) -> String {
+    fn hosts(&mut self) -> String {
         let mut text = String::new();
-        for (controller, association) in self.controllers.iter().zip(&self.associations) {
-            if let Some(it) = association {
-                let queues = it.queues[1..].iter().flatten().count();
+        for index in 0..self.controllers.len() {
+            let queues = self.io_queues(index);
+            if let Some(it) = &self.associations[index] {
                 let host: String = it.host_id.iter().map(|byte| format!("{byte:02x}")).collect();
                 let name =
                     String::from_utf8_lossy(&it.host_name).replace(|c: char| c == '"' || c == '\\' || c < ' ', "?");
@@ -227,7 +227,7 @@ impl Target<'_> {
                     text,
                     "{between}{{\"controller\": {}, \"host\": \"{host}\", \"name\": \"{name}\", \"address\": \"{}\", \
                      \"port\": {}, \"target\": \"{}\", \"io_queues\": {queues}}}",
-                    controller.cntlid,
+                    self.controllers[index].cntlid,
                     it.peer.ip(),
                     it.peer.port(),
                     it.local

@@ -1,11 +1,12 @@
 //! What the target has done since it started, by kinds of commands and by their statuses. All are plain integers of the
 //! loop's thread: to count a command takes no memory, unless its status is one that its opcode never had.
 
-use crate::association::{HostQueue, Session};
+use crate::association::HostQueue;
 use crate::health::Health;
 use crate::nvme::{ENTRY, FABRICS, RESERVATION_ACQUIRE, RESERVATION_REGISTER, RESERVATION_RELEASE};
 use crate::status::{Status, ABORTED_BY_PREEMPTION, RESERVATION_CONFLICT, SUCCESS};
 use crate::target::Target;
+use nvmesim::fabrics::Live;
 use std::collections::BTreeMap;
 use std::time::{Duration, SystemTime, UNIX_EPOCH};
 
@@ -22,10 +23,10 @@ pub enum Kind {
 
 impl Kind {
     /// The kind of a command on a queue, and its opcode, which is the type of a command of Fabrics.
-    fn of(session: Session, entry: &[u8; ENTRY]) -> (Kind, u8) {
-        match session {
+    fn of(queue: Live, entry: &[u8; ENTRY]) -> (Kind, u8) {
+        match queue {
             _ if entry[0] == FABRICS => (Kind::Fabrics, entry[4]),
-            Session::Controller { qid, .. } if qid != 0 => (Kind::Io, entry[0]),
+            Live::Queue { qid, .. } if qid != 0 => (Kind::Io, entry[0]),
             _ => (Kind::Admin, entry[0]),
         }
     }
@@ -116,17 +117,20 @@ impl Target<'_> {
         if status != SUCCESS {
             return self.count_failed(queue, entry, status);
         }
-        match (Kind::of(queue.session, entry), queue.session) {
-            ((Kind::Io, _), Session::Controller { index, .. }) => self.health[index].succeed(entry),
+        let live = queue.session.last();
+        match (Kind::of(live, entry), live) {
+            ((Kind::Io, _), Live::Queue { index, .. }) => self.health[usize::from(index)].succeed(entry),
             ((kind, opcode), _) => self.counters.succeeded[kind as usize][usize::from(opcode)] += 1,
         }
     }
 
     #[cold]
     fn count_failed(&mut self, queue: &HostQueue, entry: &[u8; ENTRY], status: Status) {
-        let (kind, opcode) = Kind::of(queue.session, entry);
+        let live = queue.session.last();
+        let (kind, opcode) = Kind::of(live, entry);
         *self.counters.failed.entry((kind, opcode, status)).or_default() += 1;
-        if let Session::Controller { index, qid } = queue.session {
+        if let Live::Queue { index, qid } = live {
+            let index = usize::from(index);
             self.health[index].fail(qid, entry, status);
             let is_reservation = qid != 0 && RESERVATION_COMMANDS.contains(&opcode);
             if matches!(status, RESERVATION_CONFLICT | ABORTED_BY_PREEMPTION) && !is_reservation {

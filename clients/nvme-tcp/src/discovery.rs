@@ -1,13 +1,13 @@
 //! Discovery controllers, by which hosts find the subsystem. None of them is a controller of the subsystem.
 
 use crate::answer::Answer;
-use crate::association::{ConnectionId, HostQueue};
+use crate::association::HostQueue;
 use crate::bytes::put;
-use crate::controller::{Data, CAP, CC, CSTS, ENABLE, VS};
+use crate::controller::{Data, CAP, CC, ENABLE, VS};
 use crate::identify;
 use crate::nvme::{ENTRY, GET_LOG_PAGE, IDENTIFY, KEEP_ALIVE, MOST_ENTRIES};
 use crate::pages;
-use crate::status::{Status, COMMAND_SEQUENCE, INVALID_FIELD, INVALID_LOG_PAGE, INVALID_OPCODE, SUCCESS};
+use crate::status::{COMMAND_SEQUENCE, INVALID_FIELD, INVALID_LOG_PAGE, INVALID_OPCODE, SUCCESS};
 use crate::target::Target;
 use std::net::SocketAddr;
 
@@ -21,49 +21,39 @@ const SHUTDOWN: u32 = 3 << 14;
 const SHUT_DOWN: u64 = 2 << 2;
 
 /// The state of a discovery controller: its identifier, and its CC.
-#[derive(Clone, Copy, Debug, PartialEq, Eq)]
+#[derive(Clone, Copy, Debug, Default)]
 pub struct Discovery {
     pub cntlid: u16,
-    configuration: u32,
+    pub configuration: u32,
 }
 
 impl Discovery {
-    /// The discovery controller of a connection. Its identifier is its own among those that are there.
-    pub fn of(connection: ConnectionId) -> Discovery {
-        const IDENTIFIERS: u64 = 0xffef;
-        Discovery { cntlid: (connection % IDENTIFIERS) as u16 + 1, configuration: 0 }
-    }
-
-    /// Sets a property: CC is the only one that a host sets.
-    pub fn set_property(&mut self, (offset, size): (u64, usize), value: u64) -> Status {
-        if (offset, size) != (CC, 4) {
-            return INVALID_FIELD;
-        }
-        self.configuration = value as u32;
-        SUCCESS
+    /// One that a host has connected to.
+    pub fn new(cntlid: u16) -> Discovery {
+        Discovery { cntlid, configuration: 0 }
     }
 
     fn is_ready(self) -> bool {
         self.configuration & ENABLE != 0
     }
 
-    /// The value of a property, if there is one of this size.
-    pub fn property(self, offset: u64, size: usize) -> Option<u64> {
-        match (offset, size) {
+    /// The value of a property: CAP, VS, CC or CSTS.
+    pub fn property(self, offset: u64) -> u64 {
+        match offset {
             // MQES, CQR, TO: ten seconds, CSS: the NVM command set.
-            (CAP, 8) => Some(u64::from(MOST_ENTRIES - 1) | 1 << 16 | 20 << 24 | 1 << 37),
-            (VS, 4) => Some(0x0002_0000),
-            (CC, 4) => Some(self.configuration.into()),
-            (CSTS, 4) if self.configuration & SHUTDOWN != 0 => Some(u64::from(self.is_ready()) | SHUT_DOWN),
-            (CSTS, 4) => Some(self.is_ready().into()),
-            _ => None,
+            CAP => u64::from(MOST_ENTRIES - 1) | 1 << 16 | 20 << 24 | 1 << 37,
+            VS => 0x0002_0000,
+            CC => self.configuration.into(),
+            _ if self.configuration & SHUTDOWN != 0 => u64::from(self.is_ready()) | SHUT_DOWN,
+            _ => self.is_ready().into(),
         }
     }
 }
 
 impl Target<'_> {
     /// Executes a command of a discovery controller.
-    pub fn discover(&mut self, queue: &HostQueue, discovery: Discovery, entry: &[u8; ENTRY], data: Data<'_>) -> Answer {
+    pub fn discover(&mut self, queue: &HostQueue, entry: &[u8; ENTRY], data: Data<'_>) -> Answer {
+        let discovery = queue.discovery;
         let length = match data {
             Data::FromController(length) => length,
             _ => 0,

@@ -1,272 +1,191 @@
-//! The commands of Fabrics: Connect, Disconnect, Property Get and Property Set.
+//! The commands of Fabrics. The library decides which connection becomes or stays a queue of which controller, and how a
+//! command that breaks a rule is answered. Here is what it asks about, and what the target does then.
 
 use crate::answer::Answer;
-use crate::association::{Association, ConnectData, HostQueue, Session};
-use crate::bytes::{text_of, u16_at, u32_at, u64_at};
-use crate::controller::{Data, CAP, CC, CSTS, ENABLE, VS};
+use crate::association::{Association, ConnectData, ConnectionId, HostQueue};
+use crate::bytes::{first, text_of, u16_at, u32_at, u64_at};
+use crate::controller::{Data, CAP, ENABLE};
 use crate::discovery::{self, Discovery};
 use crate::fault::Outcome;
-use crate::nvme::{AUTHENTICATION_SEND, CONNECT, DISCONNECT, ENTRY, FABRICS, MOST_ENTRIES, PROPERTY_GET, PROPERTY_SET};
-use crate::proving::PROOF_REQUIRED;
-use crate::status::{
-    AUTHENTICATION_REQUIRED, COMMAND_SEQUENCE, CONNECT_HOST, CONNECT_PARAMETERS, CONTROLLER_BUSY, INCOMPATIBLE_FORMAT,
-    INVALID_FIELD, INVALID_OPCODE, INVALID_QUEUE, INVALID_QUEUE_SIZE, INVALID_QUEUE_TYPE, SGL_LENGTH, SUCCESS,
-};
-use crate::target::Target;
+use crate::nvme::{AUTHENTICATION_RECEIVE, CONNECT, ENTRY, FABRICS, MOST_QUEUE};
+use crate::status::{Status, COMMAND_SEQUENCE, SUCCESS};
+use crate::target::{Effect, Target};
+use nvmesim::fabrics::{self, Command, Judged, Live, Place, Subsystem};
 
 /// The size of Connect's data.
 const CONNECT_DATA: usize = 1024;
-/// CNTLID of a host that takes any controller.
-const ANY_CONTROLLER: u16 = 0xffff;
 /// CATTR: the host does without flow control of the submission queue.
 const NO_FLOW_CONTROL: u8 = 1 << 2;
+
+/// The connections of the I/O queues of a controller.
+type IoConnections = [Option<ConnectionId>; MOST_QUEUE as usize];
 
 /// Whether an entry is a Connect, which is the first command of each queue.
 pub fn is_connect(entry: &[u8; ENTRY]) -> bool {
     entry[0] == FABRICS && entry[4] == CONNECT
 }
 
-/// A wrong parameter of Connect: its offset in the entry, or in the data.
-enum Wrong {
-    InEntry(u32),
-    InData(u32),
+/// The offset of a property, and the value that a Property Set gives it.
+fn property(entry: &[u8; ENTRY]) -> (u64, u32) {
+    (u32_at(entry, 44).into(), u64_at(entry, 48) as u32)
 }
 
-impl From<Wrong> for Answer {
-    fn from(wrong: Wrong) -> Answer {
-        let dw0 = match wrong {
-            Wrong::InEntry(offset) => offset,
-            Wrong::InData(offset) => offset | 1 << 16,
-        };
-        Answer { dw0, ..Answer::of(CONNECT_PARAMETERS) }
+impl From<fabrics::Answer> for Answer {
+    fn from(it: fabrics::Answer) -> Answer {
+        Answer { dw0: it.dw0, ..Answer::of(Status { sct: it.sct, sc: it.sc }) }
     }
-}
-
-/// Offsets of parameters: QID and SQSIZE in the entry; HOSTID, CNTLID, SUBNQN and HOSTNQN in the data.
-const QID: Wrong = Wrong::InEntry(42);
-const SQSIZE: Wrong = Wrong::InEntry(44);
-const HOSTID: Wrong = Wrong::InData(0);
-const CNTLID: Wrong = Wrong::InData(16);
-const SUBNQN: Wrong = Wrong::InData(256);
-const HOSTNQN: Wrong = Wrong::InData(512);
-
-/// A property: its offset and its size.
-fn property(entry: &[u8; ENTRY]) -> (u64, usize) {
-    (u32_at(entry, 44).into(), if entry[40] & 7 == 1 { 8 } else { 4 })
 }
 
 impl Target<'_> {
-    /// Executes a Fabrics command.
-    pub fn fabrics(&mut self, queue: &mut HostQueue, entry: &[u8; ENTRY], data: Data<'_>) -> Outcome<Answer> {
-        match (entry[4], queue.session) {
-            (CONNECT, Session::None) => {
-                let answer = self.connect(queue, entry, data)?;
-                self.log_connect(queue, data, &answer);
-                Ok(answer)
-            }
-            (CONNECT, _) | (_, Session::None) => Ok(Answer::of(COMMAND_SEQUENCE)),
-            (AUTHENTICATION_SEND, _) => self.take_message(queue, entry, data),
-            (DISCONNECT, Session::Unproved) => {
-                queue.is_over = true;
-                Ok(Answer::of(SUCCESS))
-            }
-            (_, Session::Unproved) => Ok(Answer::of(AUTHENTICATION_REQUIRED)),
-            (PROPERTY_GET, session) => self.get_property(session, entry),
-            (PROPERTY_SET, Session::Discovery(mut discovery)) => {
-                let status = discovery.set_property(property(entry), u64_at(entry, 48));
-                queue.session = Session::Discovery(discovery);
-                Ok(Answer::of(status))
-            }
-            (PROPERTY_SET, Session::Controller { index, qid: 0 }) => self.set_property(index, entry),
-            (DISCONNECT, Session::Controller { index, qid }) if qid != 0 => self.disconnect(queue, index, qid, entry),
-            (PROPERTY_SET | DISCONNECT, _) => Ok(Answer::of(INVALID_QUEUE_TYPE)),
-            _ => Ok(Answer::of(INVALID_OPCODE)),
+    /// Executes a Fabrics command. An Authentication Receive may have no answer yet.
+    pub fn execute_fabrics(
+        &mut self,
+        queue: &mut HostQueue,
+        entry: &[u8; ENTRY],
+        data: Data<'_>,
+    ) -> Outcome<Option<Answer>> {
+        if is_connect(entry) && queue.session.last() == Live::NotConnected {
+            let answer = self.connect(queue, entry, data)?;
+            self.log_connect(queue, data, &answer);
+            return Ok(Some(answer));
         }
+        let live = self.fabrics.live(&queue.session);
+        let io = if let Live::Queue { index, .. } = live { self.io_connections(index) } else { Default::default() };
+        let command = match self.fabrics.execute(&mut queue.session, entry) {
+            Ok(command) => command,
+            Err(answer) => return Ok(Some(answer.into())),
+        };
+        let (offset, value) = property(entry);
+        let answer = match (command, live) {
+            (Command::Authenticate, _) if entry[4] == AUTHENTICATION_RECEIVE => {
+                return self.give_message(queue, entry, data);
+            }
+            (Command::Authenticate, _) => self.take_message(queue, entry, data)?,
+            (Command::Disconnect, live) => self.disconnect(queue, live)?,
+            (Command::GetProperty, Live::Queue { index, .. }) => of_property(self.register(index.into(), offset)?),
+            (Command::GetProperty, _) => of_property(queue.discovery.property(offset)),
+            (Command::SetProperty, Live::Queue { index, .. }) => self.configure(index.into(), value, io)?,
+            (Command::SetProperty, _) => {
+                queue.discovery.configuration = value;
+                Answer::of(SUCCESS)
+            }
+        };
+        Ok(Some(answer))
     }
 
     fn connect(&mut self, queue: &mut HostQueue, entry: &[u8; ENTRY], data: Data<'_>) -> Outcome<Answer> {
-        if u16_at(entry, 40) != 0 {
-            return Ok(Answer::of(INCOMPATIBLE_FORMAT));
-        }
-        let bytes = match data {
-            Data::ToController(bytes) if bytes.len() == CONNECT_DATA => bytes,
-            _ => return Ok(Answer::of(SGL_LENGTH)),
+        let whole = match data {
+            Data::ToController(bytes) => bytes.try_into().ok(),
+            _ => None,
         };
-        let mut host_id = [0; 16];
-        host_id.copy_from_slice(&bytes[..16]);
-        let (subsystem, host_name) = (text_of(&bytes[256..512]), text_of(&bytes[512..768]).to_vec());
-        if host_name.is_empty() || host_name.len() == 256 {
-            return Ok(HOSTNQN.into());
-        }
-        let (qid, entries) = (u16_at(entry, 42), u16_at(entry, 44).saturating_add(1));
-        if !(2..=MOST_ENTRIES).contains(&entries) {
-            return Ok(SQSIZE.into());
-        }
-        self.say(format_args!("connect: queue {qid} of {entries}, host {:032x}", u128::from_be_bytes(host_id)));
-        let (cntlid, keep_alive) = (u16_at(bytes, 16), u32_at(entry, 48));
-        let data = ConnectData { host_id, cntlid, host_name, qid, entries, keep_alive };
-        let place = match self.place(queue, subsystem, &data) {
-            Ok(place) => place,
-            Err(answer) => return Ok(answer),
+        let bytes: &[u8; CONNECT_DATA] = whole.unwrap_or(&[0; CONNECT_DATA]);
+        let mut judged = self.judged(queue, bytes, whole.is_some());
+        let (request, place) = match self.fabrics.admitted(&queue.session, entry, bytes, &judged) {
+            Ok(admitted) => admitted,
+            Err(answer) => return Ok(answer.into()),
         };
-        let mut dw0 = self.cntlid(place).into();
-        let session = if let Some(proof) = self.proof_of(&data, place) {
-            dw0 |= PROOF_REQUIRED;
-            queue.proof = Some(Box::new(proof));
-            Session::Unproved
-        } else if let Err(answer) = self.take_place(queue, &data, place)? {
-            return Ok(answer);
+        let data = ConnectData::of(&request, u32_at(entry, 48));
+        let (qid, entries, host) = (data.qid, data.entries, u128::from_be_bytes(data.host_id));
+        self.say(format_args!("connect: queue {qid} of {entries}, host {host:032x}"));
+        if let (Place::Controller(index), false) = (place, self.settings.admission.has_keys) {
+            judged.created = self.make_queues(index.into(), &data)?;
+        }
+        let answer = self.fabrics.connect(&mut queue.session, entry, bytes, &judged);
+        if answer.is_success() {
+            queue.connect(entries, entry[46] & NO_FLOW_CONTROL == 0);
+            match queue.session.last() {
+                Live::Discovery => queue.discovery = Discovery::new(answer.dw0 as u16),
+                Live::Authenticating(index) => queue.proof = self.proof_of(data, index.into()).map(Box::new),
+                _ => self.begin_association(queue, &data),
+            }
+        }
+        Ok(answer.into())
+    }
+
+    /// What the library asks about a Connect.
+    fn judged(&self, queue: &HostQueue, bytes: &[u8; CONNECT_DATA], is_whole: bool) -> Judged {
+        let (host_id, host_name) = (first(bytes), text_of(&bytes[512..768]));
+        let subsystem = match text_of(&bytes[256..512]) {
+            name if name == discovery::NAME.as_bytes() => Subsystem::Discovery,
+            name if name == self.settings.name.as_bytes() => Subsystem::Nvm,
+            _ => Subsystem::Other,
+        };
+        // CNTLID of an I/O queue is that of its controller.
+        let controller = self.controllers.get(usize::from(u16_at(bytes, 16)).wrapping_sub(1));
+        Judged {
+            subsystem,
+            is_whole,
+            is_known: self.knows(host_id, host_name),
+            is_allowed: self.settings.admission.allows(host_id, queue.peer.ip()),
+            is_enabled: controller.map_or(false, |it| it.has_queue(0)),
+            created: (0, 0),
+            authenticating: self.authenticating(),
+        }
+    }
+
+    /// Makes the queues of a Connect that the library admits: an Admin Queue has a controller that was reset, and I/O
+    /// queues are made by the commands that make queues. Returns the status of these.
+    pub fn make_queues(&mut self, index: usize, data: &ConnectData) -> Outcome<(u8, u8)> {
+        let controller = &mut self.controllers[index];
+        let Status { sct, sc } = if data.qid == 0 {
+            controller.reset(&mut self.machine)?;
+            SUCCESS
         } else {
-            place
+            controller.create_queues(&mut self.machine, data.qid, data.entries)?
         };
-        queue.connect(session, entries, entry[46] & NO_FLOW_CONTROL == 0);
-        Ok(Answer { dw0, ..Answer::of(SUCCESS) })
+        Ok((sct, sc))
     }
 
-    /// What a Connect makes its queue be of. Nothing is changed yet.
-    fn place(&self, queue: &HostQueue, subsystem: &[u8], data: &ConnectData) -> Result<Session, Answer> {
-        let is_discovery = subsystem == discovery::NAME.as_bytes();
-        if !is_discovery && subsystem != self.settings.name.as_bytes() {
-            return Err(SUBNQN.into());
-        }
-        if !self.knows(data) || !is_discovery && !self.settings.admission.allows(&data.host_id, queue.peer.ip()) {
-            return Err(Answer::of(CONNECT_HOST));
-        }
-        match data.qid {
-            0 if is_discovery => Ok(Session::Discovery(Discovery::of(queue.connection))),
-            _ if is_discovery => Err(QID.into()),
-            0 => self.free_controller(data).map(|index| Session::Controller { index, qid: 0 }),
-            qid => self.check_io(data).map(|index| Session::Controller { index, qid }),
+    /// A connection has become a queue: with an Admin Queue an association begins.
+    pub fn begin_association(&mut self, queue: &HostQueue, data: &ConnectData) {
+        if let Live::Queue { index, qid: 0 } = queue.session.last() {
+            self.associations[usize::from(index)] = Some(Association::new(queue, data));
         }
     }
 
-    fn cntlid(&self, place: Session) -> u16 {
-        match place {
-            Session::Controller { index, .. } => self.controllers[index].cntlid,
-            Session::Discovery(discovery) => discovery.cntlid,
-            Session::None | Session::Unproved => 0,
-        }
+    /// The connections of the I/O queues of a controller.
+    pub fn io_connections(&mut self, index: u16) -> IoConnections {
+        [1, 2, 3, 4].map(|qid| self.fabrics.connection(index, qid))
     }
 
-    /// Sets a queue up as its Connect requests, unless that is no longer possible.
-    pub fn take_place(&mut self, queue: &HostQueue, data: &ConnectData, place: Session) -> Outcome<Result<(), Answer>> {
-        match place {
-            Session::Controller { index, qid: 0 } if self.associations[index].is_some() => {
-                return Ok(Err(Answer::of(CONTROLLER_BUSY)));
-            }
-            Session::Controller { index, qid: 0 } => {
-                self.controllers[index].reset(&mut self.machine)?;
-                self.associations[index] = Some(Association::new(queue, data));
-            }
-            Session::Controller { .. } => return self.make_queues(queue, data),
-            Session::None | Session::Unproved | Session::Discovery(_) => (),
-        }
-        Ok(Ok(()))
+    /// How many I/O queues of a controller are connected.
+    pub fn io_queues(&mut self, index: usize) -> usize {
+        self.io_connections(index as u16).into_iter().flatten().count()
     }
 
-    /// The first free controller of the host; last come those that other hosts are authenticating for.
-    fn free_controller(&self, data: &ConnectData) -> Result<usize, Answer> {
-        let host = u128::from_le_bytes(data.host_id);
-        if self.controllers.iter().all(|it| it.host != host) {
-            return Err(Answer::of(CONNECT_HOST));
-        }
-        let is_wanted = |cntlid| data.cntlid == ANY_CONTROLLER || data.cntlid == cntlid;
-        if !self.controllers.iter().any(|it| it.host == host && is_wanted(it.cntlid)) {
-            return Err(CNTLID.into());
-        }
-        let is_free = |index: &usize| {
-            let it = &self.controllers[*index];
-            it.host == host && is_wanted(it.cntlid) && self.associations[*index].is_none()
-        };
-        let free = (0..self.controllers.len()).filter(is_free).min_by_key(|index| self.proofs_for(*index));
-        free.ok_or_else(|| Answer::of(CONTROLLER_BUSY))
-    }
-
-    /// The controller of a pair of I/O queues that a host may have.
-    fn check_io(&self, data: &ConnectData) -> Result<usize, Answer> {
-        let index = usize::from(data.cntlid).wrapping_sub(1);
-        let association = match self.associations.get(index) {
-            Some(Some(association)) => association,
-            _ => return Err(CNTLID.into()),
-        };
-        if association.host_id != data.host_id {
-            return Err(HOSTID.into());
-        }
-        if association.host_name != data.host_name {
-            return Err(HOSTNQN.into());
-        }
-        let is_there = matches!(association.queues.get(usize::from(data.qid)), Some(Some(_)));
-        if is_there || !self.controllers[index].has_queue(0) {
-            return Err(Answer::of(COMMAND_SEQUENCE));
-        }
-        Ok(index)
-    }
-
-    /// A pair of I/O queues is made by the commands that make queues, and their status is that of Connect.
-    fn make_queues(&mut self, queue: &HostQueue, data: &ConnectData) -> Outcome<Result<(), Answer>> {
-        let index = match self.check_io(data) {
-            Ok(index) => index,
-            Err(answer) => return Ok(Err(answer)),
-        };
-        match self.controllers[index].create_queues(&mut self.machine, data.qid, data.entries)? {
-            SUCCESS => (),
-            INVALID_QUEUE => return Ok(Err(QID.into())),
-            INVALID_QUEUE_SIZE => return Ok(Err(SQSIZE.into())),
-            status => return Ok(Err(Answer::of(status))),
-        }
-        if let Some(association) = &mut self.associations[index] {
-            association.queues[usize::from(data.qid)] = Some(queue.connection);
-        }
-        Ok(Ok(()))
-    }
-
-    fn disconnect(&mut self, queue: &mut HostQueue, index: usize, qid: u16, entry: &[u8; ENTRY]) -> Outcome<Answer> {
-        if u16_at(entry, 40) != 0 {
-            return Ok(Answer::of(INCOMPATIBLE_FORMAT));
-        }
-        self.end_queue(index, qid)?;
+    fn disconnect(&mut self, queue: &mut HostQueue, live: Live) -> Outcome<Answer> {
         queue.is_over = true;
+        if let Live::Queue { index, qid } = live {
+            self.end_queue(index.into(), qid)?;
+        }
         Ok(Answer::of(SUCCESS))
     }
 
-    fn get_property(&mut self, session: Session, entry: &[u8; ENTRY]) -> Outcome<Answer> {
-        let (offset, size) = property(entry);
-        let value = match session {
-            Session::Discovery(discovery) => discovery.property(offset, size),
-            Session::Controller { index, qid: 0 } => self.register(index, offset, size)?,
-            _ => return Ok(Answer::of(INVALID_QUEUE_TYPE)),
-        };
-        Ok(match value {
-            Some(value) => Answer { dw0: value as u32, dw1: (value >> 32) as u32, ..Answer::of(SUCCESS) },
-            None => Answer::of(INVALID_FIELD),
-        })
-    }
-
     /// A register that is a property.
-    fn register(&mut self, index: usize, offset: u64, size: usize) -> Outcome<Option<u64>> {
+    fn register(&mut self, index: usize, offset: u64) -> Outcome<u64> {
         let cntlid = self.controllers[index].cntlid;
-        Ok(match (offset, size) {
-            (VS | CC | CSTS, 4) => Some(self.machine.read32(cntlid, offset)?.into()),
-            (CAP, 8) => {
-                let (low, high) = (self.machine.read32(cntlid, CAP)?, self.machine.read32(cntlid, CAP + 4)?);
-                Some(u64::from(low) | u64::from(high) << 32)
-            }
-            _ => None,
-        })
+        let low = u64::from(self.machine.read32(cntlid, offset)?);
+        let high = if offset == CAP { self.machine.read32(cntlid, CAP + 4)? } else { 0 };
+        Ok(low | u64::from(high) << 32)
     }
 
-    /// CC is the only property that a host sets. The queues of a controller end when it is reset.
-    fn set_property(&mut self, index: usize, entry: &[u8; ENTRY]) -> Outcome<Answer> {
-        let value = u64_at(entry, 48) as u32;
+    /// Property Set of CC. The queues of a controller end when it is reset.
+    fn configure(&mut self, index: usize, value: u32, io: IoConnections) -> Outcome<Answer> {
         let entries = match &self.associations[index] {
-            Some(association) if property(entry) == (CC, 4) => association.admin_entries,
-            _ => return Ok(Answer::of(INVALID_FIELD)),
+            Some(association) => association.admin_entries,
+            None => return Ok(Answer::of(COMMAND_SEQUENCE)),
         };
         self.say(format_args!("controller {}: CC {value:#x}", index + 1));
         if value & ENABLE == 0 {
-            self.close_io_queues(index);
+            self.forget_commands(index);
+            self.effects.extend(io.into_iter().flatten().map(Effect::Close));
         }
         self.controllers[index].configure(&mut self.machine, value, entries)?;
         Ok(Answer::of(SUCCESS))
     }
+}
+
+/// The answer to Property Get.
+fn of_property(value: u64) -> Answer {
+    Answer { dw0: value as u32, dw1: (value >> 32) as u32, ..Answer::of(SUCCESS) }
 }

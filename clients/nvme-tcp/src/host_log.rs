@@ -1,7 +1,7 @@
 //! Log lines about hosts: they connect, are refused, leave, and are fenced.
 
 use crate::answer::Answer;
-use crate::association::{Association, HostQueue, Session};
+use crate::association::{Association, HostQueue};
 use crate::bytes::u32_at;
 use crate::controller::Data;
 use crate::counters::Closing;
@@ -10,6 +10,7 @@ use crate::names::command_name;
 use crate::nvme::ENTRY;
 use crate::status::{Status, CONNECT_HOST, CONNECT_PARAMETERS, CONTROLLER_BUSY, RESERVATION_CONFLICT, SUCCESS};
 use crate::target::{uuid, Target};
+use nvmesim::fabrics::Live;
 use std::fmt::Display;
 use std::net::SocketAddr;
 
@@ -45,8 +46,8 @@ impl Target<'_> {
             let reason = self.refusal(host, answer);
             return self.log_refused(queue, &name, answer.status, reason);
         }
-        match queue.session {
-            Session::Discovery(_) => {
+        match queue.session.last() {
+            Live::Discovery => {
                 let fields: [(&'static str, &dyn Display); 2] = [("host", &name), ("address", &queue.peer)];
                 self.log.put(Topic::Host, "discovery", &fields);
             }
@@ -56,8 +57,8 @@ impl Target<'_> {
 
     /// Logs that a host has a controller, if the queue is its admin queue.
     pub fn log_connected(&mut self, queue: &HostQueue) {
-        let index = match queue.session {
-            Session::Controller { index, qid: 0 } => index,
+        let index = match queue.session.last() {
+            Live::Queue { index, qid: 0 } => usize::from(index),
             _ => return,
         };
         let (host, controller) = (uuid(self.controllers[index].host), self.controllers[index].cntlid);
@@ -101,7 +102,7 @@ impl Target<'_> {
     /// Logs that a connection without an association is closed, unless its host has closed it.
     pub fn log_closed(&mut self, queue: &HostQueue, closing: Closing) {
         let is_said = matches!(closing, Closing::Protocol | Closing::Late | Closing::Crowded);
-        if is_said && !matches!(queue.session, Session::Controller { qid: 0, .. }) {
+        if is_said && !matches!(queue.session.last(), Live::Queue { qid: 0, .. }) {
             self.log.put(Topic::Closed, "closed", &[("address", &queue.peer), ("reason", &closing.reason())]);
         }
     }
@@ -109,7 +110,7 @@ impl Target<'_> {
     /// Logs that a reservation, or its preemption, has refused a command of a host.
     pub fn log_fenced(&mut self, queue: &HostQueue, index: usize, entry: &[u8; ENTRY], status: Status) {
         let Target { controllers, log, .. } = self;
-        let qid = if let Session::Controller { qid, .. } = queue.session { qid } else { 0 };
+        let qid = if let Live::Queue { qid, .. } = queue.session.last() { qid } else { 0 };
         let (host, controller) = (uuid(controllers[index].host), controllers[index].cntlid);
         let (command, namespace) = (command_name(qid, entry[0]), u32_at(entry, 4));
         let reason =

@@ -90,6 +90,7 @@ use locking::Lock;
 use log::{warn, Form};
 use machine::Machine;
 use nvme::BLOCK;
+use nvmesim::fabrics::Fabrics;
 use nvmesim::Subsystem;
 use options::Options;
 use proving::Prover;
@@ -301,7 +302,9 @@ fn serve_over(options: Options, configuration: Configuration, source: Source, ke
     let run = keep_run(&options, &configuration)?;
     let storage = disk.map(|it| start_disk(it, &options, run.is_some())).transpose()?;
     let machine = Machine::new(subsystem, run);
-    let mut target = Target::new(machine, configuration, options.settings, identity, storage);
+    let fabrics = Fabrics::new(&configuration.hosts(), options.settings.admission.has_keys);
+    let fabrics = fabrics.map_err(end(REFUSED, options.config.display()))?;
+    let mut target = Target::new(machine, fabrics, configuration, options.settings, identity, storage);
     begin(&mut target, journal)?;
     target.begin_counting();
     system::note_signals();

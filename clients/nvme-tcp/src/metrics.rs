@@ -38,7 +38,7 @@ impl Metrics {
 
 impl Target<'_> {
     /// The answer to `metrics`.
-    pub fn metrics(&self) -> String {
+    pub fn metrics(&mut self) -> String {
         let mut metrics = Metrics(String::new());
         self.put_service(&mut metrics);
         self.put_commands(&mut metrics);
@@ -95,13 +95,11 @@ impl Target<'_> {
     }
 
     /// What each controller has done, and has now.
-    fn put_controllers(&self, metrics: &mut Metrics) {
+    fn put_controllers(&mut self, metrics: &mut Metrics) {
         let (gauge, counter) = ("gauge", "counter");
+        let count = self.controllers.len();
+        let queues: Vec<u64> = (0..count).map(|it| self.io_queues(it) as u64).collect();
         let health = |index: usize| &self.health[index];
-        let queues = |index: usize| {
-            let association = self.associations[index].as_ref();
-            association.map_or(0, |it| it.queues[1..].iter().flatten().count() as u64)
-        };
         type Read<'r> = &'r dyn Fn(usize) -> u64;
         let each: [(&str, &str, &str, Read<'_>); 9] = [
             ("nvmetcp_read_bytes_total", counter, "Bytes of blocks that were read or compared.", &|it| {
@@ -122,7 +120,7 @@ impl Target<'_> {
             ("nvmetcp_controller_in_use", gauge, "Whether a host has the controller.", &|it| {
                 self.associations[it].is_some().into()
             }),
-            ("nvmetcp_io_queues", gauge, "I/O queues that are connected.", &queues),
+            ("nvmetcp_io_queues", gauge, "I/O queues that are connected.", &|it| queues[it]),
             ("nvmetcp_held_commands", gauge, "Commands that are held by ctl.", &|it| self.held[it].len() as u64),
             ("nvmetcp_ana_state", gauge, "Asymmetric access: 1 optimized, 2 non-optimized, 3 inaccessible.", &|it| {
                 self.access[it] as u64

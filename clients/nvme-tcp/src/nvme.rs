@@ -71,9 +71,7 @@ pub const RESERVATION_RELEASE: u8 = 0x15;
 
 /// The opcode of all Fabrics commands, and the values of the Fabrics Command Type, the fifth byte of their entries.
 pub const FABRICS: u8 = 0x7f;
-pub const PROPERTY_SET: u8 = 0x00;
 pub const CONNECT: u8 = 0x01;
-pub const PROPERTY_GET: u8 = 0x04;
 pub const AUTHENTICATION_SEND: u8 = 0x05;
 pub const AUTHENTICATION_RECEIVE: u8 = 0x06;
 pub const DISCONNECT: u8 = 0x08;

@@ -2,7 +2,7 @@
 //! associations. Connect reserves nothing: the first host that proves itself gets the controller or the queue.
 
 use crate::answer::Answer;
-use crate::association::{ConnectData, HostQueue, Session};
+use crate::association::{ConnectData, HostQueue};
 use crate::authentication::{Authentication, Choice, Done, Due, Peers, Sent, Taken, Work};
 use crate::bytes::{u16_at, u32_at};
 use crate::controller::Data;
@@ -16,14 +16,13 @@ use crate::status::{
 };
 use crate::target::{uuid, Target};
 use crate::worker::{Finished, Worker};
+use nvmesim::fabrics::Live;
 use std::io;
 use std::os::unix::io::AsRawFd;
 use std::path::{Path, PathBuf};
 use std::rc::Rc;
 use std::sync::Arc;
 
-/// AUTHREQ.ATR in the completion of Connect: the host must authenticate itself. AUTHREQ.ASCR, a secure channel, is 0.
-pub const PROOF_REQUIRED: u32 = 1 << 17;
 /// SPSP0, SPSP1 and SECP of both commands: the security protocol of NVMe's own authentication.
 const PROTOCOL: [u8; 3] = [0x01, 0x01, 0xe9];
 
@@ -36,15 +35,15 @@ pub struct Prover {
     subsystem: Arc<str>,
     worker: Worker,
     /// For each controller one count for each proof in progress, and one more.
-    wanted: Vec<Rc<()>>,
+    counts: Vec<Rc<()>>,
 }
 
 impl Prover {
     /// Starts the thread. `path` is the file of keys, which may be read again.
     pub fn start(path: &Path, keys: Keys, choice: Choice, subsystem: &str, controllers: usize) -> io::Result<Prover> {
-        let wanted = (0..controllers).map(|_| Rc::new(())).collect();
+        let counts = (0..controllers).map(|_| Rc::new(())).collect();
         let (path, subsystem) = (path.to_owned(), subsystem.into());
-        Ok(Prover { path, keys, choice, subsystem, worker: Worker::start()?, wanted })
+        Ok(Prover { path, keys, choice, subsystem, worker: Worker::start()?, counts })
     }
 
     /// A descriptor that is readable when work is finished.
@@ -53,20 +52,14 @@ impl Prover {
     }
 }
 
-/// What a queue becomes after the proof.
-struct Wanted {
-    place: Session,
-    /// Counts this proof for the controller.
-    _count: Option<Rc<()>>,
-}
-
 /// The authentication of a queue's host.
 pub struct Proof {
     authentication: Authentication,
     data: ConnectData,
     /// The host's line of the keys at Negotiate.
     host: Option<Arc<Host>>,
-    wanted: Option<Wanted>,
+    /// Counts this proof for the controller of an admin queue, until it succeeds.
+    count: Option<Rc<()>>,
     /// Command identifier and length of an Authentication Receive that waits for work.
     waiting: Option<(u16, usize)>,
     /// Dropped with the connection.
@@ -87,29 +80,28 @@ pub fn goes_before_proof(entry: &[u8; ENTRY]) -> bool {
 
 impl Target<'_> {
     /// Whether the keys have a line for a host, or there are no keys.
-    pub fn knows(&self, data: &ConnectData) -> bool {
-        self.prover.as_ref().map_or(true, |it| it.keys.host(&data.host_id, &data.host_name).is_some())
+    pub fn knows(&self, host_id: &[u8; 16], host_name: &[u8]) -> bool {
+        self.prover.as_ref().map_or(true, |it| it.keys.host(host_id, host_name).is_some())
     }
 
-    /// Number of proofs in progress for a controller.
-    pub fn proofs_for(&self, index: usize) -> usize {
-        self.prover.as_ref().map_or(0, |it| Rc::strong_count(&it.wanted[index]) - 1)
+    /// Number of proofs in progress for each controller.
+    pub fn authenticating(&self) -> [u32; 16] {
+        let mut numbers = [0; 16];
+        for (number, it) in numbers.iter_mut().zip(self.prover.iter().flat_map(|it| &it.counts)) {
+            *number = Rc::strong_count(it) as u32 - 1;
+        }
+        numbers
     }
 
-    /// The authentication that a queue needs, if there are keys. Discovery needs none: nvme-cli 2.3 gives the kernel no
-    /// secret for it.
-    pub fn proof_of(&self, data: &ConnectData, place: Session) -> Option<Proof> {
+    /// The authentication that a queue of a controller needs, if there are keys. Discovery needs none: nvme-cli 2.3 gives
+    /// the kernel no secret for it.
+    pub fn proof_of(&self, data: ConnectData, index: usize) -> Option<Proof> {
         let prover = self.prover.as_ref()?;
-        let count = match place {
-            Session::Controller { index, qid: 0 } => Some(prover.wanted[index].clone()),
-            Session::Controller { .. } => None,
-            Session::None | Session::Unproved | Session::Discovery(_) => return None,
-        };
         Some(Proof {
             authentication: Authentication::new(prover.choice),
-            data: data.clone(),
+            count: (data.qid == 0).then(|| prover.counts[index].clone()),
+            data,
             host: None,
-            wanted: Some(Wanted { place, _count: count }),
             waiting: None,
             life: Arc::new(()),
         })
@@ -152,7 +144,7 @@ impl Target<'_> {
                 if matches!(work, Work::Draw(_)) {
                     proof.host = host.cloned();
                 }
-                prover.worker.begin(queue.connection, &proof.life, work);
+                prover.worker.begin(queue.connection(), &proof.life, work);
             }
             Taken::Proved => return self.admit(queue, proof),
             Taken::Ended(explanation) => {
@@ -247,21 +239,23 @@ impl Target<'_> {
             return Ok(Answer::of(CONNECT_HOST));
         }
         self.say(format_args!("{} has proved who it is", who(proof)));
-        let place = match proof.wanted.take() {
-            Some(wanted) => wanted.place,
-            None => return Ok(Answer::of(SUCCESS)),
+        let (index, request) = match (self.fabrics.live(&queue.session), queue.session.request()) {
+            (Live::Authenticating(index), Some(request)) => (index, request),
+            _ => return Ok(Answer::of(SUCCESS)),
         };
-        Ok(match self.take_place(queue, &proof.data, place)? {
-            Ok(()) => {
-                queue.session = place;
-                self.log_connected(queue);
-                Answer::of(SUCCESS)
-            }
-            Err(answer) => {
-                queue.is_over = true;
-                answer
-            }
-        })
+        proof.count = None;
+        let is_enabled = self.controllers[usize::from(index)].has_queue(0);
+        let mut created = (0, 0);
+        if self.fabrics.admits(index, &request, is_enabled).is_success() {
+            created = self.make_queues(index.into(), &proof.data)?;
+        }
+        let answer = self.fabrics.authenticate(&mut queue.session, is_enabled, created);
+        if answer.is_success() {
+            self.begin_association(queue, &proof.data);
+            self.log_connected(queue);
+        }
+        queue.is_over |= !answer.is_success();
+        Ok(answer.into())
     }
 
     /// Whether the secret of a proof is still that of its host. The keys may have been read again.
@@ -278,16 +272,7 @@ impl Target<'_> {
     /// stays open until Failure1 is sent.
     fn end_unproved(&mut self, queue: &mut HostQueue) -> Outcome<()> {
         queue.is_over = true;
-        match queue.session {
-            Session::Controller { index, qid } if self.is_of(queue.connection, index, qid) => {
-                if qid != 0 {
-                    return self.end_queue(index, qid);
-                }
-                self.associations[index].iter_mut().for_each(|it| it.queues[0] = None);
-                self.end_association(index, "the host has not proved who it is")
-            }
-            _ => Ok(()),
-        }
+        self.end_session(queue, "the host has not proved who it is")
     }
 
     /// The results of work that is finished.

@@ -1,7 +1,7 @@
 //! The loop of the one thread: it waits until a connection can be served, and serves it.
 
 use crate::answer::Answer;
-use crate::association::{HostQueue, Session};
+use crate::association::HostQueue;
 use crate::connection::{Connection, ROOM};
 use crate::control::Console;
 use crate::counters::Closing;
@@ -15,6 +15,7 @@ use crate::storage::Storage;
 use crate::system::{end_when_lost, is_asked_to_end, is_asked_to_read_again, Interest, Poll, Ready};
 use crate::target::{Effect, Handed, Target};
 use crate::worker::Finished;
+use nvmesim::fabrics::Live;
 use std::cmp::Reverse;
 use std::collections::{HashMap, VecDeque};
 use std::io;
@@ -243,7 +244,7 @@ impl<'a> Server<'a> {
     fn make_room(&mut self) -> Outcome<()> {
         let mut guests: HashMap<IpAddr, Vec<u64>> = HashMap::new();
         for (name, Served { connection, .. }) in &self.connections {
-            if !matches!(connection.queue.session, Session::Controller { .. }) {
+            if !matches!(connection.queue.session.last(), Live::Queue { .. }) {
                 guests.entry(connection.queue.peer.ip()).or_default().push(*name);
             }
         }
@@ -357,9 +358,9 @@ impl<'a> Server<'a> {
 
     /// Closes a connection, for this reason unless it ends for another: its queue ends.
     fn close(&mut self, name: u64, closing: Closing) -> Outcome<()> {
-        if let Some(Served { connection, .. }) = self.connections.remove(&name) {
+        if let Some(Served { mut connection, .. }) = self.connections.remove(&name) {
             let _ = self.poll.remove(&connection.socket);
-            self.target.lose(&connection.queue, connection.closing.unwrap_or(closing))?;
+            self.target.lose(&mut connection.queue, connection.closing.unwrap_or(closing))?;
         }
         Ok(())
     }

@@ -3,7 +3,7 @@
 use crate::access::Access;
 use crate::admission::Admission;
 use crate::answer::{Answer, Payload};
-use crate::association::{Association, ConnectionId, HostQueue, Session};
+use crate::association::{Association, ConnectionId, HostQueue};
 use crate::configuration::Configuration;
 use crate::controller::{Completed, Controller, Data, CSTS};
 use crate::counters::{Closing, Counters};
@@ -15,13 +15,14 @@ use crate::journal::Journal;
 use crate::log::{Form, Log};
 use crate::machine::Machine;
 use crate::notices::Watch;
-use crate::nvme::{AUTHENTICATION_RECEIVE, DATASET_MANAGEMENT, ENTRY, FABRICS, NAMESPACE_ATTACHMENT};
+use crate::nvme::{DATASET_MANAGEMENT, ENTRY, FABRICS, NAMESPACE_ATTACHMENT};
 use crate::output::Buffers;
 use crate::proving::Prover;
 use crate::status::{AUTHENTICATION_REQUIRED, COMMAND_SEQUENCE, INACCESSIBLE, SUCCESS};
 use crate::storage::pending::{Issued, Waiting};
 use crate::storage::zeroes::LongZeroes;
 use crate::storage::Storage;
+use nvmesim::fabrics::{Fabrics, Live};
 use nvmesim::{Attachment, Need};
 use std::collections::VecDeque;
 use std::fmt;
@@ -72,9 +73,11 @@ pub struct Handed {
 /// The subsystem and its hosts.
 pub struct Target<'a> {
     pub machine: Machine<'a>,
+    /// Which connection is a queue of which controller.
+    pub fabrics: Fabrics,
     pub configuration: Configuration,
     pub controllers: Vec<Controller>,
-    /// The association of each controller, if a host has one.
+    /// What the host of each controller has there, as long as the library knows an association.
     pub associations: Vec<Option<Association>>,
     /// What is attached, in the order in which it was.
     pub attachments: Vec<Attachment>,
@@ -108,6 +111,7 @@ pub struct Target<'a> {
 impl<'a> Target<'a> {
     pub fn new(
         machine: Machine<'a>,
+        fabrics: Fabrics,
         configuration: Configuration,
         settings: Settings,
         identity: Identity,
@@ -118,6 +122,7 @@ impl<'a> Target<'a> {
         let (count, attachments) = (controllers.len(), configuration.config.attached.clone());
         Target {
             machine,
+            fabrics,
             recovery: vec![0; configuration.config.namespaces.len()],
             configuration,
             attachments,
@@ -152,21 +157,18 @@ impl<'a> Target<'a> {
     /// Executes a command that has its data. A held command has no answer yet.
     pub fn carry_out(&mut self, queue: &mut HostQueue, entry: &[u8; ENTRY], data: Data<'_>) -> Outcome<Option<Answer>> {
         if entry[0] == FABRICS {
-            if entry[4] == AUTHENTICATION_RECEIVE {
-                return self.give_message(queue, entry, data);
-            }
-            return self.fabrics(queue, entry, data).map(Some);
+            return self.execute_fabrics(queue, entry, data);
         }
-        match queue.session {
-            Session::None => Ok(Some(Answer::of(COMMAND_SEQUENCE))),
-            Session::Unproved => Ok(Some(Answer::of(AUTHENTICATION_REQUIRED))),
-            Session::Discovery(discovery) => Ok(Some(self.discover(queue, discovery, entry, data))),
-            Session::Controller { index, qid } if !self.controllers[index].has_queue(qid) => {
+        match self.fabrics.live(&queue.session) {
+            Live::NotConnected | Live::Ended => Ok(Some(Answer::of(COMMAND_SEQUENCE))),
+            Live::Authenticating(_) => Ok(Some(Answer::of(AUTHENTICATION_REQUIRED))),
+            Live::Discovery => Ok(Some(self.discover(queue, entry, data))),
+            Live::Queue { index, qid } if !self.controllers[usize::from(index)].has_queue(qid) => {
                 self.say(format_args!("controller {} has no queue {qid}", index + 1));
                 Ok(Some(Answer::of(COMMAND_SEQUENCE)))
             }
-            Session::Controller { index, qid: 0 } => self.admin(index, entry, data),
-            Session::Controller { index, qid } => self.io(queue.connection, index, qid, entry, data),
+            Live::Queue { index, qid: 0 } => self.admin(index.into(), entry, data),
+            Live::Queue { index, qid } => self.io(queue.connection(), index.into(), qid, entry, data),
         }
     }
 
@@ -323,60 +325,57 @@ impl<'a> Target<'a> {
     }
 
     /// The connection of a queue is gone: the queue ends, and with the admin queue the association.
-    pub fn lose(&mut self, queue: &HostQueue, closing: Closing) -> Outcome<()> {
+    pub fn lose(&mut self, queue: &mut HostQueue, closing: Closing) -> Outcome<()> {
         self.counters.closed[closing as usize] += 1;
         self.log_closed(queue, closing);
-        match queue.session {
-            Session::Controller { index, qid } if self.is_of(queue.connection, index, qid) => {
-                if qid == 0 {
-                    self.end_association(index, closing.reason())
-                } else {
-                    self.end_queue(index, qid)
-                }
-            }
+        self.end_session(queue, closing.reason())
+    }
+
+    /// The same while the connection stays: it may still send what is due.
+    pub fn end_session(&mut self, queue: &mut HostQueue, reason: &str) -> Outcome<()> {
+        let live = self.fabrics.live(&queue.session);
+        if let Live::Queue { index, qid: 0 } = live {
+            let own = Some(queue.connection());
+            self.forget_association(index.into(), own, reason);
+            return self.controllers[usize::from(index)].reset(&mut self.machine);
+        }
+        self.fabrics.end_session(&mut queue.session);
+        match live {
+            Live::Queue { index, qid } => self.end_queue(index.into(), qid),
             _ => Ok(()),
         }
     }
 
-    pub fn is_of(&self, connection: ConnectionId, index: usize, qid: u16) -> bool {
-        let association = self.associations[index].as_ref();
-        association.map_or(false, |it| it.queues[usize::from(qid)] == Some(connection))
-    }
-
-    /// A pair of I/O queues ends.
+    /// A pair of I/O queues has ended.
     pub fn end_queue(&mut self, index: usize, qid: u16) -> Outcome<()> {
-        if let Some(association) = &mut self.associations[index] {
-            association.queues[usize::from(qid)] = None;
-        }
         self.held[index].retain(|held| held.qid != qid);
         self.drop_waiting(index, Some(qid));
         self.controllers[index].delete_queues(&mut self.machine, qid)
     }
 
-    /// The connections of I/O queues are closed, since the controller is reset.
-    pub fn close_io_queues(&mut self, index: usize) {
+    /// A controller is reset: its commands that wait are dropped, and what its host has set is forgotten.
+    pub fn forget_commands(&mut self, index: usize) {
         self.held[index].clear();
         self.holds[index] = false;
         self.drop_waiting(index, None);
-        if let Some(association) = &mut self.associations[index] {
-            association.reset();
-            let lost = association.queues[1..].iter_mut().filter_map(Option::take);
-            self.effects.extend(lost.map(Effect::Close));
-        }
+        self.associations[index].iter_mut().for_each(Association::reset);
     }
 
-    /// An association ends: its connections are closed.
-    fn forget_association(&mut self, index: usize, reason: &str) {
-        self.close_io_queues(index);
+    /// An association ends: its connections are closed, except for this one.
+    fn forget_association(&mut self, index: usize, own: Option<ConnectionId>, reason: &str) {
+        let (io, admin) = (self.io_connections(index as u16), self.fabrics.connection(index as u16, 0));
+        self.fabrics.end_association(index as u16);
+        self.forget_commands(index);
+        let lost = io.into_iter().chain([admin]).flatten().filter(|it| Some(*it) != own);
+        self.effects.extend(lost.map(Effect::Close));
         if let Some(association) = self.associations[index].take() {
-            self.effects.extend(association.queues[0].map(Effect::Close));
             self.log_end(index, &association, reason);
         }
     }
 
     /// An association ends, and its controller is reset.
     pub fn end_association(&mut self, index: usize, reason: &str) -> Outcome<()> {
-        self.forget_association(index, reason);
+        self.forget_association(index, None, reason);
         self.controllers[index].reset(&mut self.machine)
     }
 
@@ -396,7 +395,7 @@ impl<'a> Target<'a> {
         for index in 0..self.associations.len() {
             let status = self.machine.read32(self.controllers[index].cntlid, CSTS)?;
             self.health[index].power_cycle(status & (READY | SHUTDOWN_STATUS) == READY);
-            self.forget_association(index, "power cycle");
+            self.forget_association(index, None, "power cycle");
             self.controllers[index].forget();
         }
         self.machine.power_cycle();
