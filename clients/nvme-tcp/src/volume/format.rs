@@ -13,6 +13,7 @@ use crate::nvme::BLOCK;
 use crate::storage::aligned::{Aligned, PAGE};
 use crate::storage::options::Options;
 use crate::storage::Image;
+use std::fs;
 use std::io::{self, ErrorKind};
 use std::os::unix::fs::{FileExt, MetadataExt};
 use std::path::Path;
@@ -93,7 +94,7 @@ fn claim(path: &Path, needed: u64, how: How) -> Result<Image, Refusal> {
     if let Some(size) = how.size.filter(|it| *it < needed) {
         return Err(Refusal::TooSmall(size, needed));
     }
-    let is_there = path.symlink_metadata().is_ok();
+    let is_there = fs::symlink_metadata(path).is_ok();
     let size = how.size.or(if is_there { None } else { Some(needed) });
     let image = Image::open(path, Lock::exclusive(how.waits), &Options { size, ..Options::default() })?;
     if image.length < needed {
