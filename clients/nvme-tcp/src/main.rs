@@ -4,6 +4,10 @@
 //! the subsystem and serves all connections.
 #![deny(unsafe_code)]
 
+// Simulated network, disk, clock and threads, under the names of the standard library.
+#[cfg(feature = "simulated")]
+extern crate simulator as std;
+
 mod access;
 mod admin;
 mod admission;
@@ -72,6 +76,7 @@ mod server;
 mod state;
 mod status;
 mod storage;
+#[cfg(not(feature = "simulated"))]
 #[allow(unsafe_code)]
 mod system;
 mod target;
@@ -106,6 +111,8 @@ use std::net::{SocketAddr, TcpListener};
 use std::path::{Path, PathBuf};
 use std::process::ExitCode;
 use std::sync::Arc;
+#[cfg(feature = "simulated")]
+use std::system;
 use storage::{Disk, Image, Storage};
 use target::Target;
 use volume::{Owned, Volume, VolumeDisk};
@@ -132,9 +139,31 @@ fn end<E: Display>(status: u8, what: impl Display) -> impl FnOnce(E) -> End {
     move |error| End { status, text: format!("{what}: {error}") }
 }
 
+#[cfg(not(feature = "simulated"))]
 fn main() -> ExitCode {
-    let words: Vec<OsString> = env::args_os().skip(1).collect();
-    let done = match words.first().and_then(|word| word.to_str()) {
+    match act(env::args_os().skip(1).collect()) {
+        Ok(()) => ExitCode::SUCCESS,
+        Err(End { status, text }) => {
+            log::fault(&text);
+            ExitCode::from(status)
+        }
+    }
+}
+
+/// The simulator runs the command lines of targets.
+#[cfg(feature = "simulated")]
+fn main() -> ExitCode {
+    std::simulate(|words| {
+        act(words).map_err(|End { status, text }| {
+            log::fault(&text);
+            (status, text)
+        })
+    })
+}
+
+/// Does what a command line asks for.
+fn act(words: Vec<OsString>) -> Result<(), End> {
+    match words.first().and_then(|word| word.to_str()) {
         Some("--help" | "-h") => print(options::HELP),
         Some("--version") => print(&version()),
         Some("--where") => print_where(),
@@ -143,13 +172,6 @@ fn main() -> ExitCode {
         Some("expand") => expand::expand(&words[1..]),
         Some(command @ ("format" | "check" | "dump" | "copy")) => volume::commands::run(command, &words[1..]),
         _ => serve(words),
-    };
-    match done {
-        Ok(()) => ExitCode::SUCCESS,
-        Err(End { status, text }) => {
-            log::fault(&text);
-            ExitCode::from(status)
-        }
     }
 }
 

@@ -1,0 +1,180 @@
+//! What each block may contain: the writes and reads of hosts with the times of request and answer.
+//!
+//! Each write has a value of its own. A read is right if some order of the commands that agrees with real time has it
+//! after the write of its value, and no other write in between.
+
+/// No answer yet.
+const OPEN: u64 = u64::MAX;
+
+#[derive(Clone, Copy, Debug, PartialEq, Eq)]
+pub enum State {
+    /// Not answered.
+    Pending,
+    /// It was answered that it is written.
+    Done,
+    /// It may have been executed, by its `end` at the latest, and may have not.
+    Maybe,
+    /// It was answered that it is not.
+    Denied,
+}
+
+#[derive(Clone, Copy, Debug)]
+pub struct Version {
+    pub value: u64,
+    pub start: u64,
+    pub end: u64,
+    pub state: State,
+    /// Whether a Flush was answered that began after its answer, or it was written through.
+    pub is_durable: bool,
+}
+
+/// A value that was read in this time.
+#[derive(Clone, Copy, Debug)]
+struct Seen {
+    value: u64,
+    start: u64,
+    end: u64,
+}
+
+#[derive(Clone, Debug)]
+pub struct Block {
+    pub versions: Vec<Version>,
+    seen: Vec<Seen>,
+}
+
+impl Version {
+    /// Whether another one is executed for sure after this, and before a time.
+    fn is_over(&self, start: u64, end: u64, time: u64) -> bool {
+        self.end < start && end < time
+    }
+}
+
+impl Block {
+    pub fn new() -> Block {
+        let zero = Version { value: 0, start: 0, end: 0, state: State::Done, is_durable: true };
+        Block { versions: vec![zero], seen: Vec::new() }
+    }
+
+    pub fn begin(&mut self, value: u64, now: u64) {
+        self.versions.push(Version { value, start: now, end: OPEN, state: State::Pending, is_durable: false });
+    }
+
+    /// A write of a value that began at a time is answered, or given up.
+    pub fn answer(&mut self, value: u64, begun: u64, end: u64, state: State, is_durable: bool) {
+        let is_it = |it: &&mut Version| it.value == value && it.start == begun && it.state != State::Done;
+        if let Some(it) = self.versions.iter_mut().find(is_it) {
+            (it.end, it.state) = (it.end.min(end), state);
+            it.is_durable = is_durable && state == State::Done;
+        }
+        if state == State::Denied {
+            self.versions.retain(|it| it.state != State::Denied);
+        }
+    }
+
+    /// A write that has no answer is executed by this time, or never.
+    pub fn bound(&mut self, value: u64, begun: u64, end: u64) {
+        for it in self.versions.iter_mut().filter(|it| it.value == value && it.start == begun) {
+            it.end = it.end.min(end);
+        }
+    }
+
+    /// Judges a read, and remembers it.
+    pub fn read(&mut self, value: u64, start: u64, end: u64) -> Result<(), String> {
+        let is_possible = |it: &Version| {
+            let writes = self.versions.iter().filter(|other| other.state == State::Done && other.start != it.start);
+            let mut after = writes
+                .map(|other| (other.start, other.end))
+                .chain(self.seen.iter().filter(|seen| seen.value != it.value).map(|seen| (seen.start, seen.end)));
+            it.value == value && it.start <= end && !after.any(|other| it.is_over(other.0, other.1, start))
+        };
+        if !self.versions.iter().any(is_possible) {
+            return Err(format!("value {value:#x} was read from {start} to {end}; it may be {:?}", self));
+        }
+        self.seen.push(Seen { value, start, end });
+        Ok(())
+    }
+
+    /// Forgets what no command that began at `oldest` or later can meet.
+    pub fn prune(&mut self, oldest: u64) {
+        if self.versions.len() < 8 && self.seen.len() < 8 {
+            return;
+        }
+        let all = self.versions.clone();
+        self.versions.retain(|it| {
+            !all.iter().any(|other| {
+                other.state == State::Done
+                    && other.is_durable
+                    && other.start != it.start
+                    && it.is_over(other.start, other.end, oldest)
+            })
+        });
+        if let Some(last) = self.seen.iter().filter(|it| it.end < oldest).max_by_key(|it| it.start).copied() {
+            self.seen.retain(|it| it.end >= oldest || it.start == last.start);
+        }
+    }
+
+    /// A Flush was answered that began at a time.
+    pub fn flush(&mut self, begun: u64) {
+        for it in self.versions.iter_mut().filter(|it| it.state == State::Done && it.end < begun) {
+            it.is_durable = true;
+        }
+    }
+
+    /// The power of the disk was lost: what is not durable may be there or not. If writes are written through, the disk
+    /// has what was read; else that proves nothing.
+    pub fn lose_power(&mut self, now: u64, writes_through: bool) {
+        if !writes_through {
+            self.seen.clear();
+        }
+        for it in self.versions.iter_mut().filter(|it| !it.is_durable) {
+            it.state = State::Maybe;
+            it.end = it.end.min(now);
+        }
+    }
+}
+
+#[cfg(test)]
+mod tests {
+    use super::*;
+
+    fn written(list: &[(u64, u64, u64)]) -> Block {
+        let mut block = Block::new();
+        for (value, start, end) in list {
+            block.begin(*value, *start);
+            block.answer(*value, *start, *end, State::Done, false);
+        }
+        block
+    }
+
+    #[test]
+    fn reads_are_judged() {
+        let block = written(&[(1, 10, 20), (2, 30, 40), (3, 35, 50)]);
+        let judge = |value, start, end| block.clone().read(value, start, end).is_ok();
+        assert!(judge(0, 5, 9) && judge(0, 5, 25) && judge(0, 12, 15) && !judge(0, 25, 28));
+        assert!(judge(1, 25, 28) && judge(1, 5, 12) && !judge(1, 5, 9) && !judge(1, 60, 70));
+        assert!(judge(2, 60, 70) && judge(3, 60, 70) && !judge(9, 60, 70));
+        let mut block = block;
+        assert!(block.read(2, 60, 70).is_ok() && block.read(3, 80, 90).is_err(), "two reads agree with one order");
+    }
+
+    #[test]
+    fn power_takes_what_is_not_flushed() {
+        let mut block = written(&[(1, 10, 20), (2, 30, 40)]);
+        block.flush(25);
+        assert!(block.clone().read(1, 60, 70).is_err());
+        block.lose_power(50, false);
+        assert!(block.clone().read(0, 60, 70).is_err(), "the first was flushed");
+        assert!(block.clone().read(2, 60, 70).is_ok());
+        assert!(block.read(1, 60, 70).is_ok() && block.read(2, 80, 90).is_err(), "it is old or new, and stays so");
+    }
+
+    #[test]
+    fn what_has_no_answer_ends_at_a_fence() {
+        let mut block = written(&[(1, 10, 20)]);
+        block.begin(2, 30);
+        assert!(block.clone().read(2, 100, 110).is_ok());
+        block.bound(2, 30, 40);
+        assert!(block.read(1, 50, 60).is_ok());
+        assert!(block.read(2, 100, 110).is_err(), "it has landed after its fence");
+    }
+}

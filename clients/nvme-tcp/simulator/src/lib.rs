@@ -1,0 +1,34 @@
+//! A simulated world for the NVMe/TCP target. With the feature `simulated` the target's crate has this crate under the
+//! name `std`, so that its own files, unchanged, run over a simulated network, disk and clock, with fibers for threads.
+//! One seed decides everything that happens.
+//!
+//! What it does not do yet: name changes of files are durable at once; no read is misdirected; hosts use one namespace,
+//! digests and authentication are off; nothing checks that the kept run is complete, nor which lines were reached.
+
+#![deny(unsafe_code)]
+
+pub use ::std::*;
+
+mod chance;
+mod command;
+#[allow(unsafe_code)]
+mod fiber;
+mod hosts;
+mod replay;
+mod run;
+mod scenario;
+mod shadow;
+mod supervisor;
+mod world;
+
+pub use shadow::{collections, fs, io, net, os, process, sync, system, thread, time};
+
+/// Whether a fault is planted in this run: `simulator/plant` writes calls of this into a copy of the target.
+pub fn planted(name: &str) -> bool {
+    world::is_planted(name)
+}
+
+/// Runs the simulator by the words of its command line. `act` is what the target does with the words of its own.
+pub fn simulate(act: supervisor::Act) -> ::std::process::ExitCode {
+    command::main(act)
+}

@@ -1,0 +1,108 @@
+//! Replays the kept run of a target by the proved library: each event must give what the transcript says, and at the
+//! end the blocks must be those of the disk.
+
+use nvmesim::{answer_line, read_configuration, Answered, Event, Refusal, Subsystem, ANY_SIZE};
+
+/// Room for a line of a transcript.
+const LINE: usize = 128;
+
+/// An event as a line of a script has it.
+enum Owned {
+    Store(u16, u64, Vec<u8>),
+    Plain(Event<'static>),
+}
+
+fn parsed(line: &str) -> Option<Owned> {
+    let words: Vec<&str> = line.split(' ').collect();
+    let number = |at: usize| words.get(at).and_then(|it| it.parse::<u64>().ok());
+    let small = |at: usize| number(at).and_then(|it| u16::try_from(it).ok());
+    Some(match words[0] {
+        "store" => Owned::Store(small(1)?, number(2)?, bytes_of(words.get(3)?.strip_prefix("hex:")?)?),
+        "write32" => Owned::Plain(Event::Write32 { cntlid: small(1)?, offset: number(2)?, value: number(3)? as u32 }),
+        "fetch" => Owned::Plain(Event::Fetch { cntlid: small(1)?, qid: small(2)? }),
+        "execute" => Owned::Plain(Event::Execute { cntlid: small(1)?, i: number(2)? as usize }),
+        "powercycle" => Owned::Plain(Event::PowerCycle),
+        _ => return None,
+    })
+}
+
+fn bytes_of(digits: &str) -> Option<Vec<u8>> {
+    let digit = |byte: u8| (byte as char).to_digit(16).map(|it| it as u8);
+    digits.as_bytes().chunks(2).map(|it| Some(digit(it[0])? << 4 | digit(*it.get(1)?)?)).collect()
+}
+
+fn answered(result: Result<Answered, Refusal>) -> Result<Answered, String> {
+    match result {
+        Err(Refusal::NoController) => Ok(Answered::NoController),
+        Err(Refusal::Outside) => Ok(Answered::Outside),
+        result => result.map_err(|refusal| refusal.to_string()),
+    }
+}
+
+fn run(subsystem: &mut Subsystem<'_>, event: &Event<'_>) -> Result<Answered, String> {
+    answered(match *event {
+        Event::Store { cntlid, address, bytes } => subsystem.store(cntlid, address, bytes).map(|()| Answered::Stored),
+        Event::Write32 { cntlid, offset, value } => {
+            subsystem.write32(cntlid, offset, value).map(|()| Answered::Wrote32)
+        }
+        Event::Fetch { cntlid, qid } => subsystem.fetch(cntlid, qid).map(Answered::Fetched),
+        Event::Execute { cntlid, i } => subsystem.execute(cntlid, i).map(Answered::Executed),
+        Event::PowerCycle => {
+            subsystem.power_cycle();
+            Ok(Answered::PowerCycled)
+        }
+    })
+}
+
+/// The whole lines of a file that may be cut.
+fn whole(bytes: &[u8]) -> Vec<&str> {
+    let end = bytes.iter().rposition(|it| *it == b'\n').map_or(0, |it| it + 1);
+    std::str::from_utf8(&bytes[..end]).map_or(Vec::new(), |it| it.lines().collect())
+}
+
+/// Replays a script over blocks, which it changes; how many events agree with the transcript.
+pub fn replay(script: &[u8], transcript: &[u8], blocks: &mut [u8]) -> Result<usize, String> {
+    let (lines, gave) = (whole(script), whole(transcript));
+    let start = match lines.iter().position(|it| *it == "start") {
+        Some(start) => start,
+        None => return Ok(0),
+    };
+    let head = lines[..start].join("\n") + "\n";
+    let config = read_configuration(head.as_bytes(), ANY_SIZE, blocks.len() as u64 / 512);
+    let config = config.map_err(|error| format!("the script's configuration: {error}"))?;
+    let mut subsystem = Subsystem::open_lent(&config, blocks).map_err(|error| error.to_string())?;
+    let mut count = 0;
+    for line in &lines[start + 1..] {
+        let owned = parsed(line).ok_or_else(|| format!("the script has a line {line:.60}"))?;
+        let event = match &owned {
+            Owned::Store(cntlid, address, bytes) => Event::Store { cntlid: *cntlid, address: *address, bytes },
+            Owned::Plain(event) => *event,
+        };
+        let answer = run(&mut subsystem, &event).map_err(|text| format!("event {count}, {line:.60}: {text}"))?;
+        let mut room = [0; LINE];
+        let length = answer_line(&event, &answer, &mut room).map_err(|error| error.to_string())?;
+        let text = String::from_utf8_lossy(&room[..length]);
+        match gave.get(count) {
+            Some(given) if *given != text.trim_end() => {
+                return Err(format!(
+                    "event {count}, {line:.60}: the program gives {text:?}, the target gave {given:?}"
+                ));
+            }
+            _ => count += 1,
+        }
+    }
+    Ok(count)
+}
+
+#[cfg(test)]
+mod tests {
+    use super::*;
+
+    #[test]
+    fn a_wrong_answer_is_noticed() {
+        let script = b"controller 1 host 0xa1\nnamespace 1 blocks 8 shared\nattached 1 1\nstart\nfetch 1 0\nfetch 1";
+        let mut blocks = [0; 4096];
+        assert_eq!(replay(script, b"fetch 1 0 idle\n", &mut blocks), Ok(1));
+        assert!(replay(script, b"fetch 1 0 took\n", &mut blocks).is_err());
+    }
+}

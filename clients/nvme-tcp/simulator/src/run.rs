@@ -1,0 +1,158 @@
+//! Runs one seed, from the first start of a target to the end of the last.
+
+use crate::hosts::{checker, Path};
+use crate::scenario::Scenario;
+use crate::supervisor::{Act, Supervisor};
+use crate::world::{self, with, MICROSECOND, MILLISECOND, SECOND};
+use std::cell::{Cell, RefCell};
+use std::collections::BTreeMap;
+use std::net::SocketAddr;
+use std::rc::Rc;
+
+/// Steps without which a seed counts as one without progress: for each command, and for each run.
+const STEPS: (u64, u64) = (20_000, 20_000_000);
+
+/// What came of a seed.
+pub struct Report {
+    pub violations: Vec<String>,
+    pub sent: u64,
+    pub answered: u64,
+    pub steps: u64,
+    pub simulated: u64,
+    pub digest: u64,
+    pub events: u64,
+    pub lines: Option<Vec<String>>,
+    pub injected: BTreeMap<&'static str, u64>,
+    pub statuses: BTreeMap<u16, u64>,
+    pub fenced: u64,
+    pub replayed: usize,
+    pub starts: usize,
+}
+
+/// What the fibers of hosts share.
+#[derive(Default)]
+struct Shared {
+    addresses: RefCell<Vec<SocketAddr>>,
+    is_over: Cell<bool>,
+    running: Cell<usize>,
+    is_done: Cell<bool>,
+    counts: Cell<(usize, usize)>,
+}
+
+pub fn run(scenario: &Scenario, act: Act, is_logged: bool) -> Report {
+    world::begin(scenario.seed, scenario.chances.clone(), is_logged);
+    with(|it| it.net.slow = scenario.slow);
+    checker::begin(scenario.blocks, scenario.writes_through);
+    let shared = Rc::new(Shared::default());
+    let (theirs, whole) = (Rc::clone(&shared), scenario.clone());
+    world::spawn("supervisor", Box::new(move || supervise(whole, act, &theirs)));
+    let most = STEPS.0 * scenario.commands + STEPS.1;
+    while !shared.is_done.get() {
+        let is_stuck = !world::step();
+        if is_stuck || with(|it| it.steps) > most {
+            checker::check(|it| it.violate("nothing happens any more".to_owned()));
+            break;
+        }
+        if let Some(Err((_, text))) = with(|it| it.processes[world::HOSTS].outcome.clone()) {
+            checker::check(|it| it.violate(format!("the simulator: {text}")));
+            break;
+        }
+    }
+    report(&shared)
+}
+
+fn report(shared: &Shared) -> Report {
+    let (replayed, starts) = shared.counts.get();
+    with(|world| {
+        checker::check(|check| Report {
+            violations: std::mem::take(&mut check.violations),
+            sent: check.sent,
+            answered: check.answered,
+            steps: world.steps,
+            simulated: world.now - 1_000 * SECOND,
+            digest: world.log.digest,
+            events: world.log.count,
+            lines: world.log.lines.take(),
+            injected: std::mem::take(&mut world.injected),
+            statuses: std::mem::take(&mut check.statuses),
+            fenced: check.fenced,
+            replayed,
+            starts,
+        })
+    })
+}
+
+fn supervise(scenario: Scenario, act: Act, shared: &Rc<Shared>) {
+    let (peace, commands) = (scenario.peace, scenario.commands);
+    let mut supervisor = Supervisor::new(scenario.clone(), act);
+    supervisor.prepare();
+    supervisor.start(0);
+    follow(&supervisor, shared);
+    for path in scenario.paths.iter().cloned() {
+        begin(path, commands, shared);
+    }
+    while checker::check(|it| it.sent < commands && it.violations.is_empty()) {
+        let time = with(|it| it.random.within(100 * MICROSECOND, peace));
+        world::pause(time);
+        supervisor.trouble();
+        keep_running(&mut supervisor, shared);
+    }
+    shared.is_over.set(true);
+    while shared.running.get() != 0 && checker::check(|it| it.violations.is_empty()) {
+        world::pause(10 * MILLISECOND);
+        keep_running(&mut supervisor, shared);
+    }
+    if checker::check(|it| it.violations.is_empty()) {
+        finish(&mut supervisor, &scenario, shared);
+    }
+    shared.counts.set((supervisor.replayed, supervisor.ends));
+    shared.is_done.set(true);
+}
+
+/// Reads all blocks, ends the targets in order, and starts one more that has the same blocks.
+fn finish(supervisor: &mut Supervisor, scenario: &Scenario, shared: &Rc<Shared>) {
+    with(|it| it.chances = crate::world::Chances { yields: 10, ..Default::default() });
+    for _ in 0..2 {
+        for _ in 0..20 {
+            keep_running(supervisor, shared);
+            let read = supervisor.running.first().map_or(Ok(false), |it| scenario.paths[0].read_all(it.address));
+            match read {
+                Ok(true) => break,
+                Ok(false) => (),
+                Err(lost) => scenario.paths[0].lose(&lost),
+            }
+            world::pause(SECOND);
+        }
+        while !supervisor.running.is_empty() && checker::check(|it| it.violations.is_empty()) {
+            supervisor.end(0);
+        }
+    }
+}
+
+fn follow(supervisor: &Supervisor, shared: &Shared) {
+    *shared.addresses.borrow_mut() = supervisor.running.iter().map(|it| it.address).collect();
+}
+
+/// Judges the targets that have ended, and starts one if there is none.
+fn keep_running(supervisor: &mut Supervisor, shared: &Shared) {
+    supervisor.collect();
+    for _ in 0..50 {
+        if !supervisor.running.is_empty() || checker::check(|it| !it.violations.is_empty()) {
+            break;
+        }
+        supervisor.restart();
+        supervisor.collect();
+    }
+    follow(supervisor, shared);
+}
+
+fn begin(path: Path, commands: u64, shared: &Rc<Shared>) {
+    shared.running.set(shared.running.get() + 1);
+    let shared = Rc::clone(shared);
+    let work = move || {
+        let is_over = || shared.is_over.get() || checker::check(|it| it.sent >= commands);
+        path.run(|| shared.addresses.borrow().clone(), is_over);
+        shared.running.set(shared.running.get() - 1);
+    };
+    world::spawn("path", Box::new(work));
+}

@@ -1,0 +1,469 @@
+//! Files over the simulated disks.
+
+use crate::fiber;
+use crate::world::disk::Kind;
+use crate::world::{self, with, MICROSECOND, MILLISECOND};
+use ::std::io::{self, ErrorKind, Read, Seek, SeekFrom, Write};
+use ::std::path::Path;
+use ::std::sync::atomic::{AtomicU64, Ordering};
+use ::std::sync::Arc;
+
+/// O_DIRECT, and the kernel's page.
+const DIRECT: i32 = 0o40_000;
+const PAGE: usize = 4096;
+/// EIO.
+const INPUT_OUTPUT: i32 = 5;
+
+/// An open file. Copies of it share it.
+struct Open {
+    inode: usize,
+    number: u64,
+    /// Who has opened it: a machine and a process.
+    by: (usize, usize),
+    is_direct: bool,
+    place: AtomicU64,
+    /// What the kernel makes up, such as the name of the machine.
+    text: Option<Vec<u8>>,
+}
+
+pub struct File(Arc<Shared>);
+
+struct Shared(Open);
+
+impl Drop for Shared {
+    fn drop(&mut self) {
+        with(|it| {
+            it.disks.unlock(self.0.number);
+            it.wake_all(world::Key::Lock);
+        });
+    }
+}
+
+/// How long a call of a disk takes, in microseconds.
+struct Time {
+    least: u64,
+    most: u64,
+}
+
+const CACHED: Time = Time { least: 1, most: 8 };
+const MEDIUM: Time = Time { least: 20, most: 200 };
+const SYNC: Time = Time { least: 50, most: 1_500 };
+
+fn spend(time: &Time) {
+    if !fiber::is_inside() {
+        return;
+    }
+    let nanoseconds = with(|it| {
+        let late = it.chances.late_disk;
+        let factor = if it.happens("late disk", late) { it.random.within(20, 2_000) } else { 1 };
+        (it.random.within(time.least, time.most) * MICROSECOND * factor).min(600 * MILLISECOND)
+    });
+    world::pause(nanoseconds);
+}
+
+fn failed() -> io::Error {
+    io::Error::from_raw_os_error(INPUT_OUTPUT)
+}
+
+fn not_found() -> io::Error {
+    ErrorKind::NotFound.into()
+}
+
+impl Open {
+    fn is_medium(&self) -> bool {
+        with(|it| it.disks.inodes[self.inode].kind == Kind::BlockDevice) || self.is_direct
+    }
+
+    fn read_at(&self, room: &mut [u8], place: u64) -> io::Result<usize> {
+        if let Some(text) = &self.text {
+            let from = text.len().min(place as usize);
+            let count = room.len().min(text.len() - from);
+            room[..count].copy_from_slice(&text[from..from + count]);
+            return Ok(count);
+        }
+        let is_medium = self.is_medium();
+        spend(if is_medium { &MEDIUM } else { &CACHED });
+        with(|world| {
+            let (fails, short) = (world.chances.failed_read, world.chances.short);
+            if is_medium && world.happens("failed read", fails) {
+                return Err(failed());
+            }
+            if world.disks.inodes[self.inode].kind == Kind::Random {
+                room.iter_mut().for_each(|it| *it = world.random.next() as u8);
+                return Ok(room.len());
+            }
+            let length = world.disks.inodes[self.inode].data.len();
+            let place = length.min(place as usize);
+            let mut count = room.len().min(length - place);
+            if count > PAGE && world.happens("short read", short) {
+                count = PAGE * (1 + world.random.index(count / PAGE));
+            }
+            room[..count].copy_from_slice(&world.disks.inodes[self.inode].data[place..place + count]);
+            Ok(count)
+        })
+    }
+
+    fn write_at(&self, bytes: &[u8], place: u64) -> io::Result<usize> {
+        let is_medium = self.is_medium();
+        spend(if is_medium { &MEDIUM } else { &CACHED });
+        let count = with(|world| {
+            let (fails, short) = (world.chances.failed_write, world.chances.short);
+            if is_medium && world.happens("failed write", fails) {
+                return Err(failed());
+            }
+            let is_short = bytes.len() > PAGE && world.happens("short write", short);
+            Ok(if is_short { PAGE * (1 + world.random.index(bytes.len() / PAGE)) } else { bytes.len() })
+        })?;
+        // The kernel copies page by page, and notices a kill in between.
+        let (mut at, end) = (place as usize, place as usize + count);
+        while at < end {
+            let next = end.min((at / PAGE + 1) * PAGE);
+            let part = &bytes[at - place as usize..next - place as usize];
+            with(|it| it.disks.inodes[self.inode].write(at, part));
+            at = next;
+            if at < end {
+                world::may_yield();
+            }
+        }
+        Ok(count)
+    }
+
+    fn sync(&self) -> io::Result<()> {
+        let until = with(|it| it.disks.inodes[self.inode].written());
+        spend(&SYNC);
+        with(|world| {
+            let fails = world.chances.failed_sync;
+            if world.happens("failed sync", fails) {
+                return Err(failed());
+            }
+            world.disks.inodes[self.inode].sync(until);
+            Ok(())
+        })
+    }
+}
+
+impl File {
+    pub fn open(path: impl AsRef<Path>) -> io::Result<File> {
+        OpenOptions::new().read(true).open(path)
+    }
+
+    pub fn create(path: impl AsRef<Path>) -> io::Result<File> {
+        OpenOptions::new().write(true).create(true).truncate(true).open(path)
+    }
+
+    fn it(&self) -> &Open {
+        &self.0 .0
+    }
+
+    pub fn try_clone(&self) -> io::Result<File> {
+        Ok(File(Arc::clone(&self.0)))
+    }
+
+    pub fn metadata(&self) -> io::Result<Metadata> {
+        Ok(Metadata::of(self.it().inode))
+    }
+
+    pub fn sync_all(&self) -> io::Result<()> {
+        self.it().sync()
+    }
+
+    pub fn sync_data(&self) -> io::Result<()> {
+        self.it().sync()
+    }
+
+    pub fn set_len(&self, length: u64) -> io::Result<()> {
+        with(|it| it.disks.inodes[self.it().inode].set_length(length as usize));
+        Ok(())
+    }
+
+    pub(super) fn read_some_at(&self, room: &mut [u8], place: u64) -> io::Result<usize> {
+        self.it().read_at(room, place)
+    }
+
+    pub(super) fn write_some_at(&self, bytes: &[u8], place: u64) -> io::Result<usize> {
+        self.it().write_at(bytes, place)
+    }
+
+    /// flock(2).
+    pub(super) fn lock(&self, is_shared: bool, waits: bool) -> io::Result<()> {
+        let it = self.it();
+        loop {
+            if with(|world| world.disks.lock(it.inode, it.number, it.by, is_shared)) {
+                return Ok(());
+            }
+            if !waits {
+                return Err(ErrorKind::WouldBlock.into());
+            }
+            world::wait(world::Key::Lock, None);
+        }
+    }
+
+    pub(super) fn punch_hole(&self, place: u64, count: u64) -> io::Result<()> {
+        spend(&MEDIUM);
+        with(|it| it.disks.inodes[self.it().inode].zero(place as usize, count as usize));
+        Ok(())
+    }
+}
+
+impl Read for &File {
+    fn read(&mut self, room: &mut [u8]) -> io::Result<usize> {
+        let it = self.it();
+        let count = it.read_at(room, it.place.load(Ordering::Relaxed))?;
+        it.place.fetch_add(count as u64, Ordering::Relaxed);
+        Ok(count)
+    }
+}
+
+impl Write for &File {
+    fn write(&mut self, bytes: &[u8]) -> io::Result<usize> {
+        let it = self.it();
+        let count = it.write_at(bytes, it.place.load(Ordering::Relaxed))?;
+        it.place.fetch_add(count as u64, Ordering::Relaxed);
+        Ok(count)
+    }
+
+    fn flush(&mut self) -> io::Result<()> {
+        Ok(())
+    }
+}
+
+impl Seek for &File {
+    fn seek(&mut self, to: SeekFrom) -> io::Result<u64> {
+        let it = self.it();
+        let length = with(|world| world.disks.inodes[it.inode].data.len()) as i64;
+        let place = match to {
+            SeekFrom::Start(place) => place as i64,
+            SeekFrom::End(by) => length + by,
+            SeekFrom::Current(by) => it.place.load(Ordering::Relaxed) as i64 + by,
+        };
+        let place = u64::try_from(place).map_err(|_| io::Error::from(ErrorKind::InvalidInput))?;
+        it.place.store(place, Ordering::Relaxed);
+        Ok(place)
+    }
+}
+
+impl Read for File {
+    fn read(&mut self, room: &mut [u8]) -> io::Result<usize> {
+        (&*self).read(room)
+    }
+}
+
+impl Write for File {
+    fn write(&mut self, bytes: &[u8]) -> io::Result<usize> {
+        (&*self).write(bytes)
+    }
+
+    fn flush(&mut self) -> io::Result<()> {
+        Ok(())
+    }
+}
+
+impl Seek for File {
+    fn seek(&mut self, to: SeekFrom) -> io::Result<u64> {
+        (&*self).seek(to)
+    }
+}
+
+#[derive(Clone, Debug, Default)]
+pub struct OpenOptions {
+    write: bool,
+    create: bool,
+    create_new: bool,
+    truncate: bool,
+    append: bool,
+    flags: i32,
+}
+
+impl OpenOptions {
+    pub fn new() -> OpenOptions {
+        OpenOptions::default()
+    }
+
+    pub fn read(&mut self, _: bool) -> &mut Self {
+        self
+    }
+
+    pub fn write(&mut self, it: bool) -> &mut Self {
+        self.write = it;
+        self
+    }
+
+    pub fn create(&mut self, it: bool) -> &mut Self {
+        self.create = it;
+        self
+    }
+
+    pub fn create_new(&mut self, it: bool) -> &mut Self {
+        self.create_new = it;
+        self
+    }
+
+    pub fn truncate(&mut self, it: bool) -> &mut Self {
+        self.truncate = it;
+        self
+    }
+
+    pub fn append(&mut self, it: bool) -> &mut Self {
+        self.append = it;
+        self
+    }
+
+    pub(super) fn set_flags(&mut self, flags: i32) {
+        self.flags = flags;
+    }
+
+    pub fn open(&self, path: impl AsRef<Path>) -> io::Result<File> {
+        let path = path.as_ref();
+        with(|world| {
+            let by = (world.machine(), world.process());
+            let boots = world.boots.get(&by.0).copied().unwrap_or(1);
+            let text = made_up(path, by.0, boots);
+            let inode = match world.disks.find(path) {
+                _ if text.is_some() => 0,
+                Some(_) if self.create_new => return Err(ErrorKind::AlreadyExists.into()),
+                Some(inode) => inode,
+                None if self.create || self.create_new => world.disks.create(path, Kind::File),
+                None => return Err(not_found()),
+            };
+            if self.truncate {
+                world.disks.inodes[inode].set_length(0);
+            }
+            let place = if self.append { world.disks.inodes[inode].data.len() as u64 } else { 0 };
+            let is_direct = self.flags & DIRECT != 0;
+            let open = Open { inode, number: world.disks.open(), by, is_direct, place: AtomicU64::new(place), text };
+            Ok(File(Arc::new(Shared(open))))
+        })
+    }
+}
+
+/// Files of /proc.
+fn made_up(path: &Path, machine: usize, boots: u64) -> Option<Vec<u8>> {
+    match path.to_str()? {
+        "/proc/sys/kernel/random/boot_id" => {
+            Some(format!("{:08x}-0000-4000-8000-{:012x}\n", machine + 1, boots).into_bytes())
+        }
+        "/proc/sys/kernel/hostname" => Some(format!("machine{machine}\n").into_bytes()),
+        _ => None,
+    }
+}
+
+#[derive(Clone, Debug)]
+pub struct Metadata {
+    pub(super) inode: usize,
+    pub(super) length: u64,
+    pub(super) kind: Kind,
+}
+
+#[derive(Clone, Copy, Debug)]
+pub struct FileType(pub(super) Kind);
+
+#[derive(Clone, Copy, Debug)]
+pub struct Permissions;
+
+impl Permissions {
+    pub fn readonly(&self) -> bool {
+        false
+    }
+}
+
+impl Metadata {
+    fn of(inode: usize) -> Metadata {
+        with(|it| Metadata {
+            inode,
+            length: it.disks.inodes[inode].data.len() as u64,
+            kind: it.disks.inodes[inode].kind,
+        })
+    }
+
+    #[allow(clippy::len_without_is_empty)]
+    pub fn len(&self) -> u64 {
+        self.length
+    }
+
+    pub fn is_file(&self) -> bool {
+        self.kind == Kind::File
+    }
+
+    pub fn is_dir(&self) -> bool {
+        self.kind == Kind::Folder
+    }
+
+    pub fn file_type(&self) -> FileType {
+        FileType(self.kind)
+    }
+
+    pub fn permissions(&self) -> Permissions {
+        Permissions
+    }
+
+    pub fn created(&self) -> io::Result<super::time::SystemTime> {
+        Ok(super::time::UNIX_EPOCH)
+    }
+
+    pub fn modified(&self) -> io::Result<super::time::SystemTime> {
+        Ok(super::time::UNIX_EPOCH)
+    }
+}
+
+impl FileType {
+    pub fn is_file(&self) -> bool {
+        self.0 == Kind::File
+    }
+
+    pub fn is_dir(&self) -> bool {
+        self.0 == Kind::Folder
+    }
+}
+
+pub fn metadata(path: impl AsRef<Path>) -> io::Result<Metadata> {
+    let inode = with(|it| it.disks.find(path.as_ref())).ok_or_else(not_found)?;
+    Ok(Metadata::of(inode))
+}
+
+pub fn symlink_metadata(path: impl AsRef<Path>) -> io::Result<Metadata> {
+    metadata(path)
+}
+
+pub fn remove_file(path: impl AsRef<Path>) -> io::Result<()> {
+    with(|it| it.disks.remove(path.as_ref())).then_some(()).ok_or_else(not_found)
+}
+
+pub fn rename(from: impl AsRef<Path>, to: impl AsRef<Path>) -> io::Result<()> {
+    with(|it| it.disks.rename(from.as_ref(), to.as_ref())).then_some(()).ok_or_else(not_found)
+}
+
+pub fn create_dir_all(path: impl AsRef<Path>) -> io::Result<()> {
+    with(|it| {
+        if it.disks.find(path.as_ref()).is_none() {
+            it.disks.create(path.as_ref(), Kind::Folder);
+        }
+    });
+    Ok(())
+}
+
+pub fn read(path: impl AsRef<Path>) -> io::Result<Vec<u8>> {
+    let mut bytes = Vec::new();
+    File::open(path)?.read_to_end(&mut bytes)?;
+    Ok(bytes)
+}
+
+pub fn read_to_string(path: impl AsRef<Path>) -> io::Result<String> {
+    String::from_utf8(read(path)?).map_err(|_| ErrorKind::InvalidData.into())
+}
+
+pub fn write(path: impl AsRef<Path>, bytes: impl AsRef<[u8]>) -> io::Result<()> {
+    File::create(path)?.write_all(bytes.as_ref())
+}
+
+#[derive(Debug, Default)]
+pub struct DirBuilder;
+
+impl DirBuilder {
+    pub fn new() -> DirBuilder {
+        DirBuilder
+    }
+
+    pub fn create(&self, path: impl AsRef<Path>) -> io::Result<()> {
+        create_dir_all(path)
+    }
+}

@@ -1,0 +1,311 @@
+//! Starts targets, troubles them, and judges how they end.
+
+use crate::hosts::checker::{check, BLOCK};
+use crate::replay::replay;
+use crate::scenario::Scenario;
+use crate::shadow::os::unix::net::UnixStream;
+use crate::world::disk::Kind;
+use crate::world::{self, with, Outcome, World, MILLISECOND, SECOND};
+use std::ffi::OsString;
+use std::io::{Read, Write};
+use std::net::SocketAddr;
+use std::path::Path;
+
+pub type Act = fn(Vec<OsString>) -> Outcome;
+
+pub const DEVICE: &str = "/dev/shared";
+pub const IMAGE: &str = "/image";
+const CONFIG: &str = "/etc/config";
+/// Where the blocks of a volume begin.
+const BLOCKS_AT: usize = 2 << 20;
+/// How long a target may take to start, with a lease to wait out, and to end in order.
+const LONGEST: u64 = 60 * SECOND;
+
+/// A target that was started.
+pub struct Running {
+    pub process: usize,
+    pub machine: usize,
+    script: String,
+    control: String,
+    pub address: SocketAddr,
+    /// How often the world's disk had failed before.
+    faults: u64,
+    /// The machine was stopped, or another target was started.
+    may_lose_lease: bool,
+}
+
+pub struct Supervisor {
+    scenario: Scenario,
+    act: Act,
+    pub running: Vec<Running>,
+    starts: usize,
+    pub replayed: usize,
+    pub ends: usize,
+}
+
+fn words(list: &[&str]) -> Vec<OsString> {
+    list.iter().map(OsString::from).collect()
+}
+
+/// The injected faults that may end a target.
+fn faults(world: &World) -> u64 {
+    ["failed read", "failed write", "failed sync"].iter().filter_map(|it| world.injected.get(it)).sum()
+}
+
+impl Supervisor {
+    pub fn new(scenario: Scenario, act: Act) -> Supervisor {
+        Supervisor { scenario, act, running: Vec::new(), starts: 0, replayed: 0, ends: 0 }
+    }
+
+    /// Makes what is served.
+    pub fn prepare(&mut self) {
+        let (config, is_volume) = (self.scenario.config(), self.scenario.is_volume);
+        let size = self.scenario.blocks * BLOCK;
+        with(|world| {
+            let inode = world.disks.create(Path::new(CONFIG), Kind::File);
+            world.disks.inodes[inode].write(0, config.as_bytes());
+            let (path, kind) = if is_volume { (DEVICE, Kind::BlockDevice) } else { (IMAGE, Kind::File) };
+            let inode = world.disks.create(Path::new(path), kind);
+            world.disks.inodes[inode].set_length(if is_volume { BLOCKS_AT + size } else { size });
+            world.disks.served = Some(inode);
+            let written = world.disks.find(Path::new(CONFIG)).unwrap_or(0);
+            let until = world.disks.inodes[written].written();
+            world.disks.inodes[written].sync(until);
+        });
+        if is_volume {
+            let (act, chances) = (self.act, with(|it| std::mem::take(&mut it.chances)));
+            let format = world::start_process(0, "format", move || act(words(&["format", DEVICE, "--config", CONFIG])));
+            while with(|it| it.processes[format].outcome.is_none()) {
+                world::pause(MILLISECOND);
+            }
+            let outcome = with(|it| it.processes[format].outcome.clone());
+            with(|it| it.chances = chances);
+            if let Some(Err((_, text))) = outcome {
+                check(|it| it.violate(format!("format fails: {text}")));
+            }
+        }
+    }
+
+    /// Starts a target on a machine, and waits until it serves or ends.
+    pub fn start(&mut self, machine: usize) {
+        self.starts += 1;
+        let (script, control) = (format!("/run/{}.nvme", self.starts), format!("/run/{}.control", self.starts));
+        let address = SocketAddr::from(([127, 0, 0, 1], 4420 + machine as u16));
+        let listen = address.to_string();
+        let mut list = vec!["--listen", &listen, "--script", &script, "--control", &control, "--cache", "4M", "--wait"];
+        if self.scenario.is_volume {
+            list.push(DEVICE);
+        } else {
+            list.extend(self.scenario.options.iter());
+            list.extend(["--image", IMAGE, "--state", "/state", CONFIG]);
+        }
+        let (act, given) = (self.act, words(&list));
+        with(|it| it.note(&format!("target {} starts on machine {machine}", self.starts)));
+        let process = world::start_process(machine, "target", move || act(given));
+        let may_lose_lease = !self.running.is_empty();
+        self.running.iter_mut().for_each(|it| it.may_lose_lease = true);
+        let faults = with(|it| faults(it));
+        self.running.push(Running { process, machine, script, control, address, faults, may_lose_lease });
+        let end = with(|it| it.now) + LONGEST;
+        loop {
+            let (serves, has_ended, now) =
+                with(|it| (it.processes[process].served.is_some(), it.processes[process].outcome.is_some(), it.now));
+            if serves || has_ended {
+                break;
+            }
+            if now > end {
+                check(|it| it.violate("a target neither serves nor ends".to_owned()));
+                break;
+            }
+            world::pause(5 * MILLISECOND);
+        }
+        if self.running.len() == 1 {
+            check(|it| it.bound(None));
+        }
+    }
+
+    /// Starts a target after all have ended, on a machine that may have had it.
+    pub fn restart(&mut self) {
+        let machine = if self.scenario.is_volume { with(|it| it.random.index(2)) } else { 0 };
+        self.start(machine);
+    }
+
+    /// Takes away the targets that have ended, and judges them.
+    pub fn collect(&mut self) {
+        let all = std::mem::take(&mut self.running);
+        for it in all {
+            match with(|world| world.processes[it.process].outcome.clone()) {
+                None => self.running.push(it),
+                Some(outcome) => {
+                    self.judge(&it, &outcome);
+                    self.close(&it, 0);
+                }
+            }
+        }
+    }
+
+    fn judge(&mut self, it: &Running, outcome: &Outcome) {
+        let is_excused = with(|world| faults(world)) > it.faults || it.may_lose_lease;
+        let said = with(|world| world.processes[it.process].said.clone());
+        match outcome {
+            Ok(()) => self.replay(it, true),
+            Err((status, text)) => {
+                let last: Vec<&str> = said.lines().rev().take(3).collect();
+                if *status == 101 || !is_excused {
+                    check(|check| check.violate(format!("a target ends: {text}; it said {last:?}")));
+                }
+                self.replay(it, false);
+            }
+        }
+    }
+
+    /// A process is gone. Its machine's peers notice that after a while if the machine is gone too.
+    fn close(&mut self, it: &Running, silent: u64) {
+        self.ends += 1;
+        with(|world| {
+            world.kill(it.process);
+            let World { net, random, now, .. } = world;
+            net.drop_all(it.process, *now, silent, random);
+        });
+        if self.running.is_empty() {
+            check(|it| it.bound(None));
+        }
+    }
+
+    /// Replays the script of a target.
+    fn replay(&mut self, it: &Running, is_over: bool) {
+        let (script, transcript, served, is_alone, now) = with(|world| {
+            let content = |path: &str| world.disks.content(path);
+            let transcript = content(&format!("{}.out", it.script));
+            let served = world.processes[it.process].served.take();
+            let bytes = world.disks.served.map(|at| world.disks.inodes[at].data.clone());
+            (content(&it.script), transcript, served, !it.may_lose_lease, bytes)
+        });
+        let from = if self.scenario.is_volume { BLOCKS_AT } else { 0 };
+        let mut blocks = match served {
+            Some(served) if is_alone => served[from..].to_vec(),
+            _ => return,
+        };
+        match replay(&script, &transcript, &mut blocks) {
+            Ok(count) => self.replayed += count,
+            Err(text) => return check(|it| it.violate(format!("replay: {text}"))),
+        }
+        let now = now.map_or(Vec::new(), |it| it[from..].to_vec());
+        if is_over && now != blocks {
+            let at = now.iter().zip(&blocks).position(|(one, other)| one != other).unwrap_or(0) / BLOCK;
+            check(|it| it.violate(format!("replay: block {at} of the disk is not what the program has at the end")));
+        }
+    }
+
+    /// Kills a target.
+    pub fn kill(&mut self, at: usize) {
+        let it = self.running.swap_remove(at);
+        with(|world| {
+            world.note("a target is killed");
+            world.kill(it.process);
+        });
+        self.replay(&it, false);
+        self.close(&it, 0);
+    }
+
+    /// The power of all machines and disks fails.
+    pub fn cut_power(&mut self) {
+        for it in std::mem::take(&mut self.running) {
+            with(|world| world.kill(it.process));
+            self.replay(&it, false);
+            self.close(&it, 4 * SECOND);
+        }
+        with(|world| {
+            world.cut_power();
+            world.boots.values_mut().for_each(|it| *it += 1);
+        });
+        check(|it| it.lose_power());
+    }
+
+    /// Asks a target to end, and waits for that.
+    pub fn end(&mut self, at: usize) {
+        let process = self.running[at].process;
+        with(|world| {
+            world.note("a target is asked to end");
+            world.processes[process].is_asked_to_end = true;
+        });
+        let end = with(|it| it.now) + LONGEST;
+        while with(|it| it.processes[process].outcome.is_none()) {
+            if with(|it| it.now) > end {
+                return check(|it| it.violate("a target does not end".to_owned()));
+            }
+            world::pause(5 * MILLISECOND);
+        }
+        self.collect();
+    }
+
+    /// Asks a target a control line.
+    fn ask(&self, at: usize, line: &str) {
+        with(|it| it.note(&format!("control line {line}")));
+        if let Ok(mut stream) = UnixStream::connect(&self.running[at].control) {
+            let sent = stream.write_all(format!("{line}\n").as_bytes());
+            let mut room = [0; 256];
+            if sent.is_ok() && with(|it| it.processes[self.running[at].process].stopped_until <= it.now) {
+                let _ = stream.read(&mut room);
+            }
+        }
+    }
+
+    /// One trouble, chosen at random among those of the scenario.
+    pub fn trouble(&mut self) {
+        let kinds = self.scenario.kinds.clone();
+        if kinds.is_empty() || self.running.is_empty() {
+            return;
+        }
+        let (kind, at) = with(|it| (kinds[it.random.index(kinds.len())], it.random.index(self.running.len())));
+        if ["kill", "power", "stop", "takeover", "cut", "end", "cycle", "hold"].contains(&kind) {
+            with(|it| *it.injected.entry(kind).or_default() += 1);
+        }
+        match kind {
+            "kill" => self.kill(at),
+            "power" => self.cut_power(),
+            "end" => self.end(at),
+            "stop" => self.stop(at),
+            "takeover" if self.scenario.is_volume && self.running.len() == 1 => {
+                self.start(1 - self.running[at].machine.min(1))
+            }
+            "cut" => (0..3).for_each(|_| self.cut()),
+            "cycle" => self.ask(at, "powercycle"),
+            "hold" => self.hold(at),
+            _ => (),
+        }
+    }
+
+    /// Stops a process for a time, in which another may take its volume over.
+    fn stop(&mut self, at: usize) {
+        let process = self.running[at].process;
+        let (time, takes) = with(|it| (it.random.within(MILLISECOND, 9 * SECOND), it.random.once_in(2)));
+        self.running[at].may_lose_lease |= self.scenario.is_volume;
+        with(|it| {
+            it.note(&format!("target is stopped for {} ms", time / MILLISECOND));
+            it.processes[process].stopped_until = it.now + time;
+        });
+        if takes && self.scenario.is_volume && self.running.len() == 1 && self.scenario.kinds.contains(&"takeover") {
+            self.start(1 - self.running[at].machine.min(1));
+        }
+    }
+
+    /// Cuts a connection of a host.
+    fn cut(&self) {
+        with(|world| {
+            let World { net, random, now, .. } = world;
+            let names: Vec<i32> =
+                net.sides.iter().filter(|(_, it)| it.process == world::HOSTS).map(|(name, _)| *name).collect();
+            if !names.is_empty() {
+                net.cut(names[random.index(names.len())], *now, random);
+            }
+        });
+    }
+
+    fn hold(&self, at: usize) {
+        let (cntlid, time) = with(|it| (1 + it.random.index(self.scenario.paths.len()), it.random.below(SECOND)));
+        self.ask(at, &format!("hold {cntlid}"));
+        world::pause(time);
+        self.ask(at, &format!("go {cntlid}"));
+    }
+}

@@ -1,0 +1,387 @@
+//! The state of the simulated world, and its scheduler: which fiber continues, and when time passes.
+
+pub mod disk;
+pub mod network;
+
+use crate::chance::Random;
+use crate::fiber::{self, Fiber};
+use disk::Disks;
+use network::Network;
+use std::cell::RefCell;
+use std::collections::BTreeMap;
+use std::time::Duration;
+
+pub const MICROSECOND: u64 = 1_000;
+pub const MILLISECOND: u64 = 1_000 * MICROSECOND;
+pub const SECOND: u64 = 1_000 * MILLISECOND;
+/// The process of hosts and of the checker, which is never killed.
+pub const HOSTS: usize = 0;
+
+/// What a fiber waits for.
+#[derive(Clone, Copy, Debug, PartialEq, Eq)]
+pub enum Key {
+    /// A mutex, condition variable or channel, by its address. Only equality counts.
+    Address(usize),
+    /// A descriptor.
+    Descriptor(i32),
+    /// The end of a fiber.
+    Fiber(usize),
+    /// A lock of a file.
+    Lock,
+    Nothing,
+}
+
+#[derive(Clone, Copy, Debug, PartialEq, Eq)]
+enum State {
+    Ready,
+    Waiting(Key),
+    Ended,
+}
+
+/// A simulated thread.
+struct Thread {
+    process: usize,
+    name: String,
+    state: State,
+    until: Option<u64>,
+    is_late: bool,
+    fiber: Option<Fiber>,
+}
+
+/// How a process ended by itself.
+pub type Outcome = Result<(), (u8, String)>;
+
+/// A simulated process.
+pub struct Process {
+    pub machine: usize,
+    pub is_alive: bool,
+    /// It was stopped, as by SIGSTOP.
+    pub stopped_until: u64,
+    pub is_asked_to_end: bool,
+    pub outcome: Option<Outcome>,
+    /// What it wrote to standard error.
+    pub said: String,
+    /// The bytes of the disk when it began to serve.
+    pub served: Option<Vec<u8>>,
+}
+
+/// How likely faults are: once in so many times, never if 0.
+#[derive(Clone, Debug, Default)]
+pub struct Chances {
+    pub late_disk: u64,
+    pub failed_read: u64,
+    pub failed_write: u64,
+    pub failed_sync: u64,
+    pub short: u64,
+    /// A switch to another fiber where none is necessary.
+    pub yields: u64,
+}
+
+pub struct World {
+    pub random: Random,
+    pub now: u64,
+    pub steps: u64,
+    pub processes: Vec<Process>,
+    /// How often each machine was started.
+    pub boots: BTreeMap<usize, u64>,
+    pub net: Network,
+    pub disks: Disks,
+    pub chances: Chances,
+    pub log: Log,
+    threads: Vec<Thread>,
+    current: usize,
+    /// Injected faults by their names, with how often each happened.
+    pub injected: BTreeMap<&'static str, u64>,
+}
+
+/// The events of a run: their digest, and their lines if they are wanted.
+#[derive(Default)]
+pub struct Log {
+    pub digest: u64,
+    pub count: u64,
+    pub lines: Option<Vec<String>>,
+}
+
+impl Log {
+    pub fn put(&mut self, now: u64, text: &str) {
+        self.count += 1;
+        for byte in now.to_le_bytes().iter().chain(text.as_bytes()) {
+            self.digest = (self.digest ^ u64::from(*byte)).wrapping_mul(0x0100_0000_01b3);
+        }
+        if let Some(lines) = &mut self.lines {
+            lines.push(format!("{:>14.6} {text}", now as f64 / SECOND as f64));
+        }
+    }
+}
+
+thread_local! {
+    static WORLD: RefCell<Option<World>> = RefCell::new(None);
+}
+
+thread_local! {
+    static PLANTED: RefCell<String> = RefCell::new(String::new());
+}
+
+/// Plants a fault, in a copy of the target.
+pub fn plant(name: &str) {
+    PLANTED.with(|it| *it.borrow_mut() = name.to_owned());
+}
+
+pub fn is_planted(name: &str) -> bool {
+    PLANTED.with(|it| *it.borrow() == name)
+}
+
+/// Does something with the world. It must not switch.
+pub fn with<R>(act: impl FnOnce(&mut World) -> R) -> R {
+    WORLD.with(|it| act(it.borrow_mut().as_mut().expect("there is a world")))
+}
+
+/// Begins a world.
+pub fn begin(seed: u64, chances: Chances, is_logged: bool) {
+    let hosts = Process::new(usize::MAX);
+    let world = World {
+        random: Random::new(seed),
+        now: 1_000 * SECOND,
+        steps: 0,
+        processes: vec![hosts],
+        boots: BTreeMap::new(),
+        net: Network::default(),
+        disks: Disks::new(),
+        chances,
+        log: Log { lines: is_logged.then(Vec::new), ..Log::default() },
+        threads: Vec::new(),
+        current: usize::MAX,
+        injected: BTreeMap::new(),
+    };
+    WORLD.with(|it| *it.borrow_mut() = Some(world));
+}
+
+impl Process {
+    fn new(machine: usize) -> Process {
+        Process {
+            machine,
+            is_alive: true,
+            stopped_until: 0,
+            is_asked_to_end: false,
+            outcome: None,
+            said: String::new(),
+            served: None,
+        }
+    }
+}
+
+impl World {
+    pub fn note(&mut self, text: &str) {
+        let now = self.now;
+        self.log.put(now, text);
+    }
+
+    /// Whether a fault happens now, which is counted.
+    pub fn happens(&mut self, name: &'static str, once_in: u64) -> bool {
+        let happens = self.random.once_in(once_in);
+        if happens {
+            *self.injected.entry(name).or_default() += 1;
+        }
+        happens
+    }
+
+    /// The process whose fiber runs.
+    pub fn process(&self) -> usize {
+        self.threads.get(self.current).map_or(HOSTS, |it| it.process)
+    }
+
+    pub fn machine(&self) -> usize {
+        self.processes[self.process()].machine
+    }
+
+    /// Makes all fibers ready that wait for something.
+    pub fn wake_all(&mut self, key: Key) {
+        for it in self.threads.iter_mut().filter(|it| it.state == State::Waiting(key)) {
+            it.state = State::Ready;
+        }
+    }
+
+    /// Makes one of them ready.
+    pub fn wake_one(&mut self, key: Key) {
+        let all: Vec<usize> =
+            (0..self.threads.len()).filter(|it| self.threads[*it].state == State::Waiting(key)).collect();
+        if !all.is_empty() {
+            let chosen = all[self.random.index(all.len())];
+            self.threads[chosen].state = State::Ready;
+        }
+    }
+
+    fn spawn(&mut self, process: usize, name: &str, size: usize, work: fiber::Work) -> usize {
+        let fiber = Fiber::new(size, work, ended);
+        let thread = Thread {
+            process,
+            name: name.to_owned(),
+            state: State::Ready,
+            until: None,
+            is_late: false,
+            fiber: Some(fiber),
+        };
+        let free = self.threads.iter().position(|it| it.state == State::Ended && it.fiber.is_none());
+        match free {
+            Some(at) => {
+                self.threads[at] = thread;
+                at
+            }
+            None => {
+                self.threads.push(thread);
+                self.threads.len() - 1
+            }
+        }
+    }
+
+    pub fn has_ended(&self, thread: usize) -> bool {
+        self.threads[thread].state == State::Ended
+    }
+
+    /// The next fiber to run, and where its stack pointer is. Time passes first if all wait. `None` if nothing will
+    /// ever happen.
+    fn choose(&mut self) -> Option<*mut usize> {
+        loop {
+            self.wake_late();
+            while self.net.deliver(self.now).map(|keys| keys.into_iter().for_each(|it| self.wake_all(it))).is_some() {}
+            let now = self.now;
+            let processes = &self.processes;
+            let can_run = |it: &Thread| it.state == State::Ready && processes[it.process].stopped_until <= now;
+            let ready: Vec<usize> = (0..self.threads.len()).filter(|it| can_run(&self.threads[*it])).collect();
+            if !ready.is_empty() {
+                let chosen = ready[self.random.index(ready.len())];
+                self.now += 100 + self.random.below(1_500);
+                self.steps += 1;
+                self.current = chosen;
+                return self.threads[chosen].fiber.as_mut().map(Fiber::place);
+            }
+            let timers =
+                self.threads.iter().filter(|it| matches!(it.state, State::Waiting(_))).filter_map(|it| it.until);
+            let stops = self.threads.iter().filter(|it| it.state == State::Ready);
+            let stops = stops.map(|it| self.processes[it.process].stopped_until);
+            let next = timers.chain(stops).chain(self.net.next()).min()?;
+            self.now = self.now.max(next);
+        }
+    }
+
+    fn wake_late(&mut self) {
+        let now = self.now;
+        for it in &mut self.threads {
+            if matches!(it.state, State::Waiting(_)) && it.until.map_or(false, |until| until <= now) {
+                (it.state, it.is_late) = (State::Ready, true);
+            }
+        }
+    }
+
+    /// Ends a process at once: none of its fibers runs again, and nothing of it is dropped.
+    pub fn kill(&mut self, process: usize) {
+        self.processes[process].is_alive = false;
+        for it in self.threads.iter_mut().filter(|it| it.process == process && it.state != State::Ended) {
+            it.state = State::Ended;
+            it.fiber = None;
+        }
+        self.disks.unlock_all(process);
+        self.wake_all(Key::Lock);
+    }
+}
+
+/// A fiber has run to its end, or has panicked.
+fn ended(panicked: Option<String>) {
+    with(|world| {
+        let current = world.current;
+        world.threads[current].state = State::Ended;
+        if let Some(text) = panicked {
+            let process = world.threads[current].process;
+            let text = format!("panic of thread {}: {text}", world.threads[current].name);
+            world.note(&text);
+            world.processes[process].outcome = Some(Err((101, text)));
+        }
+        world.wake_all(Key::Fiber(current));
+    });
+    fiber::leave();
+}
+
+/// Runs one fiber until it waits. False if nothing will ever happen.
+pub fn step() -> bool {
+    let place = match with(World::choose) {
+        Some(place) => place,
+        None => return false,
+    };
+    fiber::resume(place);
+    with(|it| {
+        let current = it.current;
+        // Its stack is not used any more.
+        if it.threads[current].state == State::Ended {
+            it.threads[current].fiber = None;
+        }
+        it.current = usize::MAX;
+    });
+    true
+}
+
+/// Starts a process that runs this.
+pub fn start_process(machine: usize, name: &str, work: impl FnOnce() -> Outcome + 'static) -> usize {
+    with(|world| {
+        world.boots.entry(machine).or_insert(1);
+        world.processes.push(Process::new(machine));
+        let process = world.processes.len() - 1;
+        let name = format!("{name} {process}");
+        let run = move || {
+            let outcome = work();
+            with(|world| {
+                world.note(&format!("{name} ends: {outcome:?}"));
+                world.processes[process].outcome = Some(outcome);
+            });
+        };
+        world.spawn(process, "main", 8 << 20, Box::new(run));
+        process
+    })
+}
+
+/// Starts a thread in the process that runs now.
+pub fn spawn(name: &str, work: fiber::Work) -> usize {
+    with(|world| {
+        let process = world.process();
+        world.spawn(process, name, 2 << 20, work)
+    })
+}
+
+/// Waits until something is woken, or until a time; whether it was the time.
+pub fn wait(key: Key, until: Option<u64>) -> bool {
+    with(|world| {
+        let current = world.current;
+        let it = &mut world.threads[current];
+        (it.state, it.until, it.is_late) = (State::Waiting(key), until, false);
+    });
+    fiber::leave();
+    with(|world| {
+        let current = world.current;
+        world.threads[current].is_late
+    })
+}
+
+/// Waits for a time, in nanoseconds.
+pub fn pause(time: u64) {
+    let until = with(|it| it.now + time);
+    wait(Key::Nothing, Some(until));
+}
+
+pub fn sleep(time: Duration) {
+    pause(u64::try_from(time.as_nanos()).unwrap_or(u64::MAX / 4));
+}
+
+/// May let others run.
+pub fn may_yield() {
+    if fiber::is_inside() && with(|it| it.random.once_in(it.chances.yields)) {
+        yield_now();
+    }
+}
+
+/// Lets others run.
+pub fn yield_now() {
+    with(|world| {
+        let current = world.current;
+        world.threads[current].state = State::Ready;
+    });
+    fiber::leave();
+}
