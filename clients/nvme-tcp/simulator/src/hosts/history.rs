@@ -26,6 +26,8 @@ pub struct Version {
     pub state: State,
     /// Whether a Flush was answered that began after its answer, or it was written through.
     pub is_durable: bool,
+    /// Power was lost before its answer came.
+    is_cut: bool,
 }
 
 /// A value that was read in this time.
@@ -51,20 +53,29 @@ impl Version {
 
 impl Block {
     pub fn new() -> Block {
-        let zero = Version { value: 0, start: 0, end: 0, state: State::Done, is_durable: true };
+        let zero = Version { value: 0, start: 0, end: 0, state: State::Done, is_durable: true, is_cut: false };
         Block { versions: vec![zero], seen: Vec::new() }
     }
 
     pub fn begin(&mut self, value: u64, now: u64) {
-        self.versions.push(Version { value, start: now, end: OPEN, state: State::Pending, is_durable: false });
+        self.versions.push(Version {
+            value,
+            start: now,
+            end: OPEN,
+            state: State::Pending,
+            is_durable: false,
+            is_cut: false,
+        });
     }
 
     /// A write of a value that began at a time is answered, or given up.
     pub fn answer(&mut self, value: u64, begun: u64, end: u64, state: State, is_durable: bool) {
         let is_it = |it: &&mut Version| it.value == value && it.start == begun && it.state != State::Done;
         if let Some(it) = self.versions.iter_mut().find(is_it) {
-            (it.end, it.state) = (it.end.min(end), state);
             it.is_durable = is_durable && state == State::Done;
+            // An answer that was on the way when power was lost promises nothing, unless it was written through.
+            let is_lost = it.is_cut && state == State::Done && !is_durable;
+            (it.end, it.state) = (it.end.min(end), if is_lost { State::Maybe } else { state });
         }
         if state == State::Denied {
             self.versions.retain(|it| it.state != State::Denied);
@@ -127,6 +138,7 @@ impl Block {
             self.seen.clear();
         }
         for it in self.versions.iter_mut().filter(|it| !it.is_durable) {
+            it.is_cut |= it.state == State::Pending;
             it.state = State::Maybe;
             it.end = it.end.min(now);
         }
@@ -166,6 +178,19 @@ mod tests {
         assert!(block.clone().read(0, 60, 70).is_err(), "the first was flushed");
         assert!(block.clone().read(2, 60, 70).is_ok());
         assert!(block.read(1, 60, 70).is_ok() && block.read(2, 80, 90).is_err(), "it is old or new, and stays so");
+    }
+
+    #[test]
+    fn an_answer_after_a_power_cut_promises_what_was_written_through() {
+        for writes_through in [false, true] {
+            let mut block = written(&[(1, 10, 20)]);
+            block.flush(25);
+            block.begin(2, 30);
+            block.lose_power(40, writes_through);
+            block.answer(2, 30, 45, State::Done, writes_through);
+            assert!(block.clone().read(2, 60, 70).is_ok());
+            assert_eq!(block.read(1, 60, 70).is_ok(), !writes_through);
+        }
     }
 
     #[test]
