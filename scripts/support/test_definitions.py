@@ -1,4 +1,4 @@
-"""Tests of the rules by which scripts/wrong-definitions makes definitions wrong, and of the batches that it tries."""
+"""Tests of the rules by which scripts/wrong-definitions makes definitions wrong, and of its copies and batches."""
 import tempfile
 import unittest
 from pathlib import Path
@@ -7,6 +7,7 @@ from types import SimpleNamespace
 from support.definitions.batches import Witnesses, batches_of, merged
 from support.definitions.book import Book, mutants_of
 from support.definitions.citing import Sources
+from support.definitions.copies import Copy, Seeing, texts_of, verdicts_on
 from support.definitions.reading import definitions_of
 from support.definitions.refusals import Outcome, Reading
 from support.definitions.rules import wrong_definitions
@@ -172,7 +173,10 @@ class Prover:
 
     def __init__(self, crate, says):
         self.asker = self.wrong = crate
-        self.says, self.asked = says, []
+        self.says, self.asked, self.modules = says, [], set()
+
+    def saved(self):
+        return self.modules
 
     def check(self, batch, only, *_):
         names = " ".join(sorted(it.item.name for it in batch))
@@ -180,8 +184,22 @@ class Prover:
         text = self.says.get(self.asked[-1], "")
         return Said(1 if text else 0, text + PROVED, 1.0)
 
+    def check_copies(self, _copies, _seconds):
+        return Said(1, PROVED, 1.0)
 
-class Batches(unittest.TestCase):
+
+class CopyProver(Prover):
+    """A place that is given what the prover says of each copy: of a control, or of what is wrong, by its witness."""
+
+    def check_copies(self, copies, _seconds):
+        texts_of(copies)
+        self.asked.append([f"{it.witness.name}{' wrong' if it.mutant else ''}" for it in copies])
+        told = [(it, self.says.get(one, "fn one::NAME::w: proved\n")) for one, it in zip(self.asked[-1], copies)]
+        self.modules |= {it.saved_as for it, text in told if it.is_lemma and " proved" in text}
+        return Said(1, "".join(text.replace("NAME", it.name) for it, text in told) + PROVED, 1.0)
+
+
+class OneCrate(unittest.TestCase):
     def setUp(self):
         self.room = tempfile.TemporaryDirectory()
         self.addCleanup(self.room.cleanup)
@@ -213,6 +231,8 @@ class Batches(unittest.TestCase):
         return {one.item.name: it.kind for one, it in
                 Reading(Said(1, text + PROVED, 1.0), self.sources, "one", self.some(*names)).outcomes.items()}
 
+
+class Batches(OneCrate):
     def test_dependent_ones_are_apart(self):
         names = ("high", "low", "side", "same", "shut")
         found = [sorted(it.item.name for it in batch)
@@ -297,6 +317,79 @@ class Batches(unittest.TestCase):
             self.write({"specs/Low.antt": CRATE["specs/Low.antt"].replace(old, new)})
             self.read()
             self.assertEqual(book().is_recorded(self.mutants["low"]), stays, new)
+
+
+REFUSED = ("note: src/NAME.rt:6:1: it is not proved that what it ensures holds (`returns`)\n"
+           "fn one::NAME::w: no proof: expected answers in ./proofs/NAME/w/Answers.antt\n")
+BROKEN = "./proofs/C1OneShut.antt:6:1: error: `witness`: the two values differ\n"
+
+
+class Copies(OneCrate):
+    def copy(self, name, witness, is_wrong=True):
+        mutant = self.mutants[name]
+        item = next(it for it in self.sources.items if it.name == witness)
+        made = Copy(self.sources, "one", item, mutant.item, mutant if is_wrong else None)
+        made.name = "c0"
+        return made if made.collect(Seeing(self.sources).of(mutant.item)) else None
+
+    def outcomes(self, says, name):
+        """What two rounds make of a wrong definition, and what they ask."""
+        asking = Asking(CopyProver(self.crate, says), self.sources, self.some(name))
+        found = {}
+        for _ in range(2):
+            found.update(asking.try_copies([it for it in self.some(name) if it not in found]))
+        return [(it.kind, it.item.name) for it in found.values()], asking.place.asked
+
+    def test_a_clause(self):
+        texts = self.copy("low", "each#low").texts()
+        self.assertEqual(sorted(texts), ["specs/C0OneLow.antt", "src/c0.rt"])
+        self.assertIn("low n = 2", texts["specs/C0OneLow.antt"])
+        self.assertNotIn("side", texts["specs/C0OneLow.antt"])
+        code = texts["src/c0.rt"].split("\n")
+        self.assertIn("ghost use Rattle.one.specs.C0OneLow.{low};", code)
+        self.assertIn("ghost use Rattle.one.specs.Low.{side, same, shut};", code)
+        self.assertEqual(code[-4:], ["fn w()", "    ensures low { low 0 ≡ 1 }", "{}", ""])
+
+    def test_what_is_between(self):
+        texts = self.copy("low", "each#both", False).texts()
+        self.assertIn("low n = 1", texts["specs/C0OneLow.antt"])
+        # A clause whose answer is in a file is left to a check of its function.
+        self.assertIsNone(self.copy("low", "each#high"))
+
+    def test_a_lemma(self):
+        texts = self.copy("shut", "opened").texts()
+        self.assertEqual(sorted(texts), ["proofs/C0OneShut.antt", "specs/C0OneLow.antt"])
+        self.assertIn("shut n = 5", texts["specs/C0OneLow.antt"])
+        self.assertIn("pub witness : shut 0 ≡ 4\nunfolding shut\nwitness = refl", texts["proofs/C0OneShut.antt"])
+        self.assertIn("use Rattle.one.specs.C0OneLow.{shut}", texts["proofs/C0OneShut.antt"])
+        self.assertNotIn("named", texts["proofs/C0OneShut.antt"])
+        files, functions = texts_of([self.copy("low", "each#low"), self.copy("shut", "opened")])
+        first = files["proofs/AllCopies.antt"].split("\n")[0]
+        self.assertEqual(first, "use Rattle.one.proofs.C0OneShut.{witness as c0}")
+        self.assertEqual(functions, ["all_copies::w", "c0::w"])
+
+    def test_noticed(self):
+        self.assertEqual(self.outcomes({"each#same wrong": REFUSED}, "same"),
+                         ([("noticed", "each#same")], [["each#same", "each#same wrong"]]))
+        self.assertEqual(self.outcomes({"opened wrong": BROKEN}, "shut")[0], [("noticed", "opened")])
+
+    def test_what_is_proved_is_not_noticed(self):
+        self.assertEqual(self.outcomes({}, "same")[0], [])
+        self.assertEqual(self.outcomes({}, "shut")[0], [])
+
+    def test_a_copy_that_is_refused_as_it_is(self):
+        says = {"each#same": REFUSED, "each#same wrong": REFUSED}
+        self.assertEqual(self.outcomes(says, "same"), ([], [["each#same", "each#same wrong"]]))
+        # Of a lemma that no check read nothing is saved.
+        self.assertEqual(self.outcomes({"opened": "\n", "opened wrong": BROKEN}, "shut")[0], [])
+        lost = "proofs/C0OneShut.antt:6:1: error: `witness`: `shut` is not in scope\n"
+        self.assertEqual(self.outcomes({"opened": f"{lost} proved\n", "opened wrong": BROKEN}, "shut")[0], [])
+        # What is refused in one copy says nothing of another.
+        self.assertEqual(self.outcomes({"opened": BROKEN.replace("C1", "C7")}, "shut")[0], [])
+
+    def test_no_definition(self):
+        error = "specs/C1OneLow.antt:4:1: error: `same`: expected type `ℕ`\nfn one::NAME::w: not proved\n"
+        self.assertEqual(self.outcomes({"each#same wrong": error}, "same")[0], [("unread", "same")])
 
 
 if __name__ == "__main__":

@@ -1,7 +1,8 @@
 """Which wrong definitions there are, and what the records say of them.
 
 A line of crates/NAME/wrong-definitions.record has the file, the definition, the rule, a digest, the crate that noticed
-it, the item of that crate whose proof failed, and the goal. The digest is of the wrong definition and of all that the item
+it, the item of that crate whose proof failed, and the goal; or, if it is no definition at all, the definition, and why
+it is none. The digest is of the wrong definition and of all that the item
 rests on, comments and layout left out; if no item is named, of the crate. A line with another digest than the present
 one says nothing.
 crates/NAME/same-definitions lists those that mean the same, each with the reason.
@@ -28,6 +29,10 @@ class Mutant:
     item: object = None
 
 
+# How the words of a line begin on what is no definition.
+NONE = "no definition: "
+
+
 @dataclass(frozen=True)
 class Line:
     label: str
@@ -35,6 +40,10 @@ class Line:
     crate: str
     item: str
     words: str
+
+    @property
+    def kind(self):
+        return "unread" if self.words.startswith(NONE) else "noticed"
 
     def __str__(self):
         return " | ".join([self.label, self.digest, self.crate, self.item, self.words])
@@ -115,12 +124,13 @@ class Book:
         return bool(is_known) and line.digest == self.digest(mutant, line.crate, item)
 
     def take(self, mutant, outcome):
-        """Keeps what was noticed; nothing else is recorded."""
-        if outcome.kind == "noticed":
-            item = outcome.item
+        """Keeps what was noticed, or is no definition; nothing else is recorded."""
+        if outcome.kind == "noticed" or outcome.kind == "unread" and mutant.item:
+            item, head = (outcome.item, "") if outcome.kind == "noticed" else (outcome.item or mutant.item, NONE)
             named = f"{item.path} {item.name}" if item and self.is_one(item) else "-"
-            digest = self.digest(mutant, outcome.crate, item if named != "-" else None)
-            self.lines[mutant.label] = Line(mutant.label, digest, outcome.crate, named, outcome.words)
+            crate = item.crate if item else outcome.crate
+            digest = self.digest(mutant, crate, item if named != "-" else None)
+            self.lines[mutant.label] = Line(mutant.label, digest, crate, named, head + outcome.words)
 
     def is_one(self, item):
         """Whether no other item of the file has its name."""

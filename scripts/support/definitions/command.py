@@ -14,11 +14,13 @@ USAGE = """Makes definitions wrong by rule, and shows which of them no proof, la
 The rules, for each definition in crates/NAME/specs: a case made true, made false, or made what the next case says; a
 conjunct dropped; one assignment of a record's update left out; a number one more; a field that says something made to
 say nothing. A wrong definition is noticed if a crate that sees it is not proved any more, with its proofs as they are.
-Several share a check, if each has a lemma, a function or a clause that sees none of the others; those that such a check
-doesn't settle are tried alone. Without names it tries those of all crates. It begins with what `rt check` kept, so
-prove the crates first (`scripts/prove`). The last line is `N noticed, M unnoticed, K no definitions, U unsettled`; the
-status is 1 if one is unnoticed that crates/NAME/same-definitions does not list with its reason, and 2 if nothing could
-be tried."""
+First hundreds share a check of the crate: each is in a copy of what leads from one lemma or clause to the definition,
+and counts only if the same copy is proved with the definition as it is. The rest replace the crate's own definitions:
+several share a check, if each has a lemma, a function or a clause that sees none of the others, and are then tried
+alone. What is no definition at all is recorded as such. Without names it tries those of all crates. It begins with what
+`rt check` kept, so prove the crates first (`scripts/prove`); for copies the built libraries are enough. The last line
+is `N noticed, M unnoticed, K no definitions, U unsettled`; the status is 1 if one is unnoticed that
+crates/NAME/same-definitions does not list with its reason, and 2 if nothing could be tried."""
 
 
 def words_of(given):
@@ -33,6 +35,7 @@ def words_of(given):
                         help="the crates that are asked first, in this order; `own` is that of the definition")
     parser.add_argument("--jobs", type=int, default=1, metavar="N", help="N checks at once")
     parser.add_argument("--quick", action="store_true", help="batches alone: what they don't settle stays unsettled")
+    parser.add_argument("--copies", action="store_true", help="copies alone: what they don't settle stays unsettled")
     parser.add_argument("--again", type=int, default=0, metavar="N",
                         help="N recorded ones alone, each by what noticed it, and no others")
     parser.add_argument("--list", action="store_true", help="print them, and try none")
@@ -54,7 +57,7 @@ class Run:
         first = [it for name in names for it in [crate, *above] if it.name == name]
         trying = Trying(self.rt, self.sources, crate, mutants, above, self.words.jobs)
         try:
-            for mutant, outcome in trying.settle(first, self.words.quick):
+            for mutant, outcome in trying.settle(first, self.words.quick or self.words.copies, self.words.copies):
                 self.take(book, mutant, outcome)
         finally:
             book.write()
@@ -71,8 +74,8 @@ class Run:
             outcome = trying.asking(self.crates[line.crate]).try_again(it, book.item_of(line))
             kind = outcome.kind if outcome else "unsettled"
             self.counts[kind] += 1
-            say(f"{crate.name} {it.label}: {kind}{'' if kind == 'noticed' else ', its record is FALSE'}")
-            self.open += [] if kind == "noticed" else [it]
+            say(f"{crate.name} {it.label}: {kind}{'' if kind == line.kind else ', its record is FALSE'}")
+            self.open += [] if kind == line.kind else [it]
         trying.close()
 
     def take(self, book, mutant, outcome):
@@ -107,9 +110,10 @@ def main(root, given):
         say(f"wrong-definitions: {error}")
         return 2
     found = [it for name in books for it in mutants_of(crates[name], sources) if re.search(words.only, it.label)]
-    lacking = [it for it in found if not books[it.crate].is_recorded(it)]
-    say(f"{len(found)} wrong definitions, {len(found) - len(lacking)} of them recorded as noticed")
-    known = [it for it in found if it not in lacking]
+    known, lacking = [], []
+    for it in found:
+        (known if books[it.crate].is_recorded(it) else lacking).append(it)
+    say(f"{len(found)} wrong definitions, {len(known)} of them recorded")
     some, count = (known, words.again) if words.again else (lacking, words.sample)
     chosen = random.Random(words.seed).sample(some, min(count, len(some))) if count else some
     if words.list:

@@ -6,6 +6,7 @@ import tempfile
 from pathlib import Path
 
 from support.definitions.batches import merged
+from support.definitions.copies import texts_of
 from support.trial import linked, run
 
 # The processor seconds after which a check of a batch is given up, and one of the whole crate.
@@ -76,13 +77,39 @@ class Place:
                 linked(self.kept, kept)
             return self.run(room, kept, only, seconds)
 
+    def check_copies(self, copies, seconds):
+        """One check of the crate as it is, with these copies in modules of their own."""
+        with tempfile.TemporaryDirectory(dir=self.room) as room:
+            for part in self.rt.rtlib.PARTS:
+                if Path(self.asker.folder, part).is_dir():
+                    shutil.copytree(f"{self.asker.folder}/{part}", f"{room}/{part}")
+            files, functions = texts_of(copies)
+            for path, text in files.items():
+                Path(room, path).write_text(text)
+            for root, mark in ((f"src/{'main' if self.asker.is_program else 'lib'}.rt", "mod {};\n"),
+                               ("specs/Lib.antt", "pub mod {}\n"), ("proofs/Lib.antt", "pub mod {}\n")):
+                Path(room, root).parent.mkdir(exist_ok=True)
+                stems = [Path(it).stem for it in files if it.split("/")[0] == root.split("/")[0]]
+                with Path(room, root).open("a") as lib:
+                    lib.write("\n" + "".join(map(mark.format, stems)))
+            words = [*self.rt.rtlib.guarded(), self.rt.rtlib.RATTLE, "check"]
+            words += self.asker.words(["--jobs", "1"], keeps=False)
+            return self.checked([*words, "--incremental", self.kept], functions, seconds, room)
+
+    def saved(self):
+        """The modules that checks saved, as files."""
+        return {it.name for it in Path(self.kept).glob("*/*.oantt")}
+
     def run(self, room, kept, only, seconds):
         is_own = self.asker is self.wrong
         words = [*self.rt.rtlib.guarded(), self.rt.rtlib.RATTLE, "check"]
         words += self.asker.words(["--jobs", "1"], keeps=False) if is_own else source_words(
             self.rt, self.asker, self.wrong, f"{room}/wrong")
-        words += ["--incremental", kept, "--progress", *(word for it in only for word in ("--only", it))]
-        said = run(limited(words, seconds), f"{room}/wrong" if is_own else self.asker.folder)
+        folder = f"{room}/wrong" if is_own else self.asker.folder
+        return self.checked([*words, "--incremental", kept, "--progress"], only, seconds, folder)
+
+    def checked(self, words, only, seconds, folder):
+        said = run(limited([*words, *(word for it in only for word in ("--only", it))], seconds), folder)
         self.seconds, self.checks = self.seconds + said.seconds, self.checks + 1
         return said
 

@@ -1,19 +1,26 @@
-"""Tries wrong definitions: in batches over their own crate and the crates above, then in whole checks.
+"""Tries wrong definitions: by copies and in batches, over their own crate and the crates above, then in whole checks.
 
-A batch is one check of one copy. A definition counts as noticed only if an item is refused that sees no other wrong
-one of the copy. What no batch settles is tried in a whole check of its crate, and then of each crate above, several at
-once as long as these are proved, and in halves, down to one alone, if not.
+Copies are tried next to the crate as it is, hundreds in a check. A batch is one check of one copy of the crate: there a
+definition counts as noticed only if an item is refused that sees no other wrong one. What neither settles is tried in a
+whole check of its crate, and then of each crate above, several at once as long as these are proved, and in halves, down
+to one alone, if not.
 """
 import random
+import re
 from concurrent.futures import ThreadPoolExecutor
+from itertools import count, islice
 
 from support.definitions.batches import Witnesses, batches_of
+from support.definitions.copies import Copy, Seeing, verdicts_on
 from support.definitions.places import LONG, Place, unfinished
-from support.definitions.refusals import Outcome, Reading
+from support.definitions.refusals import Outcome, Reading, is_whole
 from support.proving import say
 
 # The most wrong definitions that share a check, how many witnesses of each are asked, and how often in one crate.
 MOST, FEW, ROUNDS = 24, 2, 2
+# The most copies that share a check, how many witnesses are tried by copies, and the processor seconds of a check.
+COPIES, TIMES, COPIES_LIMIT = 300, 6, 1500
+UNREAD = re.compile(r"\bsrc/(c\d+)\.rt:\d+:\d+: error")
 
 
 def spread(mutants):
@@ -27,7 +34,9 @@ class Asking:
     def __init__(self, place, sources, mutants):
         self.place, self.sources, self.name = place, sources, place.asker.name
         self.witnesses = Witnesses(sources, self.name, [*dict.fromkeys(it.item for it in mutants)])
-        self.tried = {}
+        # Copies of what is right, by definition; those that wrong definitions were tried by; which of them are proved.
+        self.tried, self.copied, self.asked, self.sound, self.seeing = {}, {}, {}, {}, Seeing(sources)
+        self.numbers = count()
 
     def batches(self, mutants):
         return batches_of(mutants, self.witnesses, self.tried, MOST)
@@ -62,9 +71,68 @@ class Asking:
         half = len(batch) // 2
         return {**self.try_batch(batch[:half]), **self.try_batch(batch[half:])}
 
+    def candidates(self, definition):
+        """Copies of the definition's witnesses, the most special first."""
+        if definition not in self.copied:
+            made = (Copy(self.sources, self.name, it.item, definition) for it in self.witnesses.of.get(definition, ())
+                    if it.item.kind != "function")
+            seeing = self.seeing.of(definition)
+            some = islice((it for it in made if it.collect(seeing)), 3 * TIMES)
+            # A function takes some ten modules, a lemma one.
+            self.copied[definition] = sorted(some, key=lambda it: len(it.files) + (0 if it.is_lemma else 5))
+        return [it for it in self.copied[definition] if self.sound.get(it, True)]
+
+    def try_copies(self, mutants):
+        """Tries wrong definitions by a copy of one witness each; gives what came of some of them."""
+        made, controls = [], []
+        for it in mutants:
+            asked = self.asked.setdefault(it, set())
+            control = next((one for one in self.candidates(it.item) if one not in asked), None)
+            if control:
+                asked.add(control)
+                made.append((control, control.with_wrong(it)))
+                controls += [] if control in self.sound or control in controls else [control]
+        said = self.check_copies([*controls, *(it for _, it in made)])
+        self.sound.update((it, said.get(it) is not None and said[it].kind == "proved") for it in controls)
+        found = {}
+        for control, it in made:
+            if self.sound[control] and said.get(it):
+                self.mark(it.mutant, [it.witness])
+                found.update({} if said[it].kind == "proved" else {it.mutant: said[it]})
+        return found
+
+    def check_copies(self, copies):
+        """What checks say of copies; nothing of those that can't be read."""
+        found = {}
+        for start in range(0, len(copies), COPIES):
+            found.update(self.check_some(copies[start:start + COPIES]))
+        return found
+
+    def check_some(self, copies):
+        # No name is used again: what was saved of a module is of its only text.
+        for it in copies:
+            it.name = f"c{next(self.numbers)}"
+        said = self.place.check_copies(copies, COPIES_LIMIT)
+        say(f"  {self.name}: {len(copies)} copies in {said.seconds:.0f} processor seconds, status {said.status}")
+        if is_whole(said):
+            verdicts = verdicts_on(copies, said.lines, self.place.saved())
+            return {it: it.outcome(said.lines, verdicts[it]) for it in copies}
+        if said.status == 2:
+            say(f"  {self.name}: {said.text.strip()[-200:]}")
+            return {}
+        bad = set(UNREAD.findall(said.text))
+        rest = [it for it in copies if it.name not in bad]
+        if len(copies) == 1 or not rest:
+            return {}
+        if len(rest) < len(copies):
+            return self.check_some(rest)
+        half = len(copies) // 2
+        return {**self.check_some(copies[:half]), **self.check_some(copies[half:])}
+
     def try_again(self, mutant, item):
         """Tries one alone by an item that noticed it; gives what came of it."""
-        only = list(self.witnesses.asks.get(item, ())[:1])
+        seeing = [it.item for it in self.witnesses.of.get(mutant.item, ())[:1]]
+        only = [it for one in [item, *seeing] for it in self.witnesses.asks.get(one, ())[:1]][:1]
         said = self.place.check([mutant], only, LONG)
         return Reading(said, self.sources, self.name, [mutant]).outcomes.get(mutant)
 
@@ -122,13 +190,17 @@ class Trying:
     def seconds(self):
         return sum(it.place.seconds for it in self.askings.values())
 
-    def settle(self, first, is_quick=False):
+    def settle(self, first, is_quick=False, copies_alone=False):
         """Tries all; gives each with what came of it. `first` are the crates that are asked in batches; a quick run ends
         there, and gives the rest as unsettled."""
         left = spread(self.mutants)
         for asker in first:
             asking = self.asking(asker)
-            for _ in range(ROUNDS):
+            for _ in range(TIMES):
+                for one, outcome in asking.try_copies(left).items():
+                    left.remove(one)
+                    yield one, outcome
+            for _ in range(0 if copies_alone else ROUNDS):
                 for one, outcome in self.in_batches(asking, left):
                     left.remove(one)
                     yield one, outcome

@@ -1,0 +1,241 @@
+"""Copies of what leads from a witness to a definition, so that hundreds of wrong definitions share a check.
+
+A copy has the items that see the definition, in modules of their own next to those of the crate, and for a clause a
+function. All else it imports from where it is. Nothing else in the check sees it, so what is refused in it
+is due to its definition, if the same copy is proved with the definition as it is.
+"""
+import re
+
+from support.definitions.book import wrong_item
+from support.definitions.items import ADVICE, USE, clauses_of, parts_of, without_comments
+from support.definitions.refusals import ERROR, GOAL, MISSING, SECONDARY, Outcome
+from support.definitions.rules import with_words
+from support.trial import NOT_PROVED
+
+NAMED = re.compile(r"\b(\w+)::(specs|proofs)::([\w:]+)")
+VERDICT = re.compile(r"fn \w+::(c\d+)::w: (.*)")
+CODE_USE = re.compile(r"^use [\w:]+.*;$", re.M)
+PUBLIC = re.compile(r"(?:\w+ )?pub ")
+# What asks for all lemmas: a file that imports them, line by line, and a function that needs it.
+ASKING = """ghost use Rattle.std.specs.Prelude.{◌≡◌, true};
+
+#[tactic(auto, using(crate::proofs::AllCopies::all))]
+fn w()
+    ensures trivial { true ≡ true }
+{}
+"""
+ALL = "use Rattle.std.proofs.Common.{◌≡◌, true, refl}\n\npub all : true ≡ true\nall = refl\n"
+
+
+class Seeing:
+    """Which items see a definition: by what they say, or in the body of a definition."""
+
+    def __init__(self, sources):
+        self.users, self.found = {}, {}
+        for item in sources.items:
+            for it in item.shown | (item.inner if item.kind == "specs" else set()):
+                self.users.setdefault(it, []).append(item)
+
+    def of(self, definition):
+        if definition not in self.found:
+            found, waiting = {definition}, [definition]
+            while waiting:
+                new = [it for it in self.users.get(waiting.pop(), ()) if it not in found]
+                found.update(new)
+                waiting += new
+            self.found[definition] = found
+        return self.found[definition]
+
+
+def is_text(item):
+    """Whether an item is a definition or a lemma rather than code, or a part of a function's proof."""
+    return item.kind in ("specs", "proofs") and item.path.count("/") == 1
+
+
+class Copy:
+    """A witness with a copy of all that leads to a definition; `mutant` is what is wrong there, nothing in a control."""
+
+    def __init__(self, sources, crate, witness, definition, mutant=None):
+        self.sources, self.crate, self.witness, self.definition, self.mutant = sources, crate, witness, definition, mutant
+        self.name, self.lines, self.kept, self.left = "", {}, {witness}, set()
+
+    def collect(self, seeing):
+        """Finds the items to copy; whether a copy can be made."""
+        while True:
+            named = {one for it in self.kept for one in it.shown | it.inner}
+            places = {(it.crate, it.path) for it in self.kept}
+            new = {it for it in named if it in seeing or (it.crate, it.path) in places and is_text(it)
+                   and not PUBLIC.match(it.head)}
+            if new <= self.kept:
+                break
+            self.kept |= new
+        self.files = {(it.crate, it.path): self.sources.files[it.crate, it.path] for it in self.kept}
+        self.left = {it for it in named - self.kept if (it.crate, it.path) in self.files}
+        is_by_hand = any(it.kind == "proofs" and not is_text(it) for it in named)
+        return self.definition in self.kept and not is_by_hand and all(
+            it is self.witness or is_text(it) for it in self.kept) and (
+            is_text(self.witness) or bool(re.search(r"\bfn\(\)", self.witness.body)))
+
+    def with_wrong(self, mutant):
+        """The same copy with a wrong definition."""
+        made = Copy(self.sources, self.crate, self.witness, self.definition, mutant)
+        made.kept, made.left, made.files = self.kept, self.left, self.files
+        return made
+
+    @property
+    def place(self):
+        return self.witness.crate, self.witness.path
+
+    @property
+    def is_lemma(self):
+        return self.witness.kind == "proofs"
+
+    @property
+    def import_line(self):
+        return f"use Rattle.{self.crate}.proofs.{self.module(self.files[self.place])}.{{witness as {self.name}}}"
+
+    @property
+    def saved_as(self):
+        return f"Rattle-{self.crate}-proofs.{self.module(self.files[self.place])}.oantt"
+
+    def module(self, file):
+        words = re.split(r"[\W_]+", f"{file.crate}/{file.path.partition('/')[2].rpartition('.')[0]}")
+        return self.name.capitalize() + "".join(it.capitalize() for it in words)
+
+    def path_of(self, file):
+        return f"{file.path.partition('/')[0]}/{self.module(file)}.antt"
+
+    def copied(self, path):
+        """The copy of the file that a path leads into, and what the path has after it."""
+        if path[0] == "Rattle" and len(path) > 3:
+            for count in range(len(path), 3, -1):
+                file = self.files.get((path[1], f"{path[2]}/{'/'.join(path[3:count])}.antt"))
+                if file:
+                    return file, ["Rattle", self.crate, path[2], self.module(file), *path[count:]]
+        return None, path
+
+    def is_kept(self, file, name):
+        return any(file.names.get(it) in self.kept for it in parts_of(name.partition(" as ")[0].strip()))
+
+    def uses(self, text):
+        """The lines that import, where what is copied is imported from the copy."""
+        found = []
+        for it in USE.finditer(text):
+            path, names = it[1].split("."), it[2].split(",") if it[2] is not None else None
+            head = it[0].strip()[:it[0].strip().index(it[1])]
+            end = ";" if it[0].endswith(";") else ""
+            if names is None and not it[3]:
+                path, names = path[:-1], [path[-1]]
+            file, new = self.copied(path if names is not None else [*path, ""])
+            if names is None:
+                found.append(it[0].strip())
+                found += [f"{head}{'.'.join(new[:-1])} as copied-{it[3]}{end}"] if file else []
+                continue
+            names = [one.strip() for one in names if one.strip()]
+            own = [one for one in names if file and self.is_kept(file, one)]
+            for prefix, some in ((new, own), (path, [one for one in names if one not in own])):
+                found += [f"{head}{'.'.join(prefix)}.{{{', '.join(some)}}}{end}"] if some else []
+        return found
+
+    def item_text(self, file, item):
+        is_wrong = self.mutant and item is self.definition
+        text = "\n".join(file.text.split("\n")[item.first:item.last + 1])
+        text = wrong_item(file.text, self.mutant) if is_wrong else text
+        if item is self.witness:
+            text = re.sub(rf"(?<![\w.-]){re.escape(item.name)}(?![\w-])", "witness", text)
+        text = text if PUBLIC.match(text) else re.sub(r"^((?:abbrev |unfoldable |opaque )?)", r"\1pub ", text, count=1)
+        for alias, path in file.aliases.items():
+            other = self.copied([*path, ""])[0]
+            if other:
+                text = re.sub(rf"(?<![\w.-]){re.escape(alias)}\.([\w-]+)", lambda it: (
+                    f"copied-{it[0]}" if self.is_kept(other, it[1]) else it[0]), text)
+        return text
+
+    def file_text(self, file):
+        """A copy of a file."""
+        left = [it.name for it in file.items if it in self.left]
+        stem = file.path.rpartition(".")[0].replace("/", ".")
+        uses = self.uses(file.text) + ([f"use Rattle.{file.crate}.{stem}.{{{', '.join(left)}}}"] if left else [])
+        texts = {it: self.item_text(file, it) for it in file.items if it in self.kept}
+        text = "\n".join([*uses, "", *texts.values(), ""])
+        text = with_words(text) if self.mutant and self.definition in texts else text
+        self.lines.update((it, text.count("\n", 0, max(text.find(one), 0))) for it, one in texts.items())
+        return text
+
+    def advice(self, text):
+        """Advice to the prover, where what is copied is named in the copy."""
+        def named(it):
+            crate = self.crate if it[1] == "crate" else it[1]
+            file, new = self.copied(["Rattle", crate, it[2], *it[3].split("::")])
+            return f"crate::{it[2]}::{'::'.join(new[3:])}" if file and self.is_kept(file, new[-1]) else it[0]
+        return NAMED.sub(named, text)
+
+    def code(self):
+        """A function with the clause, with its module."""
+        file = self.sources.files[self.place]
+        function = self.witness.function
+        top = without_comments(file.text.split("\n")[function.first:function.body + 1])
+        clause = dict(clauses_of(top))[self.witness.name.partition("#")[2]].rstrip().removesuffix("{}").rstrip()
+        head = re.sub(rf"(?:pub )?\bfn {function.word}\b", "fn w", top[:top.index(" ensures")].rstrip(), count=1)
+        modules = [it for it in ADVICE.findall(file.text) if it.startswith("#!")]
+        uses = [it if it.startswith("ghost") else f"ghost {it}" for it in self.uses(file.text)]
+        return "\n".join(["//! A copy.", *map(self.advice, modules), *CODE_USE.findall(file.text), *uses, "",
+                          self.advice(head), clause, "{}", ""])
+
+    def texts(self):
+        """All files of the copy."""
+        made = {} if self.is_lemma else {f"src/{self.name}.rt": self.code()}
+        for (_, path), file in self.files.items():
+            if not path.startswith("src/"):
+                made[self.path_of(file)] = self.file_text(file)
+        return made
+
+    def item_at(self, path, line, name):
+        file = next((it for it in self.files.values() if path == self.path_of(it)), None)
+        if not file:
+            return None
+        before = [it for it in file.items if self.lines.get(it, line) < line]
+        named = self.witness if name == "witness" else file.names.get(name)
+        return named or (before[-1] if before else None)
+
+    def errors(self, said):
+        """The items of the copy that are refused, each with the first words on it that are for its own sake, if any."""
+        found = {}
+        for it in filter(None, map(ERROR.match, said)):
+            item = self.item_at(it["path"], int(it["line"]), it["name"] or "")
+            is_first = not SECONDARY.search(it["words"]) and item and (
+                item.kind == "specs" or not MISSING.search(it["words"]))
+            if item and not found.get(item):
+                found[item] = f"{item.name}: {it['words']}" if is_first else ""
+        return found
+
+    def outcome(self, said, verdict):
+        """What a check says of the copy, by the verdict on it: an outcome, whose kind is `proved` if all is."""
+        errors = self.errors(said)
+        for item, words in errors.items():
+            if words and not any(it in self.sources.basis(item)[0] for it in errors if it is not item):
+                kind = "unread" if item.kind == "specs" else "noticed"
+                return Outcome(kind, item.crate, item, " ".join(words.split())[:160])
+        goals = [it for it in map(GOAL.match, said) if it and it["path"] == f"src/{self.name}.rt"]
+        if verdict == "proved" and not errors:
+            return Outcome("proved", self.crate, self.witness, "")
+        if goals and not errors and verdict.startswith(NOT_PROVED):
+            goal = "returns-clause-" + self.witness.name.partition("#")[2]
+            words = f"{goal.removesuffix('-clause-')}: {goals[0]['words']}"
+            return Outcome("noticed", self.crate, self.witness, " ".join(words.split())[:160])
+        return None
+
+
+def verdicts_on(copies, said, saved):
+    """The prover's words on each copy. On a lemma it has none: that is proved if its module was saved."""
+    heads = (VERDICT.match(it) for it in said)
+    found = {it[1]: it[2] for it in heads if it}
+    return {it: ("proved" if it.saved_as in saved else "") if it.is_lemma else found.get(it.name, "") for it in copies}
+
+
+def texts_of(copies):
+    """All files of these copies, with what asks for the lemmas, and the functions to ask for."""
+    files = {path: text for it in copies for path, text in it.texts().items()}
+    lines = [it.import_line for it in copies if it.is_lemma]
+    files |= {"proofs/AllCopies.antt": "\n".join([*lines, ALL]), "src/all_copies.rt": ASKING}
+    return files, ["all_copies::w", *(f"{it.name}::w" for it in copies if not it.is_lemma)]
