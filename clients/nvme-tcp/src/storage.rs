@@ -6,6 +6,7 @@
 //! has its blocks. So the order of commands is that of their executions, and nobody reads older bytes.
 
 pub mod aligned;
+mod barriers;
 mod cache;
 mod file;
 mod frames;
@@ -30,6 +31,7 @@ use crate::log::warn;
 use crate::nvme::{BLOCK, COMPARE, MOST_BLOCKS, READ};
 use crate::status::{READ_ERROR, WRITE_FAULT};
 use crate::system::ZeroRoom;
+use barriers::Barriers;
 use cache::Cache;
 pub use file::{blocks_of, is_read_only, Image, ImageDisk};
 use frames::{Extent, FRAME_BYTES};
@@ -66,6 +68,9 @@ pub struct Storage {
     /// Frames with blocks to write, by their places in the cache, and the numbers of those that are being written.
     queued: Vec<usize>,
     writing: Vec<u64>,
+    /// Which commands may go to the disk, and the frames of those that may not.
+    barriers: Barriers,
+    held: Vec<usize>,
     bytes_written: usize,
     /// With `--write-through`, what was written and is not synced, and the numbers of the syncs that it waits for.
     unsynced: Vec<(u64, Extent)>,
@@ -109,6 +114,8 @@ impl Storage {
             zeroing: Vec::new(),
             queued: Vec::new(),
             writing: Vec::new(),
+            barriers: Barriers::default(),
+            held: Vec::new(),
             bytes_written: 0,
             unsynced: Vec::new(),
             asked: HashMap::new(),
@@ -301,6 +308,13 @@ impl Storage {
         Some(owed)
     }
 
+    /// What the commands so far have changed waits for this many records of the journal, of which `synced` are synced.
+    pub fn wait_for_records(&mut self, records: u64, synced: u64) {
+        if self.barriers.note(self.ledger.next(), records, synced) {
+            self.queued.append(&mut self.held);
+        }
+    }
+
     /// Begins what can begin of writes, zeroes and syncs. If there is one host alone, small writes into the system's
     /// memory are made at once: that is faster than to wake a thread, and no other host waits for it.
     pub fn begin(&mut self, is_alone: bool) -> Outcome<()> {
@@ -397,6 +411,7 @@ impl Storage {
         self.ready.extend(flushes);
         self.ready.extend(self.asked.keys());
         self.queued.clear();
+        self.held.clear();
         self.feed();
         Ok(())
     }
@@ -406,8 +421,9 @@ impl Storage {
         self.disk.check().map_err(Fault::Image)
     }
 
-    /// Waits until the disk has all blocks, at the end.
+    /// Waits until the disk has all blocks, at the end. The journal has synced all records.
     pub fn sync(&mut self) -> Outcome<()> {
+        self.wait_for_records(0, u64::MAX);
         self.begin(false)?;
         while self.workers.under_way != 0 {
             match self.workers.wait() {

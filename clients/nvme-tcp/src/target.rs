@@ -244,9 +244,12 @@ impl<'a> Target<'a> {
     /// is served and waits for that.
     pub fn hand_over(&mut self, is_alone: bool) -> Outcome<Handed> {
         let records = self.journal.as_ref().map_or(0, |it| it.count);
-        if self.has_records(records)? {
+        if let Some(storage) = &mut self.storage {
+            if let Some(journal) = &self.journal {
+                storage.wait_for_records(records, journal.synced()?);
+            }
             let is_only_host = is_alone && self.associations.iter().flatten().count() == 1;
-            self.storage.as_mut().map_or(Ok(()), |it| it.begin(is_only_host))?;
+            storage.begin(is_only_host)?;
         }
         Ok(Handed { batches: self.machine.begin_run(is_alone)?, records })
     }

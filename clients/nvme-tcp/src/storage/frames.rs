@@ -139,6 +139,8 @@ pub struct Frame {
     pub failed: Mask,
     /// Blocks of a write in progress: only one at a time is.
     pub writing: Mask,
+    /// The ticket of the last command that has changed it.
+    pub changed_by: u64,
     /// Whether it is in the list of frames to write.
     pub is_queued: bool,
     /// How many commands wait for it and need it to stay.
@@ -163,6 +165,7 @@ impl Frame {
             coming: 0,
             failed: 0,
             writing: 0,
+            changed_by: 0,
             is_queued: false,
             users: 0,
             is_recent: true,

@@ -10,6 +10,7 @@ use std::thread;
 use std::time::Duration;
 
 mod ahead;
+mod records;
 
 const SIZE: usize = BLOCK as usize;
 /// Frames of the smallest cache, in blocks.

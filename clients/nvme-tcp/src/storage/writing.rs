@@ -19,6 +19,7 @@ const SMALL: usize = 16 << 10;
 /// Zeroes that are in progress, or wait for writes and other zeroes.
 pub struct Zeroing {
     pub extent: Extent,
+    changed_by: u64,
     tickets: Vec<u64>,
     is_running: bool,
 }
@@ -37,6 +38,7 @@ impl Storage {
             }
             let is_queued = self.cache.change(place, |frame| {
                 frame.dirty |= part.mask();
+                frame.changed_by = ticket;
                 frame.tickets.push(ticket);
                 mem::replace(&mut frame.is_queued, true)
             });
@@ -73,7 +75,7 @@ impl Storage {
                 });
             }
         }
-        self.zeroing.push(Zeroing { extent, tickets, is_running: false });
+        self.zeroing.push(Zeroing { extent, changed_by: ticket, tickets, is_running: false });
     }
 
     pub(super) fn begin_writes(&mut self, is_alone: bool) -> Outcome<()> {
@@ -84,6 +86,10 @@ impl Storage {
             // The rest waits until some of these end.
             if self.bytes_written + group.len() * FRAME_BYTES >= MOST_IN_PROGRESS {
                 self.queued.push(place);
+                continue;
+            }
+            if !self.barriers.has_passed(self.cache.at(place).changed_by) {
+                self.held.push(place);
                 continue;
             }
             if !self.may_write(place) {
@@ -142,6 +148,7 @@ impl Storage {
         for at in 0..self.zeroing.len() {
             let extent = self.zeroing[at].extent;
             let is_held = self.zeroing[at].is_running
+                || !self.barriers.has_passed(self.zeroing[at].changed_by)
                 || self.zeroing[..at].iter().any(|it| it.extent.meets(extent))
                 || self.writing.iter().any(|number| extent.frames().contains(number));
             if !is_held {
