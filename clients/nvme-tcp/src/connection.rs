@@ -195,14 +195,21 @@ impl Connection {
 
     /// Takes the bytes of the PDU in hand, and executes it if it is complete then; whether it was whole.
     fn take_one(&mut self, target: &mut Target<'_>, input: &mut Input) -> Outcome<bool> {
+        if input.fresh().is_empty() {
+            return Ok(false);
+        }
         let taken = self.framing.take(input.fresh());
         input.taken(taken.count);
         if let Some(fatal) = taken.breach {
             self.terminate(target, fatal);
         }
-        let layout = match (self.framing.stage(), self.framing.layout()) {
-            (Stage::Whole, Some(layout)) => layout,
-            _ => return Ok(false),
+        let layout = match self.framing.stage() {
+            Stage::Whole => self.framing.layout(),
+            _ => None,
+        };
+        let layout = match layout {
+            Some(layout) => layout,
+            None => return Ok(false),
         };
         let unit = input.unit();
         let verdict = self.framing.judge(pdu::has_right_header(&layout, unit), pdu::has_right_data(&layout, unit));

@@ -19,6 +19,8 @@
 use crate::layout;
 use crate::raw::Associations;
 use crate::{OpenError, OK};
+use std::cell::Cell;
+use std::sync::atomic::{AtomicU64, Ordering};
 
 /// The fields of a completion that an answer sets.
 #[derive(Clone, Copy, Debug, PartialEq, Eq)]
@@ -157,12 +159,15 @@ pub enum Command {
 #[derive(Clone)]
 pub struct Session {
     raw: layout::Session,
+    /// What `live` has returned, and the stamp of the associations then.
+    seen: Cell<(u64, Live)>,
 }
 
 impl Session {
     /// A connection that has not connected. No other connection ever has its number.
     pub fn new(connection: u64) -> Session {
-        Session { raw: layout::Session { connection, request: layout::Request::NONE, kind: 0, index: 0, qid: 0 } }
+        let raw = layout::Session { connection, request: layout::Request::NONE, kind: 0, index: 0, qid: 0 };
+        Session { raw, seen: Cell::new((0, Live::NotConnected)) }
     }
 
     /// The number of the connection.
@@ -187,6 +192,13 @@ const AUTHENTICATING: u32 = 1;
 /// The controllers of a subsystem and their associations.
 pub struct Fabrics {
     raw: Associations,
+    /// Another number after each call that may change them or a session. No two have the same.
+    stamp: u64,
+}
+
+fn next_stamp() -> u64 {
+    static NEXT: AtomicU64 = AtomicU64::new(1);
+    NEXT.fetch_add(1, Ordering::Relaxed)
 }
 
 impl Fabrics {
@@ -196,7 +208,7 @@ impl Fabrics {
         let halves = |it: &u128| layout::HostId { low: *it as u64, high: (it >> 64) as u64 };
         let (answer, raw) = Associations::open(&hosts.iter().map(halves).collect::<Vec<_>>(), has_keys);
         match answer {
-            OK => Ok(Fabrics { raw }),
+            OK => Ok(Fabrics { raw, stamp: next_stamp() }),
             25 => Err(OpenError::TooMany),
             _ => Err(OpenError::NoMemory),
         }
@@ -205,8 +217,15 @@ impl Fabrics {
     /// What a connection is now: a queue only as long as its association names it.
     #[inline]
     pub fn live(&mut self, session: &Session) -> Live {
-        let it = self.raw.live(&session.raw);
-        Live::of(it.kind, it.index, it.qid)
+        match session.seen.get() {
+            (stamp, live) if stamp == self.stamp => live,
+            _ => {
+                let it = self.raw.live(&session.raw);
+                let live = Live::of(it.kind, it.index, it.qid);
+                session.seen.set((self.stamp, live));
+                live
+            }
+        }
     }
 
     /// The connection of a queue of the controller at a place.
@@ -239,18 +258,21 @@ impl Fabrics {
 
     /// Executes a Connect. A refused one changes nothing.
     pub fn connect(&mut self, session: &mut Session, entry: &[u8; 64], data: &[u8; 1024], judged: &Judged) -> Answer {
+        self.stamp = next_stamp();
         self.raw.connect(&mut session.raw, entry, data, &judged.into()).into()
     }
 
     /// The host of a connection has authenticated itself: the connection becomes the queue that its Connect asked for, or
     /// ends. Any other connection stays what it is.
     pub fn authenticate(&mut self, session: &mut Session, is_enabled: bool, created: (u8, u8)) -> Answer {
+        self.stamp = next_stamp();
         self.raw.authenticate(&mut session.raw, is_enabled, created.0, created.1).into()
     }
 
     /// Executes a Fabrics command other than Connect, as far as associations go; or the answer of the first rule that is
     /// broken, and nothing has changed.
     pub fn execute(&mut self, session: &mut Session, entry: &[u8; 64]) -> Result<Command, Answer> {
+        self.stamp = next_stamp();
         let it = self.raw.execute(&mut session.raw, entry);
         match it.command {
             1 => Ok(Command::Authenticate),
@@ -263,11 +285,13 @@ impl Fabrics {
 
     /// A connection ends: its queue ends, and with the Admin Queue the association.
     pub fn end_session(&mut self, session: &mut Session) {
+        self.stamp = next_stamp();
         self.raw.end_session(&mut session.raw);
     }
 
     /// The association of the controller at a place ends, if there is one.
     pub fn end_association(&mut self, index: u16) {
+        self.stamp = next_stamp();
         self.raw.end_association(index);
     }
 }
