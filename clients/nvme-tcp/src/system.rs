@@ -256,7 +256,7 @@ fn has_only_zeros(page: usize) -> bool {
     words.iter().all(|it| *it == 0)
 }
 
-/// Gives back pages of large mappings that have only zeros, and so take memory for nothing: the memory of the
+/// Returns pages of large mappings that have only zeros, and so take memory for nothing, to the system: the memory of the
 /// controllers' hosts, of which the target uses little. It is called before there is a second thread.
 pub fn give_back_zeros() -> io::Result<()> {
     let maps = std::fs::read_to_string("/proc/self/maps")?;
@@ -324,7 +324,7 @@ impl ZeroRoom {
         unsafe { std::slice::from_raw_parts_mut(self.at, count) }
     }
 
-    /// Unmaps its pages, which count as memory of the process, unless it was lent since this was asked last.
+    /// Unmaps its pages, which count as memory of the process, unless it was borrowed since the last call.
     pub fn rest(&mut self) {
         if !std::mem::take(&mut self.is_used) && self.mapped != 0 {
             unsafe { madvise(self.at, self.mapped, NOT_NEEDED) };

@@ -214,7 +214,7 @@ class LongZeroes(TargetTest):
         self.assertEqual(b.read(1, 1).data, b.read(65535, 1).data)
 
     def test_memory(self) -> None:
-        """The room of so many zeros takes no memory afterwards."""
+        """The room of 32 MiB of zeros takes no memory afterwards."""
         host = self.host()
         before = self.target.memory()
         for _ in range(2):

@@ -10,10 +10,10 @@ from support.documents.texts import Finding
 FOLDER = Path(__file__).resolve().parent
 OUTSIDE, LISTED = FOLDER / "outside.txt", FOLDER / "memory.txt"
 HERE = "scripts/support/documents/memory.txt"
-# The calls of the library for C that may take memory: those that open a subsystem, and those that put long texts
-# together. No event does.
-TAKING_CALLS = ("nvmesim_open", "nvmesim_open_lent", "nvmesim_open_brought", "nvmesim_read_configuration",
-                "nvmesim_configuration_lines", "nvmesim_look")
+# The calls of the library for C that may take memory: those that open a subsystem or its associations, and those that
+# put long texts together. No event does.
+TAKING_CALLS = ("nvmesim_open", "nvmesim_open_lent", "nvmesim_open_brought", "nvmesim_fabrics_open",
+                "nvmesim_read_configuration", "nvmesim_configuration_lines", "nvmesim_look")
 
 
 @dataclass

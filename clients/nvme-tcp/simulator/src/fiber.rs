@@ -43,7 +43,7 @@ pub type Work = Box<dyn FnOnce()>;
 thread_local! {
     /// The stack pointer of the simulator itself while a fiber runs.
     static ROOT: Cell<usize> = Cell::new(0);
-    /// Where the running fiber's is left.
+    /// The place that keeps the running fiber's.
     static CURRENT: Cell<*mut usize> = Cell::new(std::ptr::null_mut());
 }
 
@@ -66,7 +66,7 @@ impl Fiber {
         Fiber { _stack: stack, left: Box::new(left) }
     }
 
-    /// Where its stack pointer is kept.
+    /// The place that keeps its stack pointer.
     pub fn place(&mut self) -> *mut usize {
         &mut *self.left
     }

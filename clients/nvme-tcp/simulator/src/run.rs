@@ -12,7 +12,7 @@ use std::rc::Rc;
 /// Steps without which a seed counts as one without progress: for each command, and for each run.
 const STEPS: (u64, u64) = (20_000, 20_000_000);
 
-/// What came of a seed.
+/// The result of a seed.
 pub struct Report {
     pub violations: Vec<String>,
     pub sent: u64,

@@ -16,7 +16,7 @@ pub type Act = fn(Vec<OsString>) -> Outcome;
 pub const DEVICE: &str = "/dev/shared";
 pub const IMAGE: &str = "/image";
 const CONFIG: &str = "/etc/config";
-/// Where the blocks of a volume begin.
+/// The place of the first block of a volume.
 const BLOCKS_AT: usize = 2 << 20;
 /// How long a target may take to start, with a lease to wait out, and to end in order.
 const LONGEST: u64 = 60 * SECOND;

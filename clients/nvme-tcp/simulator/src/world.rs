@@ -65,7 +65,7 @@ pub struct Process {
     pub served: Option<Vec<u8>>,
 }
 
-/// How likely faults are: once in so many times, never if 0.
+/// How likely faults are: once in this number of times, never if 0.
 #[derive(Clone, Debug, Default)]
 pub struct Chances {
     pub late_disk: u64,
@@ -73,7 +73,7 @@ pub struct Chances {
     pub failed_write: u64,
     pub failed_sync: u64,
     pub short: u64,
-    /// A switch to another fiber where none is necessary.
+    /// A switch to another fiber when none is necessary.
     pub yields: u64,
 }
 
@@ -94,7 +94,7 @@ pub struct World {
     pub injected: BTreeMap<&'static str, u64>,
 }
 
-/// The events of a run: their digest, and their lines if they are wanted.
+/// The events of a run: their digest, and their lines if somebody reads them.
 #[derive(Default)]
 pub struct Log {
     pub digest: u64,

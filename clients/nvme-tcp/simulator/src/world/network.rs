@@ -52,7 +52,7 @@ pub struct Listening {
     pub poll: Option<i32>,
 }
 
-/// What a poll watches: the descriptor, its name, and whether it is to be read and written.
+/// What a poll watches: the descriptor, its name, and whether reads and writes are awaited.
 #[derive(Debug, Default)]
 pub struct Poll {
     pub watched: BTreeMap<i32, (u64, bool, bool)>,
