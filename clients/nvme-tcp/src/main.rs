@@ -52,6 +52,9 @@ mod listening;
 mod locking;
 mod log;
 mod machine;
+#[cfg(not(feature = "simulated"))]
+#[allow(unsafe_code)]
+mod memory;
 mod messages;
 mod metrics;
 mod names;
@@ -112,7 +115,7 @@ use std::path::{Path, PathBuf};
 use std::process::ExitCode;
 use std::sync::Arc;
 #[cfg(feature = "simulated")]
-use std::system;
+use std::{memory, system};
 use storage::{Disk, Image, Storage};
 use target::Target;
 use volume::{Owned, Volume, VolumeDisk};
@@ -312,10 +315,8 @@ fn serve_over(options: Options, configuration: Configuration, source: Source, ke
         None => Subsystem::open_lent(&configuration.config, &mut bytes[BLOCKS_AT..]),
     };
     let subsystem = subsystem.map_err(end(REFUSED, options.config.display()))?;
-    if source.blocks().is_some() {
-        // Memory is all that it costs if this fails.
-        let _ = system::give_back_zeros();
-    }
+    // Memory is all that it costs if this fails.
+    let _ = source.blocks().map(|_| memory::give_back_zeros());
     let control =
         optional(&options.control, |path| locking::bind(path.display(), options.waits, || control::listen(path)))?;
     let Taken { journal, disk, identity } = take(source, &options, &configuration)?;

@@ -1,4 +1,4 @@
-"""The sources: what is unsafe is in four short files, numbers of the standard in one, and the crate's tests pass."""
+"""The sources: what is unsafe is in five short files, numbers of the standard in one, and the crate's tests pass."""
 import os
 import re
 import shutil
@@ -9,8 +9,9 @@ from pathlib import Path
 from tests.targets import has_keys
 
 HERE = Path(__file__).resolve().parent.parent
-# The calls of libcrypto, the instruction of the processor, the system calls, and the calls of the library.
-UNSAFE = [HERE / "src/libcrypto.rs", HERE / "src/processor.rs", HERE / "src/system.rs", HERE.parent / "rust/src/raw.rs"]
+# The calls of libcrypto, mapped memory, the instruction of the processor, the system calls, the calls of the library.
+UNSAFE = [*(HERE / "src" / f"{it}.rs" for it in ("libcrypto", "memory", "processor", "system")),
+          HERE.parent / "rust/src/raw.rs"]
 MOST_LINES = 267
 
 

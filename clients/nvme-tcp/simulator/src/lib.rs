@@ -21,7 +21,7 @@ mod shadow;
 mod supervisor;
 mod world;
 
-pub use shadow::{collections, fs, io, net, os, process, sync, system, thread, time};
+pub use shadow::{collections, fs, io, memory, net, os, process, sync, system, thread, time};
 
 /// Whether a fault is planted in this run: `simulator/plant` writes calls of this into a copy of the target.
 pub fn planted(name: &str) -> bool {

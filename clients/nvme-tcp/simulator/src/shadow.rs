@@ -4,6 +4,7 @@
 pub mod collections;
 pub mod fs;
 pub mod io;
+pub mod memory;
 pub mod net;
 pub mod os;
 pub mod process;
