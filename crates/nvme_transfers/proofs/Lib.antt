@@ -1,0 +1,11 @@
+mod Fitting
+mod Slots
+mod Steps
+mod Lists
+mod Ordered
+mod Flights
+mod OwnParts
+mod PartsOnce
+mod Ending
+mod Completing
+mod Rooms
