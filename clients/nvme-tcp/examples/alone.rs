@@ -3,16 +3,18 @@
 #![deny(unsafe_code)]
 
 #[allow(dead_code)]
-#[path = "../src/bytes.rs"]
-mod bytes;
-#[allow(dead_code)]
-#[path = "../src/window.rs"]
-mod window;
+#[path = "../src"]
+mod sources {
+    pub mod bytes;
+    pub mod target {
+        pub mod window;
+    }
+}
 
-use bytes::put;
 use nvmesim::{Attachment, Config, Controller, Executed, Fetched, Namespace, Refusal, Subsystem};
+use sources::bytes::put;
+use sources::target::window::{self, Room};
 use std::time::{Duration, Instant};
-use window::Room;
 
 const BLOCKS: u64 = 32768;
 const ENTRIES: u64 = 64;

@@ -4,35 +4,31 @@
 #![deny(unsafe_code)]
 
 #[allow(dead_code)]
-#[path = "../src/bytes.rs"]
-mod bytes;
-#[allow(dead_code)]
-#[path = "../src/digest.rs"]
-mod digest;
-#[allow(dead_code)]
-#[path = "../src/output.rs"]
-mod output;
-#[allow(dead_code)]
-#[path = "../src/pdu.rs"]
-mod pdu;
-#[allow(unsafe_code)]
-#[path = "../src/processor.rs"]
-mod processor;
-#[allow(dead_code, unsafe_code)]
-#[path = "../src/system.rs"]
-mod system;
-#[allow(dead_code)]
-#[path = "../src/window.rs"]
-mod window;
+#[path = "../src"]
+mod sources {
+    pub mod bytes;
+    pub mod digest;
+    #[allow(unsafe_code)]
+    pub mod system;
+    pub mod target {
+        pub mod window;
+    }
+    pub mod transport {
+        pub mod output;
+        pub mod pdu;
+    }
+}
 
-use bytes::{first, put, u16_at, u32_at, u64_at};
-use output::Output;
-use pdu::{Agreed, HostData, Kind, Layout};
+use sources::bytes::{first, put, u16_at, u32_at, u64_at};
+use sources::system::{Interest, Poll};
+use sources::transport::output::Output;
+use sources::transport::pdu;
+use sources::transport::pdu::{Agreed, HostData, Kind, Layout};
+use sources::{bytes, digest, target, transport};
 use std::collections::HashMap;
 use std::convert::Infallible;
 use std::io::{Read, Result, Write};
 use std::net::{TcpListener, TcpStream};
-use system::{Interest, Poll};
 
 const PLAIN: Agreed = Agreed { header_digests: false, data_digests: false, alignment: 0 };
 const BYTES: usize = 32768 * 512;

@@ -1,16 +1,26 @@
 //! Admin commands: those that Fabrics, Linux or nvme-cli need and the subsystem leaves out. All others are the
 //! subsystem's.
 
-use crate::answer::Answer;
-use crate::bytes::{u16_at, u32_at};
-use crate::controller::Data;
+pub mod access;
+pub mod events;
+pub mod features;
+pub mod health;
+pub mod identify;
+pub mod identity;
+pub mod inventory;
+pub mod pages;
+
+use crate::bytes::u16_at;
+use crate::fabrics::association::Association;
 use crate::fault::Outcome;
+use crate::nvme::entry::SubmissionEntry;
+use crate::nvme::status::{EVENT_LIMIT, INVALID_OPCODE, SUCCESS};
 use crate::nvme::{
     ABORT, ASYNCHRONOUS_EVENT_REQUEST, CREATE_COMPLETION_QUEUE, CREATE_SUBMISSION_QUEUE, DELETE_COMPLETION_QUEUE,
-    DELETE_SUBMISSION_QUEUE, ENTRY, GET_FEATURES, GET_LOG_PAGE, IDENTIFY, KEEP_ALIVE, NAMESPACE_ATTACHMENT,
-    SET_FEATURES,
+    DELETE_SUBMISSION_QUEUE, GET_FEATURES, GET_LOG_PAGE, IDENTIFY, KEEP_ALIVE, NAMESPACE_ATTACHMENT, SET_FEATURES,
 };
-use crate::status::{EVENT_LIMIT, INVALID_OPCODE, SUCCESS};
+use crate::target::answer::Answer;
+use crate::target::controller::Data;
 use crate::target::{Effect, Target};
 
 /// Double word 0 of an Abort that has aborted nothing.
@@ -18,21 +28,21 @@ const NOT_ABORTED: u32 = 1;
 
 impl Target<'_> {
     /// Executes an admin command. One that waits for an event has no answer yet.
-    pub fn admin(&mut self, index: usize, entry: &[u8; ENTRY], data: Data<'_>) -> Outcome<Option<Answer>> {
-        let answer = match entry[0] {
+    pub fn admin(&mut self, index: usize, entry: &SubmissionEntry, data: Data<'_>) -> Outcome<Option<Answer>> {
+        let answer = match entry.opcode() {
             // Fabrics has Connect and Disconnect in their place.
             DELETE_SUBMISSION_QUEUE | CREATE_SUBMISSION_QUEUE | DELETE_COMPLETION_QUEUE | CREATE_COMPLETION_QUEUE => {
                 Answer::of(INVALID_OPCODE)
             }
             KEEP_ALIVE => {
-                self.associations[index].iter_mut().for_each(|it| it.hear());
+                self.associations[index].iter_mut().for_each(Association::hear);
                 Answer::of(SUCCESS)
             }
-            ASYNCHRONOUS_EVENT_REQUEST => return self.request_event(index, u16_at(entry, 2)),
+            ASYNCHRONOUS_EVENT_REQUEST => return Ok(self.request_event(index, entry.command_id())),
             // A command ends before the next one is received, except those that wait for an event or are held.
             ABORT => Answer { dw0: NOT_ABORTED, ..Answer::of(SUCCESS) },
             IDENTIFY => self.identify(index, entry, data)?,
-            GET_LOG_PAGE => self.get_log_page(index, entry, asked(data))?,
+            GET_LOG_PAGE => self.get_log_page(index, entry, asked(data)),
             SET_FEATURES => self.set_features(index, entry, data)?,
             GET_FEATURES => self.get_features(index, entry, data)?,
             _ => self.plain(index, entry, data)?,
@@ -41,24 +51,24 @@ impl Target<'_> {
     }
 
     /// An admin command that is the subsystem's.
-    pub fn plain(&mut self, index: usize, entry: &[u8; ENTRY], data: Data<'_>) -> Outcome<Answer> {
+    pub fn plain(&mut self, index: usize, entry: &SubmissionEntry, data: Data<'_>) -> Outcome<Answer> {
         let completed = self.controllers[index].run(&mut self.machine, 0, entry, data)?;
         if completed.status == SUCCESS {
-            self.follow(index, 0, entry, data, &completed)?;
-            if let (NAMESPACE_ATTACHMENT, Data::ToController(list)) = (entry[0], data) {
-                self.tell_attachments(u32_at(entry, 4), list);
+            self.follow(index, 0, entry, data, &completed);
+            if let (NAMESPACE_ATTACHMENT, Data::ToController(list)) = (entry.opcode(), data) {
+                self.tell_attachments(entry.namespace_id(), list);
             }
         }
         Ok(Answer::completed(completed, self.controllers[index].cntlid, asked(data)))
     }
 
-    fn request_event(&mut self, index: usize, cid: u16) -> Outcome<Option<Answer>> {
+    fn request_event(&mut self, index: usize, cid: u16) -> Option<Answer> {
         let is_held = self.associations[index].as_mut().map_or(false, |it| it.events.hold(cid));
         if !is_held {
-            return Ok(Some(Answer::of(EVENT_LIMIT)));
+            return Some(Answer::of(EVENT_LIMIT));
         }
         self.tell_events(index);
-        Ok(None)
+        None
     }
 
     /// Notifies the controllers of a list that a namespace was attached or detached.
@@ -91,11 +101,8 @@ impl Target<'_> {
 }
 
 /// The entry of an Asynchronous Event Request.
-fn request_entry(cid: u16) -> [u8; ENTRY] {
-    let mut entry = [0; ENTRY];
-    entry[0] = ASYNCHRONOUS_EVENT_REQUEST;
-    entry[2..4].copy_from_slice(&cid.to_le_bytes());
-    entry
+fn request_entry(cid: u16) -> SubmissionEntry {
+    SubmissionEntry::new(ASYNCHRONOUS_EVENT_REQUEST, cid, 0)
 }
 
 /// The length of the host's buffer for a command's data.

@@ -5,10 +5,21 @@
 //! challenge. The host replies with its response, and may challenge the controller; then Success1 has the controller's
 //! response, and the host accepts that by Success2. Any error is answered by Failure1, which ends the authentication.
 
-use crate::crypto::{is_same, Exchange, Failed, Hash, Wiped};
-use crate::groups::Group;
-use crate::keys::Host;
-use crate::messages::{self, Explanation, Message, Negotiate, Reply};
+pub mod crypto;
+pub mod groups;
+pub mod keys;
+#[cfg_attr(feature = "authentication", allow(unsafe_code))]
+#[cfg_attr(not(feature = "authentication"), path = "authentication/no_libcrypto.rs")]
+pub mod libcrypto;
+pub mod messages;
+pub mod proving;
+pub mod secret;
+pub mod worker;
+
+use crate::authentication::crypto::{is_same, Exchange, Failed, Hash, Wiped};
+use crate::authentication::groups::Group;
+use crate::authentication::keys::Host;
+use crate::authentication::messages::{Explanation, Message, Negotiate, Reply};
 use std::mem;
 use std::sync::Arc;
 
@@ -28,8 +39,8 @@ impl Default for Choice {
 /// The host, with its secrets, and the name of the subsystem.
 #[derive(Clone, Debug)]
 pub struct Peers {
-    pub host: Arc<Host>,
-    pub subsystem: Arc<str>,
+    host: Arc<Host>,
+    subsystem: Arc<str>,
 }
 
 /// A challenge of the controller. It is used once.
@@ -252,7 +263,7 @@ impl Authentication {
     }
 
     /// Takes the result of work. It is dropped if the host has sent another message meanwhile.
-    pub fn finish(&mut self, done: Done) {
+    fn finish(&mut self, done: Done) {
         self.step = match (done, mem::replace(&mut self.step, Step::Over)) {
             (Done::Drawn(Ok(offer)), Step::Draw(peers)) => Step::Challenge(offer, peers),
             (Done::Drawn(Err(error)), Step::Draw(_)) => Step::Failure1(error.into()),
@@ -275,7 +286,7 @@ impl Authentication {
     }
 
     /// Whether the next message completes the authentication.
-    pub fn proves_next(&self) -> bool {
+    fn proves_next(&self) -> bool {
         matches!(self.step, Step::Success1(None))
     }
 

@@ -39,3 +39,23 @@ pub fn put(bytes: &mut [u8], at: usize, part: &[u8]) {
 pub fn text_of(field: &[u8]) -> &[u8] {
     field.split(|byte| *byte == 0).next().unwrap_or(field)
 }
+
+#[cfg(test)]
+mod tests {
+    use super::*;
+
+    #[test]
+    fn the_lowest_byte_comes_first() {
+        let mut bytes = [0, 1, 2, 3, 4, 5, 6, 7, 8, 9];
+        assert_eq!((u16_at(&bytes, 1), u32_at(&bytes, 2)), (0x0201, 0x0504_0302));
+        assert_eq!(u64_at(&bytes, 2), 0x0908_0706_0504_0302);
+        put(&mut bytes, 8, &[7, 7]);
+        *first_mut(&mut bytes) = [5, 6];
+        assert_eq!((first(&bytes), bytes[8..].to_vec()), (&[5, 6, 2], vec![7, 7]));
+    }
+
+    #[test]
+    fn a_text_ends_before_its_first_zero() {
+        assert_eq!((text_of(b"nqn\0x\0"), text_of(b"nqn"), text_of(b"\0")), (&b"nqn"[..], &b"nqn"[..], &b""[..]));
+    }
+}

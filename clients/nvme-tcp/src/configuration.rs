@@ -3,14 +3,40 @@
 
 use crate::nvme::MOST_NAMESPACES;
 use crate::options::host_id;
-use nvmesim::{read_configuration, Config, ConfigError, Controller, ANY_SIZE, SCRIPT_BLOCKS};
-use std::fmt::Write;
+use nvmesim::{read_configuration, Config, ConfigError, Controller, LineError, ANY_SIZE, SCRIPT_BLOCKS};
+use std::error::Error;
+use std::fmt;
 use std::fs::File;
 use std::io::{self, Read};
 use std::path::Path;
 
 /// One more than the longest text that the library accepts.
 const MOST_TEXT: u64 = (4 << 20) + 1;
+
+/// Why a text is refused. The message begins with line and column, or with a space.
+#[derive(Clone, Debug, PartialEq, Eq)]
+pub enum ConfigurationError {
+    /// If a host is written as a UUID, the number to write instead.
+    Text(ConfigError, Option<u128>),
+    /// It has no lines.
+    Lines(LineError),
+}
+
+impl fmt::Display for ConfigurationError {
+    fn fmt(&self, f: &mut fmt::Formatter<'_>) -> fmt::Result {
+        match self {
+            ConfigurationError::Text(error, _) if error.reason.is_empty() => write!(f, " {:?}", error.name)?,
+            ConfigurationError::Text(error, _) => f.write_str(&error.reason)?,
+            ConfigurationError::Lines(error) => write!(f, " {error}")?,
+        }
+        if let ConfigurationError::Text(_, Some(host)) = self {
+            write!(f, "; the host with this HOSTID is {host:#034x}")?;
+        }
+        Ok(())
+    }
+}
+
+impl Error for ConfigurationError {}
 
 /// A subsystem as CONFIG describes it. Its hosts have no drivers, since Linux is theirs.
 #[derive(Clone, Debug, PartialEq, Eq)]
@@ -28,11 +54,11 @@ pub fn text_of(path: &Path) -> io::Result<Vec<u8>> {
 }
 
 impl Configuration {
-    /// Reads a text, and checks it for an image of `blocks` blocks. The error begins with line and column.
-    pub fn read(text: &[u8], blocks: u64) -> Result<Configuration, String> {
-        let mut config = read_configuration(text, ANY_SIZE, blocks).map_err(|error| told(text, &error))?;
+    /// Reads a text, and checks it for an image of `blocks` blocks.
+    pub fn read(text: &[u8], blocks: u64) -> Result<Configuration, ConfigurationError> {
+        let mut config = read_configuration(text, ANY_SIZE, blocks).map_err(|error| refused(text, error))?;
         config.controllers.iter_mut().for_each(|it| it.raw = true);
-        let lines = config.lines().map_err(|error| format!(" {error}"))?;
+        let lines = config.lines().map_err(ConfigurationError::Lines)?;
         Ok(Configuration { config, lines })
     }
 
@@ -63,21 +89,18 @@ impl Configuration {
     }
 
     /// Whether a namespace may have this identifier.
-    pub fn may_be(&self, nsid: u32) -> bool {
+    pub fn may_be(nsid: u32) -> bool {
         (1..=MOST_NAMESPACES).contains(&nsid)
     }
 }
 
-/// Why a text is refused. If a host is written as a UUID, the reason names the number to write instead.
-fn told(text: &[u8], error: &ConfigError) -> String {
-    let mut told = if error.reason.is_empty() { format!(" {:?}", error.name) } else { error.reason.clone() };
+/// A refusal of a text, with the number of the host at its place, if that is written as a UUID.
+fn refused(text: &[u8], error: ConfigError) -> ConfigurationError {
     let line = text.split(|byte| *byte == b'\n').nth(error.line.wrapping_sub(1)).unwrap_or_default();
     let rest = line.get(error.column.wrapping_sub(1)..).unwrap_or_default();
     let word = rest.split(u8::is_ascii_whitespace).next().unwrap_or_default();
-    if let Some(bytes) = std::str::from_utf8(word).ok().and_then(host_id) {
-        let _ = write!(told, "; the host with this HOSTID is {:#034x}", u128::from_le_bytes(bytes));
-    }
-    told
+    let host = std::str::from_utf8(word).ok().and_then(host_id);
+    ConfigurationError::Text(error, host.map(u128::from_le_bytes))
 }
 
 #[cfg(test)]
@@ -92,6 +115,18 @@ mod tests {
         assert_eq!(Configuration::read(read.lines.as_bytes(), 72).as_ref(), Ok(&read));
         assert!(read.lines.starts_with("controller 1 host 0xa1 raw\ncontroller 2 host 0xb2 raw\n"), "{}", read.lines);
         assert_eq!((read.total_blocks(), read.blocks(3), read.blocks(2)), (72, 8, 0));
-        assert!(Configuration::read(text, 71).unwrap_err().starts_with("5:1: namespace 3 ends after the 71 blocks"));
+        assert!(Configuration::read(text, 71)
+            .unwrap_err()
+            .to_string()
+            .starts_with("5:1: namespace 3 ends after the 71 blocks"));
+    }
+    #[test]
+    fn a_host_as_a_uuid_is_refused_with_its_number() {
+        let text = b"controller 1 host a1000000-0000-0000-0000-000000000000\n";
+        let told = Configuration::read(text, 0).unwrap_err().to_string();
+        assert!(told.starts_with("1:19: "), "{told}");
+        assert!(told.ends_with("; the host with this HOSTID is 0x000000000000000000000000000000a1"), "{told}");
+        let told = Configuration::read(b"controller 1 host x\n", 0).unwrap_err().to_string();
+        assert!(!told.contains("HOSTID"), "{told}");
     }
 }

@@ -1,11 +1,16 @@
 //! Lines of control, for tests and operators.
 
-use crate::connection::is_passing;
+pub mod counters;
+pub mod host_log;
+pub mod log;
+pub mod metrics;
+
+use crate::control::log::Topic;
 use crate::fault::Outcome;
-use crate::log::Topic;
-use crate::output::Output;
 use crate::system::Interest;
 use crate::target::Target;
+use crate::transport::connection::is_passing;
+use crate::transport::output::Output;
 use std::fmt::Write;
 use std::fs::{self, DirBuilder};
 use std::io::{self, Read, Write as _};

@@ -1,6 +1,7 @@
 //! CRC32C, the digest of NVMe/TCP and of recordings: by the processor's instruction, or else by tables.
 
-use crate::processor;
+#[allow(unsafe_code)]
+mod processor;
 
 /// What each byte adds, with 0 to 7 bytes after it.
 static TABLES: [[u32; 256]; 8] = tables();

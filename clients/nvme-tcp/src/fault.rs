@@ -1,6 +1,7 @@
 //! What ends the target.
 
 use nvmesim::Refusal;
+use std::error::Error;
 use std::{fmt, io};
 
 /// Why the target ends. Nothing that a host sends is such a fault.
@@ -32,6 +33,8 @@ impl fmt::Display for Fault {
         }
     }
 }
+
+impl Error for Fault {}
 
 impl From<Refusal> for Fault {
     fn from(refusal: Refusal) -> Self {

@@ -5,20 +5,25 @@
 //! after a change is answered or written to the disk before the record of that change is synced. So an incomplete record
 //! was never answered, and is dropped.
 
+pub mod checkpoint;
 pub mod folder;
+pub mod record;
+pub mod restoring;
+pub mod state;
 
-use crate::controller::Data;
+use crate::admin::identity::Identity;
 use crate::fault::{Fault, Outcome};
-use crate::identity::Identity;
+use crate::files::watched::changed;
+use crate::journal::record::{newest, push_command, push_cycle, Current, Record};
+use crate::nvme::entry::SubmissionEntry;
 use crate::nvme::{
-    ENTRY, NAMESPACE_ATTACHMENT, RESERVATION_ACQUIRE, RESERVATION_NOTIFICATION, RESERVATION_REGISTER,
-    RESERVATION_RELEASE, SET_FEATURES, WRITE_PROTECTION,
+    NAMESPACE_ATTACHMENT, RESERVATION_ACQUIRE, RESERVATION_NOTIFICATION, RESERVATION_REGISTER, RESERVATION_RELEASE,
+    SET_FEATURES, WRITE_PROTECTION,
 };
-use crate::record::{newest, push_command, push_cycle, Current, Record};
-use crate::watched::changed;
-use std::io::{self, ErrorKind, Read, Write};
+use crate::target::controller::Data;
+use crate::waker::{self, Waker, Wakeup};
+use std::io::{self, ErrorKind};
 use std::mem;
-use std::os::unix::net::UnixStream;
 use std::sync::atomic::{AtomicU64, Ordering};
 use std::sync::{Arc, Condvar, Mutex, MutexGuard, PoisonError};
 use std::thread::{self, JoinHandle};
@@ -73,7 +78,7 @@ struct Given {
 }
 
 /// The records in flight to the log.
-struct Way {
+struct Queue {
     given: Mutex<Given>,
     has_more: Condvar,
     /// How many records are synced, or `FAILED`.
@@ -81,7 +86,7 @@ struct Way {
     failure: Mutex<Option<io::Error>>,
 }
 
-impl Way {
+impl Queue {
     fn given(&self) -> MutexGuard<'_, Given> {
         self.given.lock().unwrap_or_else(PoisonError::into_inner)
     }
@@ -99,7 +104,7 @@ impl Way {
     }
 
     /// Appends records until the target ends, or one can't be kept.
-    fn serve(&self, log: &mut dyn Log, mut rope: &UnixStream) {
+    fn serve(&self, log: &mut dyn Log, waker: &Waker) {
         let mut records = Vec::with_capacity(ROOM);
         while let Some(count) = self.take(&mut records) {
             let result = log.append(&records);
@@ -109,8 +114,7 @@ impl Way {
                 *self.failure.lock().unwrap_or_else(PoisonError::into_inner) = Some(error);
             }
             self.synced.store(if has_failed { FAILED } else { count }, Ordering::Release);
-            // If the socket is full, the loop has something to read already.
-            let _ = rope.write(&[1]);
+            waker.wake();
             if has_failed {
                 return;
             }
@@ -120,11 +124,11 @@ impl Way {
 
 /// A journal that is kept.
 pub struct Journal {
-    way: Arc<Way>,
+    queue: Arc<Queue>,
     thread: JoinHandle<Box<dyn Log>>,
     hold: Box<dyn Hold>,
     /// Readable when records are synced.
-    pub bell: UnixStream,
+    pub wakeup: Wakeup,
     /// How many records were given to the thread.
     pub count: u64,
     pub epoch: u64,
@@ -135,26 +139,24 @@ impl Journal {
     /// Starts the thread.
     pub fn start(mut log: Box<dyn Log>, hold: Box<dyn Hold>, epoch: u64, identity: Identity) -> io::Result<Journal> {
         let given = Given { records: Vec::with_capacity(ROOM), count: 0, is_over: false };
-        let way = Arc::new(Way {
+        let queue = Arc::new(Queue {
             given: Mutex::new(given),
             has_more: Condvar::new(),
             synced: AtomicU64::new(0),
             failure: Mutex::new(None),
         });
-        let (bell, rope) = UnixStream::pair()?;
-        bell.set_nonblocking(true)?;
-        rope.set_nonblocking(true)?;
-        let theirs = Arc::clone(&way);
+        let (waker, wakeup) = waker::pair()?;
+        let theirs = Arc::clone(&queue);
         let serve = move || {
-            theirs.serve(&mut *log, &rope);
+            theirs.serve(&mut *log, &waker);
             log
         };
         let thread = thread::Builder::new().name("journal".to_owned()).spawn(serve)?;
-        Ok(Journal { way, thread, hold, bell, count: 0, epoch, identity })
+        Ok(Journal { queue, thread, hold, wakeup, count: 0, epoch, identity })
     }
 
     /// Appends a command that has succeeded, if it changes what is to last.
-    pub fn follow(&mut self, cntlid: u16, qid: u16, entry: &[u8; ENTRY], data: Data<'_>) {
+    pub fn follow(&mut self, cntlid: u16, qid: u16, entry: &SubmissionEntry, data: Data<'_>) {
         if lasts(qid, entry) {
             let data = if let Data::ToController(bytes) = data { bytes } else { &[] };
             let epoch = self.epoch;
@@ -170,28 +172,22 @@ impl Journal {
 
     fn give(&mut self, push: impl FnOnce(&mut Vec<u8>)) {
         self.count += 1;
-        let mut given = self.way.given();
+        let mut given = self.queue.given();
         push(&mut given.records);
         given.count = self.count;
         drop(given);
-        self.way.has_more.notify_one();
+        self.queue.has_more.notify_one();
     }
 
     /// How many records are synced.
     pub fn synced(&self) -> Outcome<u64> {
-        match self.way.synced.load(Ordering::Acquire) {
+        match self.queue.synced.load(Ordering::Acquire) {
             FAILED => {
-                let failure = self.way.failure.lock().unwrap_or_else(PoisonError::into_inner).take();
+                let failure = self.queue.failure.lock().unwrap_or_else(PoisonError::into_inner).take();
                 Err(Fault::Journal(failure.unwrap_or_else(|| ErrorKind::BrokenPipe.into())))
             }
             count => Ok(count),
         }
-    }
-
-    /// Silences the bell.
-    pub fn hear(&self) {
-        let mut rings = [0; 64];
-        while matches!((&self.bell).read(&mut rings), Ok(count) if count == rings.len()) {}
     }
 
     /// An error if another target has taken over, and with `all` also if another program has changed the files.
@@ -207,24 +203,24 @@ impl Journal {
 
     /// Waits until all records are synced, at the end; what they are in.
     pub fn end(self) -> Outcome<Box<dyn Log>> {
-        self.way.given().is_over = true;
-        self.way.has_more.notify_one();
-        let Journal { way, thread, .. } = self;
+        self.queue.given().is_over = true;
+        self.queue.has_more.notify_one();
+        let Journal { queue, thread, .. } = self;
         let log = thread.join().map_err(|_| Fault::Journal(ErrorKind::Other.into()))?;
-        let failure = way.failure.lock().unwrap_or_else(PoisonError::into_inner).take();
+        let failure = queue.failure.lock().unwrap_or_else(PoisonError::into_inner).take();
         failure.map_or(Ok(log), |error| Err(Fault::Journal(error)))
     }
 }
 
 /// The newest epoch of records. An error if one of them is of an epoch that no target has started.
-pub fn newest_of(records: &[Record]) -> io::Result<u64> {
+fn newest_of(records: &[Record]) -> io::Result<u64> {
     newest(records).map_err(|number| changed(format!("record {number} is of an epoch that no target has started")))
 }
 
 /// Whether a command changes what is to last.
-fn lasts(qid: u16, entry: &[u8; ENTRY]) -> bool {
-    match (qid, entry[0]) {
-        (0, SET_FEATURES) => LASTING_FEATURES.contains(&entry[40]),
+fn lasts(qid: u16, entry: &SubmissionEntry) -> bool {
+    match (qid, entry.opcode()) {
+        (0, SET_FEATURES) => LASTING_FEATURES.contains(&entry.cdw10_low()),
         (0, opcode) => opcode == NAMESPACE_ATTACHMENT,
         (_, opcode) => matches!(opcode, RESERVATION_REGISTER | RESERVATION_ACQUIRE | RESERVATION_RELEASE),
     }
@@ -233,22 +229,19 @@ fn lasts(qid: u16, entry: &[u8; ENTRY]) -> bool {
 #[cfg(test)]
 mod tests {
     use super::*;
-    use crate::record::{records_of, Event};
+    use crate::journal::record::{records_of, Event};
     use std::sync::mpsc::{sync_channel, Receiver, SyncSender};
 
     #[test]
     fn what_lasts() {
-        let mut entry = [0; ENTRY];
         for (qid, opcode, dw10, wanted) in [
             (1, RESERVATION_REGISTER, 0, true),
             (1, 0x01, 0, false),
-            (0, SET_FEATURES, WRITE_PROTECTION, true),
+            (0, SET_FEATURES, WRITE_PROTECTION.into(), true),
             (0, SET_FEATURES, 0x07, false),
             (0, RESERVATION_REGISTER, 0, false),
         ] {
-            entry[0] = opcode;
-            entry[40] = dw10;
-            assert_eq!(lasts(qid, &entry), wanted);
+            assert_eq!(lasts(qid, &SubmissionEntry::new(opcode, 0, 1).with(dw10, 0)), wanted);
         }
     }
 
@@ -280,9 +273,8 @@ mod tests {
         let ((pass, passes), (got, gets)) = (sync_channel(9), sync_channel(9));
         let identity = Identity([0; 16]);
         let mut journal = Journal::start(Box::new(Gate { passes, got }), Box::new(Always), 3, identity).unwrap();
-        let mut entry = [0; ENTRY];
-        entry[0] = RESERVATION_REGISTER;
-        journal.follow(1, 1, &[0; ENTRY], Data::None);
+        let entry = SubmissionEntry::new(RESERVATION_REGISTER, 0, 1);
+        journal.follow(1, 1, &SubmissionEntry::new(0, 0, 0), Data::None);
         assert_eq!(journal.count, 0);
         for cntlid in 1..=5 {
             journal.follow(cntlid, 1, &entry, Data::ToController(&[7; 16]));

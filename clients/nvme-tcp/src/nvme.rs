@@ -1,9 +1,14 @@
 //! Numbers of the NVMe standard and limits of the subsystem: opcodes, features, sizes, and queues. Only this file
 //! defines them.
 
-/// The size of a block, and of a submission queue entry.
+pub mod entry;
+pub mod names;
+pub mod status;
+
+/// The size of a block, of a submission queue entry, and of a completion queue entry.
 pub const BLOCK: u64 = 512;
 pub const ENTRY: usize = 64;
+pub const COMPLETION: usize = 16;
 
 /// The highest namespace identifier, and the most blocks of a namespace.
 pub const MOST_NAMESPACES: u32 = 8;

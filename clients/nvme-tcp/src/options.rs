@@ -1,13 +1,15 @@
 //! The command line.
 
-use crate::admission::Admission;
+use crate::authentication::crypto::Hash;
+use crate::authentication::groups::Group;
 use crate::authentication::Choice;
-use crate::crypto::Hash;
-use crate::groups::Group;
-use crate::log::Form;
-use crate::storage::options as storage;
+use crate::control::log::Form;
+use crate::fabrics::admission::Admission;
+use crate::storage::options::{self as storage, SizeError};
 use crate::target::Settings;
+use std::error::Error;
 use std::ffi::OsString;
+use std::fmt;
 use std::net::{IpAddr, Ipv4Addr, SocketAddr};
 use std::path::PathBuf;
 
@@ -16,7 +18,8 @@ pub const HELP: &str = "\
 nvmetcp [OPTIONS] CONFIG       serve the subsystem that CONFIG describes as an NVMe/TCP target
 nvmetcp [OPTIONS] VOLUME       serve a volume, which has its blocks, its state and its CONFIG
 nvmetcp format VOLUME          make a volume of a file or block device, with --config CONFIG; --size SIZE creates a
-                               larger file, --force overwrites what is there
+                               larger file, --force overwrites what is there, --lease SECONDS is how long a target
+                               may serve after it has last read that it is the owner, by default 4
 nvmetcp check VOLUME           report whether VOLUME would be refused
 nvmetcp dump VOLUME            print superblock, CONFIG and state of a volume
 nvmetcp copy VOLUME FILE       copy a volume that no target has; --force overwrites what is in FILE
@@ -71,6 +74,58 @@ recording are refused, the end of the recording is torn, or there is no such lin
 failed; 3 bad command line.
 ";
 
+/// Why a command line is refused.
+#[derive(Clone, Debug, PartialEq, Eq)]
+pub enum UsageError {
+    /// The last word begins as an option.
+    LastOption(String),
+    Unknown(String),
+    /// The command has no such option.
+    NotOfCommand(String),
+    LacksValue(String),
+    NotUtf8(String),
+    /// An option, and its value.
+    NotUnderstood(String, String),
+    Lease(String),
+    Size(SizeError),
+    ChoiceWithoutKeys,
+    ScriptAndRecording,
+    NotOneConfig,
+    /// The option is about blocks or state, which a volume has in itself.
+    OfVolume,
+    WithoutImage,
+}
+
+impl fmt::Display for UsageError {
+    fn fmt(&self, f: &mut fmt::Formatter<'_>) -> fmt::Result {
+        match self {
+            UsageError::LastOption(option) => write!(f, "{option} is not an option, or lacks its value"),
+            UsageError::Unknown(option) => write!(f, "{option} is not an option"),
+            UsageError::NotOfCommand(option) => write!(f, "{option} is not an option of this command"),
+            UsageError::LacksValue(option) => write!(f, "{option} lacks its value"),
+            UsageError::NotUtf8(option) => write!(f, "{option}: not UTF-8"),
+            UsageError::NotUnderstood(option, value) => write!(f, "{option} {value}: not understood"),
+            UsageError::Lease(text) => write!(f, "--lease {text}: a lease has 1 to 60 whole seconds"),
+            UsageError::Size(error) => error.fmt(f),
+            UsageError::ChoiceWithoutKeys => f.write_str("--dhchap needs --keys"),
+            UsageError::ScriptAndRecording => f.write_str("--script and --record exclude each other"),
+            UsageError::NotOneConfig => f.write_str("one CONFIG is needed"),
+            UsageError::OfVolume => {
+                f.write_str("a volume has its blocks and its state: leave --image, --size and --state out")
+            }
+            UsageError::WithoutImage => f.write_str("--size, --cache, --direct and --write-through need --image"),
+        }
+    }
+}
+
+impl Error for UsageError {}
+
+impl From<SizeError> for UsageError {
+    fn from(error: SizeError) -> Self {
+        UsageError::Size(error)
+    }
+}
+
 /// The words of a command line.
 pub struct Options {
     pub config: PathBuf,
@@ -95,7 +150,7 @@ pub struct Options {
 
 impl Options {
     /// Parses the words after the program's name. The error says what is wrong with them.
-    pub fn read(words: impl Iterator<Item = OsString>) -> Result<Options, String> {
+    pub fn read(words: impl Iterator<Item = OsString>) -> Result<Options, UsageError> {
         let settings = Settings {
             name: "nqn.2024-01.example:suvmileh".to_owned(),
             admission: Admission::default(),
@@ -131,7 +186,7 @@ impl Options {
                 Some("--direct") => options.storage.is_direct = true,
                 Some("--write-through") => options.storage.writes_through = true,
                 Some(option) if option.starts_with('-') => {
-                    let value = words.next().ok_or_else(|| format!("{option} is not an option, or lacks its value"))?;
+                    let value = words.next().ok_or_else(|| UsageError::LastOption(option.to_owned()))?;
                     options.take(option, value)?;
                 }
                 _ => configs.push(PathBuf::from(word)),
@@ -141,32 +196,32 @@ impl Options {
             options.listen.push((Ipv4Addr::LOCALHOST, 4420).into());
         }
         if options.choice.is_some() && options.keys.is_none() {
-            return Err("--dhchap needs --keys".to_owned());
+            return Err(UsageError::ChoiceWithoutKeys);
         }
         if options.script.is_some() && options.recording.is_some() {
-            return Err("--script and --record exclude each other".to_owned());
+            return Err(UsageError::ScriptAndRecording);
         }
         match configs.pop() {
             Some(config) if configs.is_empty() => Ok(Options { config, ..options }),
-            _ => Err("one CONFIG is needed".to_owned()),
+            _ => Err(UsageError::NotOneConfig),
         }
     }
 
     /// Refuses options on the blocks that need an image, or that a volume has in itself.
-    pub fn check_source(&self, is_volume: bool) -> Result<(), String> {
+    pub fn check_source(&self, is_volume: bool) -> Result<(), UsageError> {
         let has_own = self.image.is_some() || self.state.is_some() || self.storage.size.is_some();
         if is_volume && has_own {
-            return Err("a volume has its blocks and its state: leave --image, --size and --state out".to_owned());
+            return Err(UsageError::OfVolume);
         }
         if !is_volume && self.image.is_none() && self.storage != storage::Options::default() {
-            return Err("--size, --cache, --direct and --write-through need --image".to_owned());
+            return Err(UsageError::WithoutImage);
         }
         Ok(())
     }
 
-    fn take(&mut self, option: &str, value: OsString) -> Result<(), String> {
-        let text = value.to_str().ok_or_else(|| format!("{option}: not UTF-8"))?;
-        let wrong = || format!("{option} {text}: not understood");
+    fn take(&mut self, option: &str, value: OsString) -> Result<(), UsageError> {
+        let text = value.to_str().ok_or_else(|| UsageError::NotUtf8(option.to_owned()))?;
+        let wrong = || UsageError::NotUnderstood(option.to_owned(), text.to_owned());
         match option {
             "--image" => self.image = Some(value.into()),
             "--size" => self.storage.size = Some(storage::image_size_of(text)?),
@@ -186,7 +241,7 @@ impl Options {
                 self.keys = Some(value.into());
             }
             "--dhchap" => self.choice = Some(choice(text).ok_or_else(wrong)?),
-            _ => return Err(format!("{option} is not an option")),
+            _ => return Err(UsageError::Unknown(option.to_owned())),
         }
         Ok(())
     }
@@ -228,7 +283,7 @@ pub fn host_id(text: &str) -> Option<[u8; 16]> {
 mod tests {
     use super::*;
 
-    fn read(words: &str) -> Result<Options, String> {
+    fn read(words: &str) -> Result<Options, UsageError> {
         Options::read(words.split_whitespace().map(OsString::from))
     }
 
@@ -261,6 +316,22 @@ mod tests {
             "c --image i --cache 1",
         ] {
             assert!(read(wrong).is_err(), "{wrong}");
+        }
+    }
+
+    #[test]
+    fn messages_name_the_word_at_fault() {
+        for (words, told) in [
+            ("", "one CONFIG is needed"),
+            ("c --nothing", "--nothing is not an option, or lacks its value"),
+            ("c --nothing 1", "--nothing is not an option"),
+            ("c --listen x", "--listen x: not understood"),
+            ("c --dhchap sha256,null", "--dhchap needs --keys"),
+            ("c --record r --script s", "--script and --record exclude each other"),
+            ("c --image i --cache 1", "--cache 1: a cache has at least 4M"),
+            ("c --image i --size 1", "--size 1: an image has at least 4K, and a multiple of that"),
+        ] {
+            assert_eq!(read(words).err().map(|it| it.to_string()).as_deref(), Some(told));
         }
     }
 

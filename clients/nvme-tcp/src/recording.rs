@@ -5,14 +5,23 @@
 //! batch of events: their fields, then the bytes that they have stored. A batch is written before a host hears of its
 //! events. So an incomplete last frame was never answered.
 
-use crate::appended::Appended;
-use crate::behind::Piece;
+pub mod appended;
+pub mod expand;
+pub mod frame;
+pub mod kept;
+pub mod lines;
+pub mod pipeline;
+pub mod run;
+pub mod script;
+
 use crate::bytes::{u16_at, u32_at, u64_at};
 use crate::configuration::Configuration;
 use crate::fault::Fault;
-use crate::frame::{Head, TooLong};
-use crate::run::{Event, Events, Run, Synced};
-use crate::script::head_of;
+use crate::recording::appended::Appended;
+use crate::recording::frame::{Head, TooLong};
+use crate::recording::pipeline::Piece;
+use crate::recording::run::{Event, Events, Run, Synced};
+use crate::recording::script::head_of;
 use nvmesim::{Completion, Executed, Fetched};
 use std::fs::File;
 use std::io;
@@ -124,7 +133,7 @@ fn take<'b>(bytes: &mut &'b [u8], count: usize) -> Option<&'b [u8]> {
 }
 
 /// Reads the batch of a frame into `events`, which are replaced; whether it is one.
-pub fn read_batch(count: u32, content: &[u8], events: &mut Events) -> bool {
+fn read_batch(count: u32, content: &[u8], events: &mut Events) -> bool {
     events.clear();
     let (mut rest, mut stored) = (content, 0_usize);
     for _ in 0..count {

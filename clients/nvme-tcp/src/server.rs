@@ -1,20 +1,19 @@
 //! The loop of the one thread: it waits until a connection can be served, and serves it.
 
-use crate::answer::Answer;
-use crate::association::HostQueue;
-use crate::connection::{Connection, ROOM};
+use crate::authentication::worker::Finished;
+use crate::control::counters::Closing;
+use crate::control::log::Topic;
 use crate::control::Console;
-use crate::counters::Closing;
+use crate::fabrics::association::HostQueue;
 use crate::fault::{Fault, Outcome};
-use crate::input::Rooms;
-use crate::journal::Journal;
-use crate::listening::{plain, Listener};
-use crate::log::Topic;
-use crate::nvme::ENTRY;
+use crate::nvme::entry::SubmissionEntry;
 use crate::storage::Storage;
 use crate::system::{end_when_lost, is_asked_to_end, is_asked_to_read_again, Interest, Poll, Ready};
+use crate::target::answer::Answer;
 use crate::target::{Effect, Handed, Target};
-use crate::worker::Finished;
+use crate::transport::connection::{Connection, ROOM};
+use crate::transport::input::Rooms;
+use crate::transport::listening::{plain, Listener};
 use nvmesim::fabrics::Live;
 use std::cmp::Reverse;
 use std::collections::{HashMap, VecDeque};
@@ -36,8 +35,9 @@ const LOOK: Duration = Duration::from_millis(100);
 const MOST_GUESTS: usize = 48;
 const MOST_CONSOLES: usize = 8;
 
-/// What the poll is asked of a connection at first.
+/// What the poll is asked of a connection at first, and while it waits for a record.
 const TO_READ: Interest = Interest { read: true, write: false };
+const NOTHING: Interest = Interest { read: false, write: false };
 
 /// A connection that is served.
 struct Served {
@@ -52,7 +52,10 @@ impl Served {
     /// Has the poll wait for what the connection waits for.
     fn wait_by(&mut self, poll: &Poll, name: u64) -> Outcome<()> {
         let (read, write) = self.connection.wants();
-        let wanted = Interest { read, write };
+        self.watch(poll, name, Interest { read, write })
+    }
+
+    fn watch(&mut self, poll: &Poll, name: u64, wanted: Interest) -> Outcome<()> {
         if wanted != self.interest && !self.connection.is_closed {
             poll.change(&self.connection.socket, name, wanted).map_err(Fault::System)?;
             self.interest = wanted;
@@ -95,9 +98,9 @@ impl<'a> Server<'a> {
         let hosts =
             (1..).zip(hosts).map(|(name, it)| Listener::new(it, name, &poll)).collect::<io::Result<Vec<_>>>()?;
         let control = control.map(|it| Listener::new(it, CONTROL, &poll)).transpose()?;
-        target.prover.as_ref().map_or(Ok(()), |it| poll.add(it.bell(), WORK, TO_READ))?;
-        target.storage.as_ref().map_or(Ok(()), |it| poll.add(it.bell(), DISK, TO_READ))?;
-        target.journal.as_ref().map_or(Ok(()), |it| poll.add(&it.bell, JOURNAL, TO_READ))?;
+        target.prover.as_ref().map_or(Ok(()), |it| poll.add(it.wakeup(), WORK, TO_READ))?;
+        target.storage.as_ref().map_or(Ok(()), |it| poll.add(it.wakeup(), DISK, TO_READ))?;
+        target.journal.as_ref().map_or(Ok(()), |it| poll.add(&it.wakeup, JOURNAL, TO_READ))?;
         Ok(Server {
             target,
             poll,
@@ -256,12 +259,19 @@ impl<'a> Server<'a> {
         most.and_then(oldest).map_or(Ok(()), |name| self.close(name, Closing::Crowded))
     }
 
-    /// Serves a connection, unless it waits for the kept run; whether it did.
+    /// Serves a connection, unless it waits for the journal or the kept run; whether it did.
     fn serve(&mut self, name: u64, ready: Ready) -> Outcome<bool> {
         let served = match self.connections.get_mut(&name) {
-            Some(served) if served.waits_for.is_none() => served,
-            _ => return Ok(false),
+            Some(served) => served,
+            None => return Ok(false),
         };
+        if let Some(handed) = served.waits_for {
+            // A record takes a sync of the disk. Until then the loop would turn for what this host sends.
+            if self.target.has_events(handed)? {
+                served.watch(&self.poll, name, NOTHING)?;
+            }
+            return Ok(false);
+        }
         if ready.read || ready.is_over {
             served.connection.receive(&mut self.target, &mut self.rooms)?;
         }
@@ -282,7 +292,7 @@ impl<'a> Server<'a> {
 
     /// Continues commands and connections that have waited for the disk.
     fn take_blocks(&mut self) -> Outcome<()> {
-        self.target.storage.as_mut().map_or(Ok(()), |it| it.take_finished())?;
+        self.target.storage.as_mut().map_or(Ok(()), Storage::take_finished)?;
         self.apply_effects()?;
         for name in mem::take(&mut self.stalled) {
             self.finish(name, false)?;
@@ -293,7 +303,7 @@ impl<'a> Server<'a> {
     /// Begins the writes that have waited for records of the journal. The answers that have are sent at the end of the
     /// turn.
     fn take_records(&mut self) -> Outcome<()> {
-        self.target.journal.iter().for_each(Journal::hear);
+        self.target.journal.iter().for_each(|it| it.wakeup.clear());
         self.apply_effects()
     }
 
@@ -390,7 +400,7 @@ impl<'a> Server<'a> {
     }
 
     /// The next answer that is due. Connections that must be closed before it are closed.
-    fn next_answer(&mut self) -> Outcome<Option<(u64, [u8; ENTRY], Answer)>> {
+    fn next_answer(&mut self) -> Outcome<Option<(u64, SubmissionEntry, Answer)>> {
         while let Some(effect) = self.target.effects.pop_front() {
             match effect {
                 Effect::Close(name) => self.close(name, Closing::Association)?,

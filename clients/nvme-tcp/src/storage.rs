@@ -24,13 +24,14 @@ pub mod zeroes;
 #[cfg(test)]
 mod tests;
 
-use crate::answer::Answer;
-use crate::association::ConnectionId;
+use crate::control::log::warn;
+use crate::fabrics::association::ConnectionId;
 use crate::fault::{Fault, Outcome};
-use crate::log::warn;
 use crate::memory::ZeroRoom;
+use crate::nvme::status::{READ_ERROR, WRITE_FAULT};
 use crate::nvme::{BLOCK, COMPARE, MOST_BLOCKS, READ};
-use crate::status::{READ_ERROR, WRITE_FAULT};
+use crate::target::answer::Answer;
+use crate::waker::Wakeup;
 use barriers::Barriers;
 use cache::Cache;
 pub use file::{blocks_of, is_read_only, Image, ImageDisk};
@@ -44,7 +45,6 @@ use options::Options;
 use std::collections::{HashMap, VecDeque};
 use std::io::{self, ErrorKind};
 use std::mem;
-use std::os::unix::net::UnixStream;
 use std::sync::Arc;
 use std::time::Instant;
 use streams::Streams;
@@ -94,10 +94,10 @@ pub struct Storage {
     /// What the log calls the disk, and when it last had a warning of reads.
     name: String,
     warned: Option<Instant>,
-    pub options: Options,
+    options: Options,
     /// Commands that may be executed now, and answers that wait no more.
-    pub ready: VecDeque<u64>,
-    pub answers: VecDeque<Owed>,
+    ready: VecDeque<u64>,
+    answers: VecDeque<Owed>,
 }
 
 impl Storage {
@@ -142,17 +142,17 @@ impl Storage {
     }
 
     /// Readable when a job of the disk has ended.
-    pub fn bell(&self) -> &UnixStream {
-        &self.workers.bell
+    pub fn wakeup(&self) -> &Wakeup {
+        &self.workers.wakeup
     }
 
     /// Whether no more zeroes may be taken until some end.
-    pub fn has_many_zeroes(&self) -> bool {
+    fn has_many_zeroes(&self) -> bool {
         self.failure.is_none() && self.zeroing.len() >= MOST_ZEROES
     }
 
     /// Whether the command with this number can be executed, with what it needs now. If not, it is in `ready` later.
-    pub fn prepare(&mut self, need: Need, id: u64) -> bool {
+    fn prepare(&mut self, need: Need, id: u64) -> bool {
         match need {
             _ if self.failure.is_some() => true,
             Need::Read { first, blocks } => self.prepare_read(Extent { first, blocks }, id),
@@ -197,7 +197,7 @@ impl Storage {
 
     /// The blocks that a command needs, in a room for them. For a Read as many are brought as there are before one that
     /// can't be read; once the disk has failed there are none. A command that was prepared has flushed.
-    pub fn bring(&mut self, need: Need) -> (&mut [u8], Brought) {
+    fn bring(&mut self, need: Need) -> (&mut [u8], Brought) {
         let (extent, is_read) = match need {
             Need::Read { first, blocks } => (Extent { first, blocks }, true),
             Need::Write { first, blocks } => (Extent { first, blocks }, false),
@@ -341,7 +341,7 @@ impl Storage {
 
     /// Takes back the jobs that have ended.
     pub fn take_finished(&mut self) -> Outcome<()> {
-        self.workers.hear();
+        self.workers.wakeup.clear();
         while let Some(done) = self.workers.take() {
             self.finish(done)?;
         }
@@ -404,7 +404,7 @@ impl Storage {
         self.failure = Some(error);
         let (owed, flushes) = self.syncs.give_up();
         for mut it in self.ledger.give_up().into_iter().chain(owed) {
-            let is_read = matches!(it.entry[0], READ | COMPARE);
+            let is_read = matches!(it.entry.opcode(), READ | COMPARE);
             it.answer = Answer::of(if is_read { READ_ERROR } else { WRITE_FAULT });
             self.answers.push_back(it);
         }

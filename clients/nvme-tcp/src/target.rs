@@ -1,27 +1,36 @@
 //! The target: the controllers of the subsystem with the associations of their hosts, and each command's way to them.
 
-use crate::access::Access;
-use crate::admission::Admission;
-use crate::answer::{Answer, Payload};
-use crate::association::{Association, ConnectionId, HostQueue};
+pub mod answer;
+pub mod controller;
+pub mod deallocating;
+pub mod holding;
+pub mod machine;
+pub mod notices;
+pub mod window;
+
+use crate::admin::access::Access;
+use crate::admin::health::Health;
+use crate::admin::identity::Identity;
+use crate::authentication::proving::Prover;
 use crate::configuration::Configuration;
-use crate::controller::{Completed, Controller, Data, CSTS};
-use crate::counters::{Closing, Counters};
+use crate::control::counters::{Closing, Counters};
+use crate::control::log::{Form, Log};
+use crate::fabrics::admission::Admission;
+use crate::fabrics::association::{Association, ConnectionId, HostQueue};
 use crate::fault::{Fault, Outcome};
-use crate::health::Health;
-use crate::holding::Held;
-use crate::identity::Identity;
 use crate::journal::Journal;
-use crate::log::{Form, Log};
-use crate::machine::Machine;
-use crate::notices::Watch;
-use crate::nvme::{DATASET_MANAGEMENT, ENTRY, FABRICS, NAMESPACE_ATTACHMENT};
-use crate::output::Buffers;
-use crate::proving::Prover;
-use crate::status::{AUTHENTICATION_REQUIRED, COMMAND_SEQUENCE, INACCESSIBLE, SUCCESS};
+use crate::nvme::entry::SubmissionEntry;
+use crate::nvme::status::{AUTHENTICATION_REQUIRED, COMMAND_SEQUENCE, INACCESSIBLE, SUCCESS};
+use crate::nvme::{DATASET_MANAGEMENT, FABRICS, NAMESPACE_ATTACHMENT};
 use crate::storage::pending::{Issued, Waiting};
 use crate::storage::zeroes::LongZeroes;
 use crate::storage::Storage;
+use crate::target::answer::{Answer, Payload};
+use crate::target::controller::{Completed, Controller, Data, CSTS};
+use crate::target::holding::Held;
+use crate::target::machine::Machine;
+use crate::target::notices::Watch;
+use crate::transport::output::Buffers;
 use nvmesim::fabrics::{Fabrics, Live};
 use nvmesim::{Attachment, Need};
 use std::collections::VecDeque;
@@ -60,7 +69,7 @@ pub enum Effect {
     /// It is closed.
     Close(ConnectionId),
     /// A command of it that has waited is answered.
-    Answer(ConnectionId, [u8; ENTRY], Answer),
+    Answer(ConnectionId, SubmissionEntry, Answer),
 }
 
 /// How many batches of the run and records of the journal were begun.
@@ -155,8 +164,13 @@ impl<'a> Target<'a> {
     }
 
     /// Executes a command that has its data. A held command has no answer yet.
-    pub fn carry_out(&mut self, queue: &mut HostQueue, entry: &[u8; ENTRY], data: Data<'_>) -> Outcome<Option<Answer>> {
-        if entry[0] == FABRICS {
+    pub fn carry_out(
+        &mut self,
+        queue: &mut HostQueue,
+        entry: &SubmissionEntry,
+        data: Data<'_>,
+    ) -> Outcome<Option<Answer>> {
+        if entry.opcode() == FABRICS {
             return self.execute_fabrics(queue, entry, data);
         }
         match self.fabrics.live(&queue.session) {
@@ -177,7 +191,7 @@ impl<'a> Target<'a> {
         connection: ConnectionId,
         index: usize,
         qid: u16,
-        entry: &[u8; ENTRY],
+        entry: &SubmissionEntry,
         data: Data<'_>,
     ) -> Outcome<Option<Answer>> {
         if self.access[index] == Access::Inaccessible {
@@ -187,9 +201,9 @@ impl<'a> Target<'a> {
             return Ok(None);
         }
         if self.storage.is_some() {
-            return self.io_over_disk(Issued { connection, index, qid, entry: *entry, opcode: entry[0] }, data);
+            return self.io_over_disk(Issued { connection, index, qid, entry: *entry, opcode: entry.opcode() }, data);
         }
-        if entry[0] == DATASET_MANAGEMENT {
+        if entry.opcode() == DATASET_MANAGEMENT {
             return self.deallocate(index, qid, entry, data, None).map(Some);
         }
         let watch = self.watch(index, entry);
@@ -202,13 +216,13 @@ impl<'a> Target<'a> {
         &mut self,
         index: usize,
         qid: u16,
-        entry: &[u8; ENTRY],
+        entry: &SubmissionEntry,
         data: Data<'_>,
         completed: Completed,
         watch: Option<&Watch>,
     ) -> Outcome<Answer> {
         if !completed.is_denied {
-            self.follow(index, qid, entry, data, &completed)?;
+            self.follow(index, qid, entry, data, &completed);
         }
         if let (Some(watch), SUCCESS) = (watch, completed.status) {
             self.notify(watch)?;
@@ -218,16 +232,9 @@ impl<'a> Target<'a> {
     }
 
     /// Makes counters and journal follow a command that was allowed.
-    pub fn follow(
-        &mut self,
-        index: usize,
-        qid: u16,
-        entry: &[u8; ENTRY],
-        data: Data<'_>,
-        completed: &Completed,
-    ) -> Outcome<()> {
+    pub fn follow(&mut self, index: usize, qid: u16, entry: &SubmissionEntry, data: Data<'_>, completed: &Completed) {
         let has_succeeded = completed.status == SUCCESS;
-        if qid == 0 && entry[0] == NAMESPACE_ATTACHMENT {
+        if qid == 0 && entry.opcode() == NAMESPACE_ATTACHMENT {
             self.follow_attachments();
         }
         if let (Need::Zero { blocks, .. }, true) = (completed.need, has_succeeded) {
@@ -236,7 +243,6 @@ impl<'a> Target<'a> {
         if let (Some(journal), true) = (&mut self.journal, has_succeeded) {
             journal.follow(self.controllers[index].cntlid, qid, entry, data);
         }
-        Ok(())
     }
 
     /// Begins to write what the commands so far have changed: blocks, once the journal has the records before them, and

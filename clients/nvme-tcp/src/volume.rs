@@ -12,19 +12,19 @@ mod refusal;
 mod superblock;
 
 use self::log::VolumeLog;
+use crate::admin::identity::Identity;
 use crate::configuration::Configuration;
-use crate::identity::Identity;
+use crate::control::log::warn;
+use crate::files::locking::{open_disk, place_of, Lock, DIRECT};
+use crate::journal::record::Event;
+use crate::journal::state::me;
 use crate::journal::{Found, Journal};
-use crate::locking::{open_disk, place_of, Lock, DIRECT};
-use crate::log::warn;
 use crate::nvme::BLOCK;
-use crate::record::Event;
-use crate::state::me;
 use crate::storage::options::Options;
 use crate::storage::{Disk, Image, ImageDisk};
 use crate::system::time_since_boot;
 use content::Content;
-use lease::{Lease, LEASE};
+use lease::Lease;
 pub use refusal::Refusal;
 use std::fs::{self, File, OpenOptions};
 use std::io::{self, ErrorKind, Read};
@@ -113,13 +113,12 @@ impl Volume {
         let superblock = Superblock {
             revision: before.revision + 1,
             epoch: before.epoch + 1,
-            lease: LEASE,
             owner: Some(owner.clone()),
             ..before.clone()
         };
         superblock::write(&self.file, &superblock, are_whole)?;
         self.wait_out(&before, &owner, begun);
-        let lease = Lease::begin(self.file.try_clone()?, superblock.epoch, owner.number)?;
+        let lease = Lease::begin(self.file.try_clone()?, superblock.epoch, owner.number, superblock.lease)?;
         self.begin_journal(superblock, lease)
     }
 
@@ -145,10 +144,9 @@ impl Volume {
         if is_ended && time_since_boot().saturating_sub(begun) < SETTLING {
             return thread::sleep(SETTLING);
         }
-        let lease = before.lease.max(LEASE);
         let owner = before.owner.as_ref().map_or("the last owner", |it| &it.name);
         warn(format_args!("{}: waits until the lease of {owner} has ended", self.image.path.display()));
-        thread::sleep(lease + lease / MARGIN);
+        thread::sleep(before.lease + before.lease / MARGIN);
     }
 
     fn begin_journal(&self, superblock: Superblock, lease: Arc<Lease>) -> Result<Owned, Refusal> {
@@ -174,18 +172,16 @@ impl Disk for VolumeDisk {
     }
 
     fn write(&self, place: u64, bytes: &[u8]) -> io::Result<()> {
-        self.check_lease()?;
         self.disk.write(BLOCKS_AT + place, bytes)
     }
 
     fn zero(&self, place: u64, count: u64) -> io::Result<()> {
-        self.check_lease()?;
         self.disk.zero(BLOCKS_AT + place, count)
     }
 
     fn sync(&self) -> io::Result<()> {
         self.disk.sync()?;
-        self.check_lease()
+        check_lease(&self.lease)
     }
 
     fn blocks(&self) -> u64 {
@@ -203,13 +199,14 @@ impl Disk for VolumeDisk {
 
 impl VolumeDisk {
     pub fn new(disk: ImageDisk, lease: Arc<Lease>) -> VolumeDisk {
-        VolumeDisk { disk, lease }
+        let theirs = Arc::clone(&lease);
+        VolumeDisk { disk: disk.permitted_by(Arc::new(move || check_lease(&theirs))), lease }
     }
+}
 
-    /// Without a lease the target ends: an error of the kind that does so.
-    fn check_lease(&self) -> io::Result<()> {
-        self.lease.check().map_err(|error| io::Error::new(ErrorKind::InvalidData, error))
-    }
+/// Without a lease the target ends: an error of the kind that does so.
+fn check_lease(lease: &Lease) -> io::Result<()> {
+    lease.check().map_err(|error| io::Error::new(ErrorKind::InvalidData, error))
 }
 
 #[cfg(test)]
@@ -217,9 +214,10 @@ mod tests {
     use super::format::{format, How};
     use super::superblock::JOURNAL_AT;
     use super::*;
-    use crate::controller::Data;
-    use crate::nvme::{ENTRY, RESERVATION_REGISTER};
-    use crate::record::Record;
+    use crate::journal::record::Record;
+    use crate::nvme::entry::SubmissionEntry;
+    use crate::nvme::RESERVATION_REGISTER;
+    use crate::target::controller::Data;
     use std::path::PathBuf;
     use std::time::Instant;
 
@@ -238,7 +236,7 @@ mod tests {
     }
 
     /// What persists, as the volume has it.
-    fn kept(path: &Path) -> (Content, crate::checkpoint::Checkpoint) {
+    fn kept(path: &Path) -> (Content, crate::journal::checkpoint::Checkpoint) {
         let file = open_direct(path, false).unwrap();
         let mut content = Content::read(&file, file.metadata().unwrap().len()).unwrap();
         let checkpoint = content.replica.checkpoint();
@@ -257,9 +255,9 @@ mod tests {
         let mut volume = opened(&path).unwrap();
         let Owned { mut journal, found, .. } = volume.take().unwrap();
         assert_eq!((journal.epoch, found.torn), (1, 0));
-        let (first, mut entry) = (kept(&path).0.kept.segment, [0; ENTRY]);
+        let first = kept(&path).0.kept.segment;
         // Reservation Register: Replace, with IEKEY, and PTPL set.
-        (entry[0], entry[4], entry[40], entry[43]) = (RESERVATION_REGISTER, 1, 2 | 8, 0xc0);
+        let entry = SubmissionEntry::new(RESERVATION_REGISTER, 0, 1).with(2 | 8 | 0xc000_0000, 0);
         for key in 1..=600u64 {
             let keys = [[0; 8], key.to_le_bytes()].concat();
             journal.follow(1, 1, &entry, Data::ToController(&keys));
@@ -337,11 +335,11 @@ mod tests {
         let number = [7; 16];
         let owner = chosen.superblock.owner.clone().map(|it| Owner { number, name: "another".to_owned(), ..it });
         let (epoch, revision) = (chosen.superblock.epoch + 1, chosen.superblock.revision + 1);
-        let taken = Superblock { epoch, revision, owner, ..chosen.superblock };
+        let taken = Superblock { revision, epoch, owner, ..chosen.superblock };
         superblock::write(&volume.file, &taken, chosen.are_whole).unwrap();
         let begun = Instant::now();
         while lease.check().is_ok() {
-            assert!(begun.elapsed() < LEASE);
+            assert!(begun.elapsed() < Duration::from_secs(4));
             thread::sleep(Duration::from_millis(10));
         }
         let text = lease.check().unwrap_err().to_string();

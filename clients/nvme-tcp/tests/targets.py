@@ -87,6 +87,11 @@ class Target:
     def hosts(self) -> list:
         return json.loads(self.ask("hosts"))
 
+    def seconds(self) -> float:
+        """The time of processors that the process has taken."""
+        text = Path(f"/proc/{self.process.pid}/stat").read_text(encoding="ascii")
+        return sum(map(int, text.rpartition(")")[2].split()[11:13])) / os.sysconf("SC_CLK_TCK")
+
     def memory(self) -> int:
         """How many bytes of memory the process has in use."""
         text = Path(f"/proc/{self.process.pid}/statm").read_text(encoding="ascii")

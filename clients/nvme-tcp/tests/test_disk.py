@@ -323,6 +323,28 @@ class Slow(CallsTest):
         self.target.close()
 
 
+class SlowRecords(CallsTest):
+    """Each record of the journal takes a second."""
+
+    image, config, words = None, TWO_HOSTS, {"DISK_SYNC_DELAY": "1000"}
+
+    def setUp(self) -> None:
+        room = tempfile.TemporaryDirectory()
+        self.addCleanup(room.cleanup)
+        self.options = ["--state", room.name]
+        super().setUp()
+
+    def test_a_host_that_sends_more(self) -> None:
+        """Its connection waits for a record. That takes no processor, and then it is served."""
+        queue, begun, before = self.host().queues[0], time.monotonic(), self.target.seconds()
+        queue.send_command(0x0d, 1, struct.pack("<I", 3 << 30 | 8), struct.pack("<QQ", 0, 0xa), cid=1)
+        time.sleep(0.1)
+        queue.send_command(0x02, 1, struct.pack("<QI", 0, 7), length=4096, cid=2)
+        self.assertEqual([queue.completion().cid for _ in range(2)], [1, 2])
+        self.assertGreater(time.monotonic() - begun, 0.9)
+        self.assertLess(self.target.seconds() - before, 0.3)
+
+
 class Through(CallsTest):
     """`--write-through`: a write is answered after it is synced."""
 

@@ -28,6 +28,17 @@ def percentile(taken: List[float]) -> float:
 
 
 @unittest.skipUnless(shutil.which("cc"), "there is no cc")
+class Starts(DiskTest):
+    def test_what_a_killed_target_wrote_is_synced(self) -> None:
+        """With --write-through, before a host can read it; otherwise nothing is promised of it."""
+        for options, syncs in ((), 0), (("--write-through",), 1):
+            self.target.options = [*self.options, *options]
+            before = self.faults.get(SYNC, "calls")
+            self.again()
+            self.assertEqual(self.faults.get(SYNC, "calls") - before, syncs)
+
+
+@unittest.skipUnless(shutil.which("cc"), "there is no cc")
 class Delays(DiskTest):
     """A disk of which each call of one kind takes very long."""
 

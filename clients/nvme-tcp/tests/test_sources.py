@@ -1,4 +1,4 @@
-"""The sources: what is unsafe is in five short files, numbers of the standard in one, and the crate's tests pass."""
+"""The sources: what is unsafe is in seven short files, numbers of the standard in one, and the crate's tests pass."""
 import os
 import re
 import shutil
@@ -9,26 +9,29 @@ from pathlib import Path
 from tests.targets import has_keys
 
 HERE = Path(__file__).resolve().parent.parent
-# The calls of libcrypto, mapped memory, the instruction of the processor, the system calls, the calls of the library.
-UNSAFE = [*(HERE / "src" / f"{it}.rs" for it in ("libcrypto", "memory", "processor", "system")),
-          HERE.parent / "rust/src/raw.rs"]
+# The calls of the library, the simulator's stacks and its memory, the calls of libcrypto, the instruction of the
+# processor, mapped memory, the system calls.
+UNSAFE = sorted([HERE.parent / "rust/src/raw.rs", *(HERE / f"simulator/src/{it}.rs" for it in ("fiber", "heap")),
+                 *(HERE / f"src/{it}.rs" for it in ("authentication/libcrypto", "digest/processor", "memory", "system"))])
 MOST_LINES = 267
 
 
 class Sources(unittest.TestCase):
     def test_where_it_is_unsafe(self) -> None:
-        sources = [*HERE.glob("src/*.rs"), *HERE.glob("examples/*.rs"), *(HERE.parent / "rust/src").glob("*.rs")]
+        sources = [*HERE.glob("src/**/*.rs"), *HERE.glob("examples/*.rs"), *(HERE.parent / "rust/src").glob("**/*.rs"),
+                   *HERE.glob("simulator/src/**/*.rs")]
         texts = {it: it.read_text(encoding="utf-8") for it in sources}
         self.assertEqual(sorted(it for it, text in texts.items() if "unsafe {" in text or "unsafe fn" in text), UNSAFE)
         for it in UNSAFE:
             self.assertLessEqual(texts[it].count("\n"), MOST_LINES, it.name)
-        for root in (HERE / "src/main.rs", *HERE.glob("examples/*.rs"), HERE.parent / "rust/src/lib.rs"):
+        for root in (HERE / "src/main.rs", HERE / "simulator/src/lib.rs", *HERE.glob("examples/*.rs"),
+                     HERE.parent / "rust/src/lib.rs"):
             self.assertIn("#![deny(unsafe_code)]", texts[root], root.name)
 
     def test_numbers_of_the_standard(self) -> None:
         """Opcodes, sizes and limits of queues have one definition."""
-        texts = {it.name: it.read_text(encoding="utf-8") for it in HERE.glob("src/*.rs")}
-        defined = re.findall(r"^pub (const \w+: \w+) =", texts.pop("nvme.rs"), re.M)
+        texts = {it: it.read_text(encoding="utf-8") for it in HERE.glob("src/**/*.rs")}
+        defined = re.findall(r"^pub (const \w+: \w+) =", texts.pop(HERE / "src/nvme.rs"), re.M)
         self.assertIn("const RESERVATION_ACQUIRE: u8", defined)
         for name, text in texts.items():
             self.assertEqual([it for it in defined if it in text], [], name)

@@ -38,6 +38,27 @@ class Takeovers(VolumeTest):
         self.assertIn("waits until the lease of process", self.errors(other))
         return other
 
+    def test_a_shorter_lease(self) -> None:
+        """A volume that was formatted with a lease of a second is taken over after that."""
+        self.first.close()
+        self.format("--force", "--lease", "1")
+        self.assertIn("\nlease 1 s\n", self.passes("dump", self.volume))
+        self.first.start()
+        a = self.host(self.first)
+        self.first.process.send_signal(signal.SIGSTOP)
+        begun = time.monotonic()
+        other = self.target("there", self.elsewhere())
+        waited = time.monotonic() - begun
+        self.assertTrue(1.1 <= waited < 4, waited)
+        a.queues[0].send_command(0x01, 1, struct.pack("<QI", 9, 0), b"\1" * BLOCK)
+        self.first.process.send_signal(signal.SIGCONT)
+        with self.assertRaises((Ended, OSError)):
+            a.queues[0].completion()
+        self.ends("has ended")
+        self.assertEqual(self.host(other, 0xb2).read(9, 1).data, bytes(BLOCK))
+        self.refused("--lease 0: a lease has 1 to 60 whole seconds", "format", self.volume, "--config", self.config,
+                     "--lease", "0", status=3)
+
     def ends(self, text: str) -> None:
         self.assertEqual(self.first.process.wait(3), 2)
         self.assertIn(text, self.errors(self.first))

@@ -54,8 +54,8 @@ class VolumeTest(unittest.TestCase):
         self.assertIn(text, ran.stderr)
         self.assertEqual(files(), before)
 
-    def format(self) -> None:
-        self.passes("format", self.volume, "--config", self.config)
+    def format(self, *words: str) -> None:
+        self.passes("format", self.volume, "--config", self.config, *words)
 
     def target(self, name: str = "here", library: str = "") -> VolumeTarget:
         folder = self.room / name

@@ -74,6 +74,20 @@
 //! ```
 
 #![deny(unsafe_code)]
+#![warn(clippy::pedantic)]
+// The types of errors say when a call fails. Casts are of numbers whose bounds clippy can't see, and structs and pointers
+// go to C as it takes them.
+#![allow(
+    clippy::borrow_as_ptr,
+    clippy::cast_possible_truncation,
+    clippy::doc_markdown,
+    clippy::missing_errors_doc,
+    clippy::must_use_candidate,
+    clippy::needless_pass_by_value,
+    clippy::struct_excessive_bools,
+    clippy::trivially_copy_pass_by_ref,
+    clippy::wildcard_imports
+)]
 #![warn(missing_docs)]
 
 pub mod connection;

@@ -1,9 +1,9 @@
 //! Fixed vectors, every wrong message, and 100,000 mutated ones.
 
 use super::*;
+use crate::authentication::keys::Keys;
+use crate::authentication::libcrypto::digest;
 use crate::bytes::put;
-use crate::keys::Keys;
-use crate::libcrypto::digest;
 
 /// What `tests/chap_vectors.py` prints, which computes it by Python's own hashes and numbers.
 const VECTORS: &str = include_str!("../../tests/vectors/dhchap.txt");
@@ -412,7 +412,7 @@ impl Random {
     /// A message with a byte changed, cut, or longer by some; or another one.
     fn mutated(&mut self, message: &[u8]) -> Vec<u8> {
         let mut bytes = message.to_vec();
-        for _ in 0..1 + self.below(3) {
+        for _ in 0..=self.below(3) {
             let at = self.below(bytes.len().max(1));
             match self.below(8) {
                 0 => bytes.truncate(at),

@@ -5,10 +5,10 @@
 
 use super::{newest_of, Found, Hold, Journal, Log};
 use crate::configuration::Configuration;
-use crate::locking::open_regular;
-use crate::record::{current, heads, records_of, Event, Record};
-use crate::state::{self, Folder};
-use crate::watched::{changed, Watched};
+use crate::files::locking::open_regular;
+use crate::files::watched::{changed, Watched};
+use crate::journal::record::{current, heads, records_of, Event, Record};
+use crate::journal::state::{self, Folder};
 use std::fs::{File, OpenOptions};
 use std::io::{self, ErrorKind, Read, Seek, SeekFrom, Write};
 use std::os::unix::fs::FileExt;

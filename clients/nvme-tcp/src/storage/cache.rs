@@ -153,17 +153,14 @@ impl Cache {
             self.frames[place].is_recent = true;
             return place;
         }
-        let place = match self.replaceable() {
-            Some(place) => {
-                self.places.remove(&self.frames[place].number);
-                self.frames[place].become_other(number);
-                place
-            }
-            None => {
-                self.frames.push(Frame::new(number));
-                self.bytes.resize(self.bytes.len().max(self.frames.len() * FRAME_BYTES), 0);
-                self.frames.len() - 1
-            }
+        let place = if let Some(place) = self.replaceable() {
+            self.places.remove(&self.frames[place].number);
+            self.frames[place].become_other(number);
+            place
+        } else {
+            self.frames.push(Frame::new(number));
+            self.bytes.resize(self.bytes.len().max(self.frames.len() * FRAME_BYTES), 0);
+            self.frames.len() - 1
         };
         self.places.insert(number, place);
         self.last.set(Some((number, place)));

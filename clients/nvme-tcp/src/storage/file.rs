@@ -7,14 +7,15 @@
 use super::aligned::{Aligned, PAGE};
 use super::jobs::Disk;
 use super::options::Options;
-use crate::locking::{open_disk, open_regular, Lock, ALONE, DIRECT};
+use crate::files::locking::{open_disk, open_regular, Lock, ALONE, DIRECT};
+use crate::files::watched::{changed, Watched};
 use crate::nvme::BLOCK;
 use crate::system::punch_hole;
-use crate::watched::{changed, Watched};
 use std::fs::{self, File, OpenOptions};
 use std::io::{self, ErrorKind, Seek, SeekFrom};
 use std::os::unix::fs::{FileExt, FileTypeExt};
 use std::path::{Path, PathBuf};
+use std::sync::Arc;
 
 /// EROFS.
 const READ_ONLY_FILE_SYSTEM: i32 = 30;
@@ -60,10 +61,8 @@ impl Image {
         let flags = if options.is_direct { DIRECT } else { 0 };
         let locked = lock.open_disk(path, &how, flags)?;
         let is_device = locked.metadata()?.file_type().is_block_device();
-        let mut file = match is_device && !lock.is_shared {
-            true => open_disk(path, &how, flags | ALONE)?,
-            false => locked.try_clone()?,
-        };
+        let mut file =
+            if is_device && !lock.is_shared { open_disk(path, &how, flags | ALONE)? } else { locked.try_clone()? };
         let length = file.seek(SeekFrom::End(0))?;
         match options.size {
             Some(size) if size != length => {
@@ -88,7 +87,8 @@ impl Image {
         let is_device = self.file.metadata()?.file_type().is_block_device();
         let watched = if is_device { None } else { Some(Watched::new(&self.path, &self.file)?) };
         let Image { file, locked, length, .. } = self;
-        Ok(ImageDisk { file, _locked: locked, length, watched, is_direct: options.is_direct })
+        let (is_direct, permission) = (options.is_direct, None);
+        Ok(ImageDisk { file, _locked: locked, length, watched, is_direct, permission })
     }
 }
 
@@ -105,6 +105,9 @@ fn create(path: &Path, size: u64) -> io::Result<()> {
     Ok(())
 }
 
+/// Whether an image may still be written: an error once another target may have it.
+pub type Permission = Arc<dyn Fn() -> io::Result<()> + Send + Sync>;
+
 /// An image whose blocks are read and written.
 pub struct ImageDisk {
     file: File,
@@ -113,6 +116,7 @@ pub struct ImageDisk {
     /// Of a regular file.
     watched: Option<Watched>,
     is_direct: bool,
+    permission: Option<Permission>,
 }
 
 /// An error if an image has become shorter. A write past its end would make it as long again, with zeros in it.
@@ -134,6 +138,32 @@ impl ImageDisk {
         let first = place / UNIT * UNIT;
         let before = (place - first) as usize;
         (first, before, (before + count + PAGE - 1) / PAGE * PAGE)
+    }
+
+    /// The same disk, each of whose writing calls needs a permission.
+    pub fn permitted_by(self, permission: Permission) -> ImageDisk {
+        ImageDisk { permission: Some(permission), ..self }
+    }
+
+    fn check_permission(&self) -> io::Result<()> {
+        self.permission.as_ref().map_or(Ok(()), |it| it())
+    }
+
+    /// Writes all bytes. The process may have been stopped before any of the calls.
+    fn write_all(&self, mut bytes: &[u8], mut place: u64) -> io::Result<()> {
+        while !bytes.is_empty() {
+            self.check_permission()?;
+            match self.file.write_at(bytes, place) {
+                Ok(0) => return Err(ErrorKind::WriteZero.into()),
+                Ok(count) => {
+                    bytes = &bytes[count..];
+                    place += count as u64;
+                }
+                Err(error) if error.kind() == ErrorKind::Interrupted => (),
+                Err(error) => return Err(error),
+            }
+        }
+        Ok(())
     }
 
     fn check_open(&self) -> io::Result<()> {
@@ -171,7 +201,7 @@ impl Disk for ImageDisk {
     fn write(&self, place: u64, bytes: &[u8]) -> io::Result<()> {
         self.check_open()?;
         if !self.is_direct || is_whole(place, bytes) {
-            return self.file.write_all_at(bytes, place);
+            return self.write_all(bytes, place);
         }
         // The device may have sectors of a page: the rest of the pages is written as it is.
         let (first, before, count) = ImageDisk::around(place, bytes.len());
@@ -180,7 +210,7 @@ impl Disk for ImageDisk {
             self.file.read_exact_at(&mut pages, first)?;
         }
         pages[before..before + bytes.len()].copy_from_slice(bytes);
-        self.file.write_all_at(&pages, first)
+        self.write_all(&pages, first)
     }
 
     fn zero(&self, place: u64, count: u64) -> io::Result<()> {
@@ -189,6 +219,7 @@ impl Disk for ImageDisk {
         if self.watched.is_none() {
             return self.write_zeros(place, count);
         }
+        self.check_permission()?;
         match punch_hole(&self.file, place, count) {
             Err(error) if error.kind() == ErrorKind::Unsupported => self.write_zeros(place, count),
             result => result,
@@ -219,6 +250,7 @@ impl Disk for ImageDisk {
 #[cfg(test)]
 mod tests {
     use super::*;
+    use std::sync::atomic::{AtomicUsize, Ordering};
 
     fn opened(name: &str, options: &Options) -> io::Result<(PathBuf, Image)> {
         let path = std::env::temp_dir().join(format!("nvmetcp-{name}-{}", std::process::id()));
@@ -255,6 +287,27 @@ mod tests {
             assert!(fs::read(&path).unwrap() == wanted);
             fs::remove_file(path).unwrap();
         }
+    }
+
+    #[test]
+    fn each_call_needs_a_permission() {
+        let options = Options { size: Some(4 << 20), ..Options::default() };
+        let (path, image) = opened("permission", &options).unwrap();
+        fs::write(&path, vec![7; 4 << 20]).unwrap();
+        let left = AtomicUsize::new(2);
+        let permission = move || match left.load(Ordering::Relaxed) {
+            0 => Err(ErrorKind::TimedOut.into()),
+            count => {
+                left.store(count - 1, Ordering::Relaxed);
+                Ok(())
+            }
+        };
+        let disk = image.disk(&options).unwrap().permitted_by(Arc::new(permission));
+        assert_eq!(disk.write_zeros(0, 4 << 20).unwrap_err().kind(), ErrorKind::TimedOut);
+        assert!(disk.zero(2 << 20, 512).is_err() && disk.write(2 << 20, &[1; 512]).is_err());
+        let found = fs::read(&path).unwrap();
+        assert!(found[..2 << 20].iter().all(|it| *it == 0) && found[2 << 20..].iter().all(|it| *it == 7));
+        fs::remove_file(path).unwrap();
     }
 
     #[test]

@@ -16,8 +16,8 @@ pub type Mask = u32;
 /// Adjacent blocks of the disk.
 #[derive(Clone, Copy, Debug, PartialEq, Eq)]
 pub struct Extent {
-    pub first: u64,
-    pub blocks: u32,
+    pub(super) first: u64,
+    pub(super) blocks: u32,
 }
 
 impl Extent {
@@ -88,9 +88,9 @@ impl Extent {
 /// Blocks of one frame, from `from` up to `to`.
 #[derive(Clone, Copy, Debug, PartialEq, Eq)]
 pub struct Part {
-    pub number: u64,
-    pub from: u32,
-    pub to: u32,
+    pub(super) number: u64,
+    pub(super) from: u32,
+    pub(super) to: u32,
 }
 
 impl Part {
@@ -129,31 +129,31 @@ pub fn runs(number: u64, mask: Mask) -> impl Iterator<Item = Part> {
 /// A piece of the disk in memory.
 pub struct Frame {
     /// Which piece it is.
-    pub number: u64,
+    pub(super) number: u64,
     /// Blocks whose newest bytes are here.
-    pub valid: Mask,
+    pub(super) valid: Mask,
     /// Those of them that no write to the disk has taken yet.
-    pub dirty: Mask,
+    pub(super) dirty: Mask,
     /// Blocks that a read in progress brings, and those that could not be read.
-    pub coming: Mask,
-    pub failed: Mask,
+    pub(super) coming: Mask,
+    pub(super) failed: Mask,
     /// Blocks of a write in progress: only one at a time is.
-    pub writing: Mask,
+    pub(super) writing: Mask,
     /// The ticket of the last command that has changed it.
-    pub changed_by: u64,
+    pub(super) changed_by: u64,
     /// Whether it is in the list of frames to write.
-    pub is_queued: bool,
+    pub(super) is_queued: bool,
     /// How many commands wait for it and need it to stay.
-    pub users: u32,
+    pub(super) users: u32,
     /// Whether it was used since the cache has looked for a frame to replace.
-    pub is_recent: bool,
+    pub(super) is_recent: bool,
     /// Whether the cache counts it as one that can't be replaced.
-    pub is_busy: bool,
+    pub(super) is_busy: bool,
     /// The commands that wait until a read of it ends.
-    pub waiting: Vec<u64>,
+    pub(super) waiting: Vec<u64>,
     /// The tickets of the commands that wait for a write of the dirty blocks, and for the write in progress.
-    pub tickets: Vec<u64>,
-    pub written: Vec<u64>,
+    pub(super) tickets: Vec<u64>,
+    pub(super) written: Vec<u64>,
 }
 
 impl Frame {

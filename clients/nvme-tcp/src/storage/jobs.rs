@@ -25,10 +25,10 @@ pub trait Disk: Send + Sync {
 /// Blocks of several frames that are written together: runs of adjacent blocks, and their bytes one after the other.
 pub struct Writing {
     /// The places of the frames in the cache.
-    pub frames: Vec<usize>,
-    pub runs: Vec<Extent>,
-    pub bytes: Aligned,
-    pub length: usize,
+    pub(super) frames: Vec<usize>,
+    pub(super) runs: Vec<Extent>,
+    bytes: Aligned,
+    pub(super) length: usize,
 }
 
 impl Writing {
@@ -60,13 +60,13 @@ impl Writing {
 
 /// Blocks that are read together.
 pub struct Reading {
-    pub extent: Extent,
+    pub(super) extent: Extent,
     /// Their bytes, at the front of a buffer that may be longer.
-    pub bytes: Aligned,
+    pub(super) bytes: Aligned,
     /// Which blocks could not be read, if there are any.
     failed: Vec<bool>,
     /// Whether they were read before a command needs them.
-    pub is_ahead: bool,
+    pub(super) is_ahead: bool,
 }
 
 impl Reading {
@@ -130,6 +130,6 @@ impl Job {
 
 /// A job that has ended.
 pub struct Done {
-    pub job: Job,
-    pub result: io::Result<()>,
+    pub(super) job: Job,
+    pub(super) result: io::Result<()>,
 }

@@ -1,18 +1,18 @@
 //! Commands that were executed, and whose blocks the system does not have yet. Each has a ticket, the next number. An
 //! answer waits for the writes of its own command; only a Flush waits for all commands before it.
 
-use crate::answer::Answer;
-use crate::association::ConnectionId;
-use crate::nvme::ENTRY;
+use crate::fabrics::association::ConnectionId;
+use crate::nvme::entry::SubmissionEntry;
+use crate::target::answer::Answer;
 use std::collections::VecDeque;
 
 /// An answer that waits.
 pub struct Owed {
-    pub connection: ConnectionId,
-    pub entry: [u8; ENTRY],
-    pub answer: Answer,
+    pub(super) connection: ConnectionId,
+    pub(super) entry: SubmissionEntry,
+    pub(super) answer: Answer,
     /// Whether the blocks must be synced before it goes.
-    pub is_synced: bool,
+    pub(super) is_synced: bool,
 }
 
 /// A command: how many writes and zeroes of it the system does not have, and its answer once that is known.
@@ -114,10 +114,10 @@ impl Ledger {
 #[cfg(test)]
 mod tests {
     use super::*;
-    use crate::status::SUCCESS;
+    use crate::nvme::status::SUCCESS;
 
     fn owed(connection: u64) -> Owed {
-        Owed { connection, entry: [0; ENTRY], answer: Answer::of(SUCCESS), is_synced: false }
+        Owed { connection, entry: SubmissionEntry::new(0, 0, 0), answer: Answer::of(SUCCESS), is_synced: false }
     }
 
     #[test]

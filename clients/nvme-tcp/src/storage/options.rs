@@ -1,5 +1,8 @@
 //! Options of the command line about the image.
 
+use std::error::Error;
+use std::fmt;
+
 /// Memory of the cache unless `--cache` names another size, and the least.
 const CACHE: u64 = 256 << 20;
 const LEAST_CACHE: u64 = 4 << 20;
@@ -23,8 +26,37 @@ impl Default for Options {
     }
 }
 
+/// Why the value of `--cache` or `--size` is refused.
+#[derive(Clone, Debug, PartialEq, Eq)]
+pub enum SizeError {
+    SmallCache(String),
+    NoCacheSize(String),
+    /// It is no multiple of a page, is 0, or is too large.
+    BadImageSize(String),
+    NoImageSize(String),
+}
+
+impl fmt::Display for SizeError {
+    fn fmt(&self, f: &mut fmt::Formatter<'_>) -> fmt::Result {
+        match self {
+            SizeError::SmallCache(text) => write!(f, "--cache {text}: a cache has at least 4M"),
+            SizeError::NoCacheSize(text) => {
+                write!(f, "--cache {text}: a size is a number of bytes, or of units: 256M, 4G")
+            }
+            SizeError::BadImageSize(text) => {
+                write!(f, "--size {text}: an image has at least 4K, and a multiple of that")
+            }
+            SizeError::NoImageSize(text) => {
+                write!(f, "--size {text}: a size is a number of bytes, or of units: 512M, 64G, 1T")
+            }
+        }
+    }
+}
+
+impl Error for SizeError {}
+
 /// A number of bytes: digits, and K, M, G or T for powers of 1,024.
-pub fn size_of(text: &str) -> Option<u64> {
+fn size_of(text: &str) -> Option<u64> {
     let digits = text.trim_end_matches(|it: char| !it.is_ascii_digit());
     let unit = match &text[digits.len()..] {
         "" => 1,
@@ -41,20 +73,20 @@ pub fn size_of(text: &str) -> Option<u64> {
 }
 
 /// The value of `--cache`.
-pub fn cache_of(text: &str) -> Result<u64, String> {
+pub fn cache_of(text: &str) -> Result<u64, SizeError> {
     match size_of(text) {
         Some(size) if size >= LEAST_CACHE => Ok(size),
-        Some(_) => Err(format!("--cache {text}: a cache has at least 4M")),
-        None => Err(format!("--cache {text}: a size is a number of bytes, or of units: 256M, 4G")),
+        Some(_) => Err(SizeError::SmallCache(text.to_owned())),
+        None => Err(SizeError::NoCacheSize(text.to_owned())),
     }
 }
 
 /// The value of `--size`, whole pages.
-pub fn image_size_of(text: &str) -> Result<u64, String> {
+pub fn image_size_of(text: &str) -> Result<u64, SizeError> {
     match size_of(text) {
         Some(size) if size % 4096 == 0 && size != 0 && i64::try_from(size).is_ok() => Ok(size),
-        Some(_) => Err(format!("--size {text}: an image has at least 4K, and a multiple of that")),
-        None => Err(format!("--size {text}: a size is a number of bytes, or of units: 512M, 64G, 1T")),
+        Some(_) => Err(SizeError::BadImageSize(text.to_owned())),
+        None => Err(SizeError::NoImageSize(text.to_owned())),
     }
 }
 

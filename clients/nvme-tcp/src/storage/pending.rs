@@ -2,15 +2,15 @@
 //! executed over them, and is answered when the system has what it wrote.
 
 use super::Owed;
-use crate::answer::Answer;
-use crate::association::ConnectionId;
-use crate::bytes::u32_at;
-use crate::controller::{Completed, Data, Token};
+use crate::fabrics::association::ConnectionId;
 use crate::fault::Outcome;
-use crate::nvme::{COMPARE, DATASET_MANAGEMENT, ENTRY, READ, WRITE_ZEROES};
-use crate::status::{COMMAND_SEQUENCE, SUCCESS};
+use crate::nvme::entry::SubmissionEntry;
+use crate::nvme::status::{COMMAND_SEQUENCE, SUCCESS};
+use crate::nvme::{COMPARE, DATASET_MANAGEMENT, READ, WRITE_ZEROES};
+use crate::target::answer::Answer;
+use crate::target::controller::{Completed, Data, Token};
+use crate::target::window::Room;
 use crate::target::Target;
-use crate::window::Room;
 use nvmesim::Need;
 use std::collections::BTreeMap;
 
@@ -30,7 +30,7 @@ pub struct Issued {
     pub index: usize,
     pub qid: u16,
     /// What is fetched, and the opcode that the host has sent.
-    pub entry: [u8; ENTRY],
+    pub entry: SubmissionEntry,
     pub opcode: u8,
 }
 
@@ -39,11 +39,11 @@ pub struct Pending {
     pub issued: Issued,
     pub token: Token,
     /// The data that it has, or how many bytes come from the controller; and their place in the host's memory.
-    pub data: Vec<u8>,
-    pub length: usize,
+    data: Vec<u8>,
+    length: usize,
     pub room: Room,
     /// Whether it was held, so that it comes after those that were held before.
-    pub was_held: bool,
+    was_held: bool,
 }
 
 impl Pending {
@@ -167,7 +167,7 @@ impl Target<'_> {
     }
 
     /// The next answer that waits no more, and the command that it is of.
-    pub fn next_answer(&mut self) -> Outcome<Option<(ConnectionId, [u8; ENTRY], Answer)>> {
+    pub fn next_answer(&mut self) -> Outcome<Option<(ConnectionId, SubmissionEntry, Answer)>> {
         while let Some(storage) = &mut self.storage {
             if let Some(Owed { connection, entry, answer, .. }) = storage.answers.pop_front() {
                 return Ok(Some((connection, entry, answer)));
@@ -178,7 +178,7 @@ impl Target<'_> {
             };
             if let Some((issued, answer)) = self.advance(id)? {
                 let mut entry = issued.entry;
-                entry[0] = issued.opcode;
+                entry.set_opcode(issued.opcode);
                 return Ok(Some((issued.connection, entry, answer)));
             }
         }
@@ -273,7 +273,7 @@ impl Target<'_> {
     }
 
     /// Fetches and executes a command that reads no blocks.
-    pub fn run_over(&mut self, index: usize, qid: u16, entry: &[u8; ENTRY], ticket: u64) -> Outcome<Completed> {
+    pub fn run_over(&mut self, index: usize, qid: u16, entry: &SubmissionEntry, ticket: u64) -> Outcome<Completed> {
         let data = Data::FromController(0);
         let token = match self.controllers[index].submit(&mut self.machine, qid, entry, data, Room::AT_ONCE)? {
             Some(token) => token,
@@ -290,11 +290,11 @@ impl Target<'_> {
             Some(storage) => storage,
             None => return Some(answer),
         };
-        let is_forced = issued.opcode != DATASET_MANAGEMENT && u32_at(&issued.entry, 48) & FORCE_UNIT_ACCESS != 0;
+        let is_forced = issued.opcode != DATASET_MANAGEMENT && issued.entry.cdw12() & FORCE_UNIT_ACCESS != 0;
         let has_effect = answer.status == SUCCESS || matches!(issued.opcode, READ | COMPARE);
         let is_synced = has_effect && (is_forced || !has_write_cache);
         let mut entry = issued.entry;
-        entry[0] = issued.opcode;
+        entry.set_opcode(issued.opcode);
         let owed = Owed { connection: issued.connection, entry, answer, is_synced };
         storage.close(ticket, owed).map(|owed| owed.answer)
     }

@@ -3,8 +3,8 @@
 use super::frames::{runs, Extent, Part};
 use super::jobs::Reading;
 use super::Storage;
+use crate::control::log::warn;
 use crate::fault::{Fault, Outcome};
-use crate::log::warn;
 use nvmesim::Need;
 use std::io;
 use std::time::{Duration, Instant};

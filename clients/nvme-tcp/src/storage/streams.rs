@@ -61,16 +61,13 @@ impl Streams {
     pub fn follow(&mut self, index: usize, extent: Extent) -> Option<Extent> {
         self.controllers.resize(self.controllers.len().max(index + 1), <[Stream; FOLLOWED]>::default());
         let streams = &mut self.controllers[index];
-        match streams.iter().position(|it| it.reads != 0 && it.next == extent.first) {
-            Some(at) => {
-                streams[..=at].rotate_right(1);
-                streams[0].take(extent, self.most)
-            }
-            None => {
-                streams.rotate_right(1);
-                streams[0] = Stream::begun(extent.end());
-                None
-            }
+        if let Some(at) = streams.iter().position(|it| it.reads != 0 && it.next == extent.first) {
+            streams[..=at].rotate_right(1);
+            streams[0].take(extent, self.most)
+        } else {
+            streams.rotate_right(1);
+            streams[0] = Stream::begun(extent.end());
+            None
         }
     }
 

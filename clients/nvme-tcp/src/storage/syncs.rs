@@ -53,12 +53,11 @@ impl Syncs {
 
     /// Whether a Flush has passed. It waits for a sync after all commands before a ticket, if it did not yet.
     pub fn has_flushed(&mut self, id: u64, ticket: u64) -> bool {
-        match self.flushes.iter().find(|(it, _)| *it == id) {
-            Some((_, stage)) => *stage == Stage::Passed,
-            None => {
-                self.flushes.push((id, Stage::Before(ticket)));
-                false
-            }
+        if let Some((_, stage)) = self.flushes.iter().find(|(it, _)| *it == id) {
+            *stage == Stage::Passed
+        } else {
+            self.flushes.push((id, Stage::Before(ticket)));
+            false
         }
     }
 

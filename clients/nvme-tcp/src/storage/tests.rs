@@ -1,9 +1,8 @@
 //! The disk of a target over one in memory, whose calls wait at a gate, fail, or take a while.
 
 use super::*;
-use crate::answer::Answer;
-use crate::nvme::{BLOCK, ENTRY};
-use crate::status::SUCCESS;
+use crate::nvme::{entry::SubmissionEntry, status::SUCCESS, BLOCK};
+use crate::target::answer::Answer;
 use std::collections::{BTreeSet, HashSet};
 use std::sync::{Condvar, Mutex};
 use std::thread;
@@ -106,7 +105,7 @@ struct Trial {
     disk: Arc<Fake>,
     storage: Storage,
     next: u64,
-    answered: Vec<(u64, crate::status::Status)>,
+    answered: Vec<(u64, crate::nvme::status::Status)>,
     ready: Vec<u64>,
 }
 
@@ -142,7 +141,7 @@ impl Trial {
         let (at_hand, is_failed) = ((room.len() / SIZE) as u64, room.is_empty());
         self.storage.take(need, at_hand, ticket);
         let status = if is_failed { WRITE_FAULT } else { SUCCESS };
-        let owed = Owed { connection: id, entry: [0; ENTRY], answer: Answer::of(status), is_synced };
+        let owed = Owed { connection: id, entry: SubmissionEntry::new(0, 0, 0), answer: Answer::of(status), is_synced };
         let owed = self.storage.close(ticket, owed);
         self.answered.extend(owed.map(|it| (it.connection, it.answer.status)));
         id
@@ -404,7 +403,8 @@ impl Trial {
             None => return false,
         };
         let is_synced = self.storage.options.writes_through;
-        let owed = Owed { connection: id, entry: [0; ENTRY], answer: Answer::of(SUCCESS), is_synced };
+        let owed =
+            Owed { connection: id, entry: SubmissionEntry::new(0, 0, 0), answer: Answer::of(SUCCESS), is_synced };
         assert!(self.storage.close(ticket, owed).is_none());
         true
     }

@@ -3,10 +3,9 @@
 use super::aligned::Aligned;
 use super::frames::Extent;
 use super::jobs::{Disk, Done, Job, Reading};
+use crate::waker::{self, Waker, Wakeup};
 use std::collections::VecDeque;
-use std::io::{self, Read, Write};
-use std::os::unix::net::UnixStream;
-use std::sync::atomic::{AtomicBool, Ordering};
+use std::io;
 use std::sync::mpsc::{channel, Receiver, Sender};
 use std::sync::{Arc, Condvar, Mutex, MutexGuard, PoisonError};
 use std::thread;
@@ -59,8 +58,6 @@ impl Jobs {
 struct Queue {
     jobs: Mutex<Jobs>,
     has_more: Condvar,
-    /// Whether the bell has rung, and the event loop has not heard it.
-    has_rung: AtomicBool,
 }
 
 impl Queue {
@@ -105,9 +102,9 @@ pub struct Workers {
     /// Buffers of reads that have ended.
     spare: Vec<Aligned>,
     /// Readable when a job has ended.
-    pub bell: UnixStream,
+    pub(super) wakeup: Wakeup,
     /// How many jobs have not ended, or were not taken back yet.
-    pub under_way: usize,
+    pub(super) under_way: usize,
 }
 
 impl Workers {
@@ -115,18 +112,15 @@ impl Workers {
     pub fn start(disk: &Arc<dyn Disk>) -> io::Result<Workers> {
         let queue = Arc::new(Queue::default());
         let (results, done) = channel();
-        let (bell, rope) = UnixStream::pair()?;
-        bell.set_nonblocking(true)?;
-        rope.set_nonblocking(true)?;
-        let rope = Arc::new(rope);
+        let (waker, wakeup) = waker::pair()?;
         for _ in 0..THREADS {
-            let (disk, queue, results, rope) =
-                (Arc::clone(disk), Arc::clone(&queue), Sender::clone(&results), Arc::clone(&rope));
-            let serve = move || serve(&*disk, &queue, &results, &rope);
+            let (disk, queue, results, waker) =
+                (Arc::clone(disk), Arc::clone(&queue), Sender::clone(&results), Waker::clone(&waker));
+            let serve = move || serve(&*disk, &queue, &results, &waker);
             thread::Builder::new().name("disk".to_owned()).spawn(serve)?;
         }
         let (begun, ahead, spare) = (Vec::new(), Vec::new(), Vec::new());
-        Ok(Workers { queue, done, begun, ahead, spare, bell, under_way: 0 })
+        Ok(Workers { queue, done, begun, ahead, spare, wakeup, under_way: 0 })
     }
 
     /// Begins a job. The threads have it after `hand_out`.
@@ -193,13 +187,6 @@ impl Workers {
             self.spare.push(bytes);
         }
     }
-
-    /// Silences the bell, before the jobs that have ended are taken.
-    pub fn hear(&self) {
-        let mut rings = [0; 64];
-        while matches!((&self.bell).read(&mut rings), Ok(count) if count == rings.len()) {}
-        self.queue.has_rung.store(false, Ordering::SeqCst);
-    }
 }
 
 impl Drop for Workers {
@@ -211,7 +198,7 @@ impl Drop for Workers {
 }
 
 /// Runs until the event loop's side is dropped.
-fn serve(disk: &dyn Disk, queue: &Queue, results: &Sender<Done>, mut rope: &UnixStream) {
+fn serve(disk: &dyn Disk, queue: &Queue, results: &Sender<Done>, waker: &Waker) {
     let mut has_read_ahead = false;
     while let Some(mut job) = queue.next(has_read_ahead) {
         has_read_ahead = job.is_ahead();
@@ -219,9 +206,6 @@ fn serve(disk: &dyn Disk, queue: &Queue, results: &Sender<Done>, mut rope: &Unix
         if results.send(Done { job, result }).is_err() {
             return;
         }
-        // One ring is enough for all jobs that end until it is heard. If the socket is full, there is one already.
-        if !queue.has_rung.swap(true, Ordering::SeqCst) {
-            let _ = rope.write(&[1]);
-        }
+        waker.wake();
     }
 }

@@ -18,7 +18,7 @@ const SMALL: usize = 16 << 10;
 
 /// Zeroes that are in progress, or wait for writes and other zeroes.
 pub struct Zeroing {
-    pub extent: Extent,
+    pub(super) extent: Extent,
     changed_by: u64,
     tickets: Vec<u64>,
     is_running: bool,

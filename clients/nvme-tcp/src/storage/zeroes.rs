@@ -3,12 +3,11 @@
 
 use super::pending::Issued;
 use super::Owed;
-use crate::association::ConnectionId;
-use crate::bytes::{u16_at, u32_at};
-use crate::controller::Data;
-use crate::deallocating::blocks_to_zero;
+use crate::fabrics::association::ConnectionId;
 use crate::fault::Outcome;
 use crate::nvme::{DATASET_MANAGEMENT, WRITE_ZEROES};
+use crate::target::controller::Data;
+use crate::target::deallocating::blocks_to_zero;
 use crate::target::Target;
 use std::collections::VecDeque;
 
@@ -43,8 +42,8 @@ impl Target<'_> {
     pub fn wait_for_turn(&mut self, issued: &Issued, data: Data<'_>) -> bool {
         let entry = &issued.entry;
         let blocks = match issued.opcode {
-            DATASET_MANAGEMENT => blocks_to_zero(entry, data, self.configuration.blocks(u32_at(entry, 4))),
-            WRITE_ZEROES => u64::from(u16_at(entry, 48)) + 1,
+            DATASET_MANAGEMENT => blocks_to_zero(entry, data, self.configuration.blocks(entry.namespace_id())),
+            WRITE_ZEROES => u64::from(entry.nlb()) + 1,
             _ => return false,
         };
         let bytes = if let Data::ToController(bytes) = data { bytes } else { &[] };
@@ -68,7 +67,7 @@ impl Target<'_> {
         let data = if bytes.is_empty() { Data::FromController(0) } else { Data::ToController(&bytes) };
         if let Some(answer) = self.execute_now(issued, data)? {
             let Issued { connection, mut entry, opcode, .. } = issued;
-            entry[0] = opcode;
+            entry.set_opcode(opcode);
             let owed = Owed { connection, entry, answer, is_synced: false };
             self.storage.iter_mut().zip([owed]).for_each(|(storage, owed)| storage.answers.push_back(owed));
         }

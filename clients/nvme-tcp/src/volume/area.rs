@@ -8,7 +8,7 @@
 use super::refusal::Refusal;
 use crate::bytes::{put, u32_at, u64_at};
 use crate::digest::crc32c;
-use crate::record::{records_of, Record};
+use crate::journal::record::{records_of, Record};
 use crate::storage::aligned::{Aligned, PAGE};
 
 pub const SEGMENTS: usize = 4;
@@ -85,12 +85,12 @@ fn crc32c_without(bytes: &[u8]) -> u32 {
 #[derive(Debug, PartialEq, Eq)]
 pub struct Kept {
     /// The number of its newest segment, and the place of that among the segments.
-    pub segment: u64,
-    pub place: usize,
+    pub(super) segment: u64,
+    pub(super) place: usize,
     /// Its checkpoint, and the records after it.
-    pub records: Vec<Record>,
+    pub(super) records: Vec<Record>,
     /// How many bytes at its end were a part of a batch, and are left out.
-    pub torn: usize,
+    pub(super) torn: usize,
 }
 
 /// The newest segment. An error if a part of it is damaged that was answered.
@@ -107,7 +107,7 @@ pub fn read(area: &[u8]) -> Result<Kept, Refusal> {
     let (mut page, mut number) = (FIRST_PAGE, 1);
     let next = |page: usize, number: u64| {
         let batch = batch_of(pages.get(page * PAGE..)?)?;
-        (batch.segment == head.segment && batch.number == number).then(|| batch)
+        (batch.segment == head.segment && batch.number == number).then_some(batch)
     };
     while let Some(batch) = next(page, number) {
         bytes.extend_from_slice(batch.records);
@@ -136,8 +136,8 @@ fn head_of(pages: &[u8]) -> Option<Batch<'_>> {
 #[cfg(test)]
 mod tests {
     use super::*;
-    use crate::checkpoint::Checkpoint;
-    use crate::record::Event;
+    use crate::journal::checkpoint::Checkpoint;
+    use crate::journal::record::Event;
 
     fn record(event: Event) -> Vec<u8> {
         Record { epoch: 5, event }.bytes()

@@ -5,10 +5,10 @@ use super::log;
 use super::open_direct;
 use super::refusal::Refusal;
 use super::superblock::{self, Chosen, Superblock};
-use crate::checkpoint::{Checkpoint, NamespaceState};
 use crate::configuration::Configuration;
-use crate::record::{current, newest, Current};
-use crate::restoring::Replica;
+use crate::journal::checkpoint::{Checkpoint, NamespaceState};
+use crate::journal::record::{current, newest, Current};
+use crate::journal::restoring::Replica;
 use nvmesim::{Holder, Registrant};
 use std::fmt::Write;
 use std::fs::File;
@@ -17,12 +17,12 @@ use std::path::Path;
 
 /// Superblock and journal of a volume.
 pub struct Content {
-    pub chosen: Chosen,
-    pub configuration: Configuration,
-    pub kept: Kept,
-    pub current: Current,
+    pub(super) chosen: Chosen,
+    pub(super) configuration: Configuration,
+    pub(super) kept: Kept,
+    pub(super) current: Current,
     /// What persists after the records.
-    pub replica: Replica,
+    pub(super) replica: Replica,
 }
 
 impl Content {
@@ -34,7 +34,7 @@ impl Content {
             return Err(Refusal::Short(length, *size));
         }
         let read = Configuration::read(configuration.as_bytes(), chosen.superblock.blocks());
-        let configuration = read.map_err(Refusal::Configuration)?;
+        let configuration = read.map_err(|error| Refusal::Configuration(error.to_string()))?;
         let kept = log::read(file)?;
         let unknown = |number| Refusal::Journal(format!("record {number} is of an epoch that no target has started"));
         let newest = newest(&kept.records).map_err(unknown)?;

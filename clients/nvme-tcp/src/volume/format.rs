@@ -6,9 +6,9 @@ use super::log;
 use super::refusal::Refusal;
 use super::superblock::{self, Superblock, BLOCKS_AT, JOURNAL_AT};
 use super::{is_device, open_direct};
+use crate::admin::identity::Identity;
 use crate::configuration::Configuration;
-use crate::identity::Identity;
-use crate::locking::Lock;
+use crate::files::locking::Lock;
 use crate::nvme::BLOCK;
 use crate::storage::aligned::{Aligned, PAGE};
 use crate::storage::options::Options;
@@ -17,6 +17,7 @@ use std::fs;
 use std::io::{self, ErrorKind};
 use std::os::unix::fs::{FileExt, MetadataExt};
 use std::path::Path;
+use std::time::Duration;
 
 /// How many bytes are read and written at a time.
 const PIECE: usize = 1 << 20;
@@ -28,10 +29,12 @@ const LOOKED_AT_END: u64 = 1 << 20;
 #[derive(Clone, Copy, Default)]
 pub struct How {
     /// Whether what is there is overwritten.
-    pub replaces: bool,
+    pub(super) replaces: bool,
     /// Whether locks that others hold are waited for.
-    pub waits: bool,
-    pub size: Option<u64>,
+    pub(super) waits: bool,
+    pub(super) size: Option<u64>,
+    /// How long its lease is.
+    pub(super) lease: Option<Duration>,
 }
 
 /// Makes a volume with a configuration; what it prints.
@@ -48,7 +51,7 @@ pub fn format(path: &Path, configuration: &Configuration, how: How) -> Result<St
         size: image.length / PAGE as u64 * PAGE as u64,
         revision: 1,
         epoch: 0,
-        lease: LEASE,
+        lease: how.lease.unwrap_or(LEASE),
         owner: None,
         configuration: configuration.lines.clone(),
     };

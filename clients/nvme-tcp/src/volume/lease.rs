@@ -3,25 +3,36 @@
 //! last owner has ended by then, even if it was stopped meanwhile.
 
 use super::superblock::{self, Chosen};
+use crate::files::watched::changed;
 use crate::journal::Hold;
+use crate::options::UsageError;
 use crate::system::time_since_boot;
-use crate::watched::changed;
 use std::fs::File;
 use std::io::{self, ErrorKind};
+use std::ops::RangeInclusive;
 use std::sync::atomic::{AtomicU64, Ordering};
 use std::sync::{Arc, Mutex, PoisonError, Weak};
 use std::thread;
 use std::time::Duration;
 
-/// How long a lease is, and how often it is renewed.
+/// How long a lease is unless `--lease` gives another time, and the seconds that may be given.
 pub const LEASE: Duration = Duration::from_secs(4);
-const RENEWAL: Duration = Duration::from_millis(500);
+const SECONDS: RangeInclusive<u64> = 1..=60;
+/// How often it is renewed while it lasts.
+const RENEWALS: u32 = 8;
+
+/// The value of `--lease`.
+pub fn lease_of(text: &str) -> Result<Duration, UsageError> {
+    let seconds = text.parse().ok().filter(|it| SECONDS.contains(it));
+    seconds.map(Duration::from_secs).ok_or_else(|| UsageError::Lease(text.to_owned()))
+}
 
 /// The lease of this target.
 pub struct Lease {
     file: File,
     epoch: u64,
     number: [u8; 16],
+    length: Duration,
     /// The nanoseconds since the machine was started at which it ends.
     until: AtomicU64,
     /// Who has the volume, if that is another target.
@@ -30,15 +41,16 @@ pub struct Lease {
 
 impl Lease {
     /// Begins a lease of the target that took this epoch under this number, by a file that is open with O_DIRECT.
-    pub fn begin(file: File, epoch: u64, number: [u8; 16]) -> io::Result<Arc<Lease>> {
-        let lease = Arc::new(Lease { file, epoch, number, until: AtomicU64::new(u64::MAX), lost: Mutex::new(None) });
+    pub fn begin(file: File, epoch: u64, number: [u8; 16], length: Duration) -> io::Result<Arc<Lease>> {
+        let (until, lost) = (AtomicU64::new(u64::MAX), Mutex::new(None));
+        let lease = Arc::new(Lease { file, epoch, number, length, until, lost });
         lease.renew();
         if lease.until.load(Ordering::Acquire) == u64::MAX {
             return Err(io::Error::new(ErrorKind::InvalidData, "the superblock can't be read again"));
         }
         lease.check()?;
         let theirs = Arc::downgrade(&lease);
-        thread::Builder::new().name("lease".to_owned()).spawn(move || keep(&theirs))?;
+        thread::Builder::new().name("lease".to_owned()).spawn(move || keep(&theirs, length / RENEWALS))?;
         Ok(lease)
     }
 
@@ -54,7 +66,7 @@ impl Lease {
         };
         let number = found.owner.as_ref().map(|it| it.number);
         if found.epoch == self.epoch && number == Some(self.number) {
-            let until = begun.saturating_add(LEASE).as_nanos();
+            let until = begun.saturating_add(self.length).as_nanos();
             self.until.store(u64::try_from(until).unwrap_or(0), Ordering::Release);
             return;
         }
@@ -83,9 +95,9 @@ impl Lease {
 }
 
 /// Renews a lease until the target ends.
-fn keep(lease: &Weak<Lease>) {
+fn keep(lease: &Weak<Lease>, pause: Duration) {
     loop {
-        thread::sleep(RENEWAL);
+        thread::sleep(pause);
         match lease.upgrade() {
             Some(lease) => lease.renew(),
             None => return,

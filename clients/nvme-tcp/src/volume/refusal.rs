@@ -1,6 +1,7 @@
 //! Why a volume is refused. Nothing is changed then.
 
-use crate::{End, FAILED, REFUSED};
+use crate::exit::{Exit, FAILED, REFUSED};
+use std::error::Error;
 use std::path::Path;
 use std::{fmt, io};
 
@@ -63,11 +64,13 @@ impl fmt::Display for Refusal {
 
 impl Refusal {
     /// The end of the program.
-    pub fn end(&self, path: &Path) -> End {
+    pub fn exit(&self, path: &Path) -> Exit {
         let status = if let Refusal::System(_) = self { FAILED } else { REFUSED };
-        End { status, text: format!("{}: {self}", path.display()) }
+        Exit::new(status, format_args!("{}: {self}", path.display()))
     }
 }
+
+impl Error for Refusal {}
 
 impl From<io::Error> for Refusal {
     fn from(error: io::Error) -> Self {

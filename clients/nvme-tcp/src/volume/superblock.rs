@@ -1,9 +1,9 @@
 //! The superblock of a volume: one page in two copies, each with a digest. At least one copy is whole at any time.
 
 use super::refusal::Refusal;
+use crate::admin::identity::Identity;
 use crate::bytes::{put, text_of, u16_at, u32_at, u64_at};
 use crate::digest::crc32c;
-use crate::identity::Identity;
 use crate::nvme::BLOCK;
 use crate::storage::aligned::{Aligned, PAGE};
 use std::fs::File;
@@ -41,29 +41,29 @@ const CONFIGURATION_AT: usize = 256;
 #[derive(Clone, Debug, PartialEq, Eq)]
 pub struct Owner {
     /// A number that no other target has drawn.
-    pub number: [u8; 16],
+    pub(super) number: [u8; 16],
     /// The start of its machine, and device and inode of the volume there.
-    pub boot: [u8; 16],
-    pub place: (u64, u64),
+    pub(super) boot: [u8; 16],
+    pub(super) place: (u64, u64),
     /// For messages.
-    pub name: String,
+    pub(super) name: String,
 }
 
 #[derive(Clone, Debug, PartialEq, Eq)]
 pub struct Superblock {
-    pub identity: Identity,
+    pub(super) identity: Identity,
     /// The bytes of the whole volume.
-    pub size: u64,
+    pub(super) size: u64,
     /// How often it was written.
-    pub revision: u64,
+    pub(super) revision: u64,
     /// The number of targets that have taken the volume.
-    pub epoch: u64,
+    pub(super) epoch: u64,
     /// How long a target may serve after it has read that it is the owner.
-    pub lease: Duration,
+    pub(super) lease: Duration,
     /// The target that has the volume; nobody if the last one has ended in order.
-    pub owner: Option<Owner>,
+    pub(super) owner: Option<Owner>,
     /// The lines that describe the subsystem.
-    pub configuration: String,
+    pub(super) configuration: String,
 }
 
 /// What the page of a copy is.
@@ -156,8 +156,8 @@ impl Copy {
 /// The superblock of two copies, and which of them are it.
 #[derive(Debug, PartialEq, Eq)]
 pub struct Chosen {
-    pub superblock: Superblock,
-    pub are_whole: [bool; 2],
+    pub(super) superblock: Superblock,
+    pub(super) are_whole: [bool; 2],
 }
 
 /// Chooses the newest of two copies that is whole.

@@ -1,0 +1,273 @@
+//! Queue entries, whose fields have the names of NVM Express Base, Submission Queue Entry and Completion Queue Entry.
+
+use crate::bytes::{put, u16_at, u32_at, u64_at};
+use crate::nvme::{COMPLETION, ENTRY};
+
+/// Offsets of fields. SGL 1 is where PRP 1 and PRP 2 are.
+const COMMAND_ID: usize = 2;
+const NAMESPACE_ID: usize = 4;
+const PRP1: usize = 24;
+const PRP2: usize = 32;
+const SGL_LENGTH: usize = 32;
+const SGL_IDENTIFIER: usize = 39;
+const CDW10: usize = 40;
+const CDW11: usize = 44;
+const CDW12: usize = 48;
+const CDW14: usize = 56;
+/// PSDT: whether the entry has PRPs or an SGL.
+const PSDT: u8 = 0xc0;
+
+/// A command, as a submission queue or a capsule has it.
+#[derive(Clone, Copy, Debug, PartialEq, Eq)]
+#[repr(transparent)]
+pub struct SubmissionEntry([u8; ENTRY]);
+
+impl SubmissionEntry {
+    /// A command whose other fields are 0.
+    pub fn new(opcode: u8, command_id: u16, namespace_id: u32) -> SubmissionEntry {
+        let mut bytes = [0; ENTRY];
+        bytes[0] = opcode;
+        put(&mut bytes, COMMAND_ID, &command_id.to_le_bytes());
+        put(&mut bytes, NAMESPACE_ID, &namespace_id.to_le_bytes());
+        SubmissionEntry(bytes)
+    }
+
+    /// This entry with CDW10 and CDW11.
+    pub fn with(mut self, cdw10: u32, cdw11: u32) -> SubmissionEntry {
+        put(&mut self.0, CDW10, &cdw10.to_le_bytes());
+        put(&mut self.0, CDW11, &cdw11.to_le_bytes());
+        self
+    }
+
+    /// Another command in the name of this one: no data, on blocks from `slba`, whose number is one more than `nlb`.
+    pub fn on_blocks(&self, opcode: u8, slba: u64, nlb: u16) -> SubmissionEntry {
+        let mut other = *self;
+        other.0[0] = opcode;
+        other.0[PRP1..].fill(0);
+        put(&mut other.0, CDW10, &slba.to_le_bytes());
+        put(&mut other.0, CDW12, &nlb.to_le_bytes());
+        other
+    }
+
+    #[inline]
+    pub fn bytes(&self) -> &[u8; ENTRY] {
+        &self.0
+    }
+
+    #[inline]
+    pub fn opcode(&self) -> u8 {
+        self.0[0]
+    }
+
+    #[inline]
+    pub fn set_opcode(&mut self, opcode: u8) {
+        self.0[0] = opcode;
+    }
+
+    #[inline]
+    pub fn psdt(&self) -> u8 {
+        self.0[1] & PSDT
+    }
+
+    #[inline]
+    pub fn command_id(&self) -> u16 {
+        u16_at(&self.0, COMMAND_ID)
+    }
+
+    #[inline]
+    pub fn namespace_id(&self) -> u32 {
+        u32_at(&self.0, NAMESPACE_ID)
+    }
+
+    /// FCTYPE, which the commands of Fabrics have instead of a namespace.
+    #[inline]
+    pub fn fabrics_type(&self) -> u8 {
+        self.0[NAMESPACE_ID]
+    }
+
+    /// The address of SGL 1, which is an offset if its data are in the capsule.
+    #[inline]
+    pub fn sgl_address(&self) -> u64 {
+        u64_at(&self.0, PRP1)
+    }
+
+    #[inline]
+    pub fn sgl_length(&self) -> u32 {
+        u32_at(&self.0, SGL_LENGTH)
+    }
+
+    /// Type and subtype of SGL 1.
+    #[inline]
+    pub fn sgl_identifier(&self) -> u8 {
+        self.0[SGL_IDENTIFIER]
+    }
+
+    /// Sets PSDT to 0: the data pointer is PRPs.
+    #[inline]
+    pub fn use_prps(&mut self) {
+        self.0[1] &= !PSDT;
+    }
+
+    #[inline]
+    pub fn set_prps(&mut self, first: u64, second: u64) {
+        put(&mut self.0, PRP1, &first.to_le_bytes());
+        put(&mut self.0, PRP2, &second.to_le_bytes());
+    }
+
+    #[inline]
+    pub fn cdw10(&self) -> u32 {
+        u32_at(&self.0, CDW10)
+    }
+
+    #[inline]
+    pub fn cdw11(&self) -> u32 {
+        u32_at(&self.0, CDW11)
+    }
+
+    #[inline]
+    pub fn cdw12(&self) -> u32 {
+        u32_at(&self.0, CDW12)
+    }
+
+    #[inline]
+    pub fn cdw14(&self) -> u32 {
+        u32_at(&self.0, CDW14)
+    }
+
+    /// The lowest byte of CDW10: CNS, a feature, a log page, an action, or a number of ranges.
+    #[inline]
+    pub fn cdw10_low(&self) -> u8 {
+        self.0[CDW10]
+    }
+
+    #[inline]
+    pub fn set_cdw10_low(&mut self, value: u8) {
+        self.0[CDW10] = value;
+    }
+
+    /// The upper half of CDW10: CNTID of Identify, NUMDL of Get Log Page.
+    #[inline]
+    pub fn cdw10_upper(&self) -> u16 {
+        u16_at(&self.0, CDW10 + 2)
+    }
+
+    /// SPSP0, SPSP1 and SECP of Authentication Send and Receive.
+    #[inline]
+    pub fn security_protocol(&self) -> [u8; 3] {
+        [self.0[CDW10 + 1], self.0[CDW10 + 2], self.0[CDW10 + 3]]
+    }
+
+    /// CATTR of Connect.
+    #[inline]
+    pub fn connect_attributes(&self) -> u8 {
+        self.0[CDW11 + 2]
+    }
+
+    /// CSI of Identify.
+    #[inline]
+    pub fn identify_command_set(&self) -> u8 {
+        self.0[CDW11 + 3]
+    }
+
+    /// CSI of Get Log Page.
+    #[inline]
+    pub fn log_command_set(&self) -> u8 {
+        self.0[CDW14 + 3]
+    }
+
+    /// LPOL and LPOU of Get Log Page.
+    #[inline]
+    pub fn log_offset(&self) -> u64 {
+        u64_at(&self.0, CDW12)
+    }
+
+    /// SLBA of a command on blocks.
+    #[inline]
+    pub fn slba(&self) -> u64 {
+        u64_at(&self.0, CDW10)
+    }
+
+    /// NLB of a command on blocks: one less than their number.
+    #[inline]
+    pub fn nlb(&self) -> u16 {
+        u16_at(&self.0, CDW12)
+    }
+}
+
+impl From<[u8; ENTRY]> for SubmissionEntry {
+    #[inline]
+    fn from(bytes: [u8; ENTRY]) -> SubmissionEntry {
+        SubmissionEntry(bytes)
+    }
+}
+
+/// The answer to a command, as a completion queue or a capsule has it. Fabrics has no phase tag.
+#[derive(Clone, Copy, Debug, PartialEq, Eq)]
+#[repr(transparent)]
+pub struct CompletionEntry([u8; COMPLETION]);
+
+impl CompletionEntry {
+    /// `sqhd` is the head of the submission queue, and `status` the status field.
+    #[inline]
+    pub fn new((dw0, dw1): (u32, u32), sqhd: u16, command_id: u16, status: u16) -> CompletionEntry {
+        let mut bytes = [0; COMPLETION];
+        put(&mut bytes, 0, &dw0.to_le_bytes());
+        put(&mut bytes, 4, &dw1.to_le_bytes());
+        put(&mut bytes, 8, &sqhd.to_le_bytes());
+        put(&mut bytes, 12, &command_id.to_le_bytes());
+        put(&mut bytes, 14, &status.to_le_bytes());
+        CompletionEntry(bytes)
+    }
+
+    #[inline]
+    pub fn bytes(&self) -> &[u8; COMPLETION] {
+        &self.0
+    }
+}
+
+#[cfg(test)]
+mod tests {
+    use super::*;
+
+    /// An entry in which each byte is its offset.
+    fn counting() -> SubmissionEntry {
+        let mut bytes = [0; ENTRY];
+        bytes.iter_mut().zip(0..).for_each(|(byte, at)| *byte = at);
+        bytes.into()
+    }
+
+    #[test]
+    fn fields_are_where_the_standard_has_them() {
+        let it = counting();
+        assert_eq!((it.opcode(), it.psdt(), it.command_id()), (0, 0, 0x0302));
+        assert_eq!((it.namespace_id(), it.fabrics_type()), (0x0706_0504, 4));
+        assert_eq!((it.sgl_address(), it.sgl_length(), it.sgl_identifier()), (0x1f1e_1d1c_1b1a_1918, 0x2322_2120, 39));
+        assert_eq!((it.cdw10(), it.cdw11(), it.cdw12()), (0x2b2a_2928, 0x2f2e_2d2c, 0x3332_3130));
+        assert_eq!((it.cdw14(), it.cdw10_low(), it.cdw10_upper()), (0x3b3a_3938, 0x28, 0x2b2a));
+        assert_eq!((it.security_protocol(), it.connect_attributes()), ([41, 42, 43], 46));
+        assert_eq!((it.identify_command_set(), it.log_command_set()), (47, 59));
+        assert_eq!((it.log_offset(), it.slba()), (0x3736_3534_3332_3130, 0x2f2e_2d2c_2b2a_2928));
+        assert_eq!(it.nlb(), 0x3130);
+    }
+
+    #[test]
+    fn what_is_put_is_what_is_read() {
+        let mut it = SubmissionEntry::new(0x7f, 0x1234, 9).with(10, 11);
+        assert_eq!((it.opcode(), it.command_id(), it.namespace_id()), (0x7f, 0x1234, 9));
+        assert_eq!((it.cdw10(), it.cdw11(), it.cdw12()), (10, 11, 0));
+        it.set_prps(1 << 40, 7);
+        assert_eq!((it.sgl_address(), it.sgl_length()), (1 << 40, 7));
+        let other = it.on_blocks(8, 1 << 33, 255);
+        assert_eq!((other.opcode(), other.command_id(), other.namespace_id()), (8, 0x1234, 9));
+        assert_eq!((other.slba(), other.nlb(), other.sgl_address()), (1 << 33, 255, 0));
+        let mut it = SubmissionEntry::from([0xff; ENTRY]);
+        it.use_prps();
+        assert_eq!((it.psdt(), it.bytes()[1]), (0, 0x3f));
+    }
+
+    #[test]
+    fn completions() {
+        let it = CompletionEntry::new((0x0403_0201, 0x0807_0605), 0x0a09, 0x0e0d, 0x100f);
+        assert_eq!(*it.bytes(), [1, 2, 3, 4, 5, 6, 7, 8, 9, 10, 0, 0, 13, 14, 15, 16]);
+    }
+}

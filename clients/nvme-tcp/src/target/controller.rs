@@ -1,0 +1,336 @@
+//! A controller of the subsystem, whose host's memory the target keeps: the way of a command through its queues.
+
+use crate::fault::Outcome;
+use crate::nvme::entry::SubmissionEntry;
+use crate::nvme::status::{Status, COMMAND_SEQUENCE, SUCCESS};
+use crate::nvme::{
+    BLOCK, CREATE_COMPLETION_QUEUE, CREATE_SUBMISSION_QUEUE, DELETE_COMPLETION_QUEUE, DELETE_SUBMISSION_QUEUE, ENTRY,
+    MOST_QUEUE, QUEUES, READ, WRITE,
+};
+use crate::target::machine::Machine;
+use crate::target::window::{self, Room};
+use nvmesim::{Brought, Executed, Fetched, Need};
+
+/// Offsets of registers.
+pub const CAP: u64 = 0x00;
+pub const VS: u64 = 0x08;
+pub const CC: u64 = 0x14;
+pub const CSTS: u64 = 0x1c;
+const AQA: u64 = 0x24;
+const ASQ: u64 = 0x28;
+const ACQ: u64 = 0x30;
+const DOORBELLS: u64 = 0x1000;
+/// CC.EN.
+pub const ENABLE: u32 = 1;
+
+/// The direction and place of a command's data.
+#[derive(Clone, Copy)]
+pub enum Data<'d> {
+    /// Nowhere: it has none, or keeps the data pointer that it has.
+    None,
+    /// These go to the controller.
+    ToController(&'d [u8]),
+    /// This many bytes come from the controller.
+    FromController(usize),
+}
+
+impl Data<'_> {
+    pub fn length(self) -> usize {
+        match self {
+            Data::None => 0,
+            Data::ToController(bytes) => bytes.len(),
+            Data::FromController(length) => length,
+        }
+    }
+}
+
+/// The result of a command. Its data are in the memory from `data` on until the next command is executed.
+#[derive(Clone, Copy, Debug, PartialEq, Eq)]
+pub struct Completed {
+    pub status: Status,
+    pub(super) dw0: u32,
+    pub data: u64,
+    /// Whether a rule denied it, so that it has changed nothing.
+    pub(super) is_denied: bool,
+    /// What it needed of the blocks.
+    pub(super) need: Need,
+}
+
+impl Completed {
+    pub fn without_queue() -> Completed {
+        Completed { status: COMMAND_SEQUENCE, dw0: 0, data: 0, is_denied: true, need: Need::Nothing }
+    }
+}
+
+/// A command that was fetched and not executed. Its place among those changes, and this does not.
+#[derive(Clone, Copy, Debug, PartialEq, Eq)]
+pub struct Token(u64);
+
+/// A pair of queues of one size.
+#[derive(Clone, Copy)]
+struct Pair {
+    size: u16,
+    tail: u16,
+    head: u16,
+}
+
+/// A controller, and the queues that it has.
+pub struct Controller {
+    pub cntlid: u16,
+    pub host: u128,
+    queues: [Option<Pair>; QUEUES],
+    /// The commands that were fetched and not executed, in the order of their fetches, and their queues.
+    fetched: Vec<(Token, u16)>,
+    next: Token,
+    /// How many commands went through its queues.
+    pub commands: u64,
+}
+
+impl Controller {
+    pub fn new(cntlid: u16, host: u128) -> Controller {
+        let (queues, fetched) = ([None; QUEUES], Vec::new());
+        Controller { cntlid, host, queues, fetched, next: Token(0), commands: 0 }
+    }
+
+    pub fn has_queue(&self, qid: u16) -> bool {
+        matches!(self.queues.get(usize::from(qid)), Some(Some(_)))
+    }
+
+    /// How many commands were fetched and not executed.
+    pub fn fetched(&self) -> usize {
+        self.fetched.len()
+    }
+
+    /// What is forgotten when the controller is reset or power is lost: queues, and what was fetched.
+    pub fn forget(&mut self) {
+        self.queues = [None; QUEUES];
+        self.fetched.clear();
+    }
+
+    /// The controller is reset: CC is 0.
+    pub fn reset(&mut self, machine: &mut Machine<'_>) -> Outcome<()> {
+        self.forget();
+        machine.write32(self.cntlid, CC, 0)
+    }
+
+    /// Writes CC. Before CC.EN is set, the admin queues get their places and sizes.
+    pub fn configure(&mut self, machine: &mut Machine<'_>, value: u32, admin_entries: u16) -> Outcome<()> {
+        if value & ENABLE == 0 {
+            self.forget();
+        } else if !self.has_queue(0) {
+            self.place_admin_queues(machine, admin_entries)?;
+            self.queues[0] = Some(Pair { size: admin_entries, tail: 0, head: 0 });
+        }
+        machine.write32(self.cntlid, CC, value)
+    }
+
+    /// What a host with a bus does before it sets CC.EN, and the PRP list.
+    fn place_admin_queues(&self, machine: &mut Machine<'_>, entries: u16) -> Outcome<()> {
+        let last = u32::from(entries) - 1;
+        let (submission, completion) = (window::submission_queue(0), window::completion_queue(0));
+        for (offset, value) in [(AQA, last << 16 | last), (ASQ, submission as u32), (ASQ + 4, 0)] {
+            machine.write32(self.cntlid, offset, value)?;
+        }
+        machine.write32(self.cntlid, ACQ, completion as u32)?;
+        machine.write32(self.cntlid, ACQ + 4, 0)?;
+        machine.store(self.cntlid, completion, &[0; window::PAGE as usize])?;
+        let (list, pages) = window::prp_list();
+        machine.store(self.cntlid, list, &pages)
+    }
+
+    /// Create I/O Completion Queue and Create I/O Submission Queue, by the admin queue: the first status that is not
+    /// success, or success.
+    pub fn create_queues(&mut self, machine: &mut Machine<'_>, qid: u16, entries: u16) -> Outcome<Status> {
+        let place = qid.min(MOST_QUEUE + 1);
+        let size = (u32::from(entries) - 1) << 16 | u32::from(qid);
+        machine.store(self.cntlid, window::completion_queue(place), &[0; window::PAGE as usize])?;
+        let completion = own_entry(CREATE_COMPLETION_QUEUE, window::completion_queue(place), size, 1);
+        let made = self.run(machine, 0, &completion, Data::None)?.status;
+        if made != SUCCESS {
+            return Ok(made);
+        }
+        let link = u32::from(qid) << 16 | 1;
+        let submission = own_entry(CREATE_SUBMISSION_QUEUE, window::submission_queue(place), size, link);
+        let made = self.run(machine, 0, &submission, Data::None)?.status;
+        if made == SUCCESS {
+            self.queues[usize::from(qid)] = Some(Pair { size: entries, tail: 0, head: 0 });
+        }
+        Ok(made)
+    }
+
+    /// Delete I/O Submission Queue and Delete I/O Completion Queue: what was fetched from it is dropped.
+    pub fn delete_queues(&mut self, machine: &mut Machine<'_>, qid: u16) -> Outcome<()> {
+        if !self.has_queue(qid) || !self.has_queue(0) {
+            return Ok(());
+        }
+        self.queues[usize::from(qid)] = None;
+        self.run(machine, 0, &own_entry(DELETE_SUBMISSION_QUEUE, 0, u32::from(qid), 0), Data::None)?;
+        // What was fetched from it counts until then, in the places of commands.
+        self.fetched.retain(|(_, queue)| *queue != qid);
+        self.run(machine, 0, &own_entry(DELETE_COMPLETION_QUEUE, 0, u32::from(qid), 0), Data::None)?;
+        Ok(())
+    }
+
+    /// Executes a command that no blocks have to be brought for: stores it, rings, fetches and executes it, and takes
+    /// its completion.
+    #[inline]
+    pub fn run(
+        &mut self,
+        machine: &mut Machine<'_>,
+        qid: u16,
+        entry: &SubmissionEntry,
+        data: Data<'_>,
+    ) -> Outcome<Completed> {
+        let token = match self.submit(machine, qid, entry, data, Room::AT_ONCE)? {
+            Some(token) => token,
+            None => return Ok(Completed::without_queue()),
+        };
+        let need = if is_followed(qid, entry) { self.need(machine, token)? } else { Need::Nothing };
+        self.execute(machine, token, need, Room::AT_ONCE.start(data.length()))
+    }
+
+    /// What a fetched command needs of the blocks now.
+    pub fn need(&self, machine: &mut Machine<'_>, token: Token) -> Outcome<Need> {
+        self.place(token).map_or(Ok(Need::Nothing), |i| machine.need(self.cntlid, i))
+    }
+
+    /// Executes a fetched command that needs this, and whose data are at this address; takes its completion.
+    pub fn execute(&mut self, machine: &mut Machine<'_>, token: Token, need: Need, data: u64) -> Outcome<Completed> {
+        let i = match self.place(token) {
+            Some(i) => i,
+            None => return Ok(Completed::without_queue()),
+        };
+        let executed = machine.execute(self.cntlid, i)?;
+        self.complete(machine, i, executed, (need, data))
+    }
+
+    /// The same over blocks that are brought in a room. It also returns how many blocks of the room belong on the disk.
+    pub fn execute_over(
+        &mut self,
+        machine: &mut Machine<'_>,
+        token: Token,
+        (need, data): (Need, u64),
+        (room, brought): (&mut [u8], Brought),
+    ) -> Outcome<(Completed, u64)> {
+        let i = match self.place(token) {
+            Some(i) => i,
+            None => return Ok((Completed::without_queue(), 0)),
+        };
+        let (executed, at_hand) = machine.execute_over(self.cntlid, i, room, brought)?;
+        Ok((self.complete(machine, i, executed, (need, data))?, at_hand))
+    }
+
+    /// The place of a command among those that were fetched.
+    fn place(&self, token: Token) -> Option<usize> {
+        self.fetched.iter().position(|(it, _)| *it == token)
+    }
+
+    /// Stores a command and its data, rings and fetches it; nothing if it was not fetched.
+    pub fn submit(
+        &mut self,
+        machine: &mut Machine<'_>,
+        qid: u16,
+        entry: &SubmissionEntry,
+        data: Data<'_>,
+        room: Room,
+    ) -> Outcome<Option<Token>> {
+        let mut pair = match self.queues.get(usize::from(qid)) {
+            Some(Some(pair)) => *pair,
+            _ => return Ok(None),
+        };
+        let c = self.cntlid;
+        let place = window::submission_queue(qid) + ENTRY as u64 * u64::from(pair.tail);
+        pair.tail = (pair.tail + 1) % pair.size;
+        machine.store(c, place, placed(entry, data, room).bytes())?;
+        self.place_data(machine, qid, entry, data, room)?;
+        machine.write32(c, doorbell(qid), u32::from(pair.tail))?;
+        let is_fetched = machine.fetch(c, qid)? == Fetched::Took;
+        // A controller that was shut down fetches nothing more until it is reset.
+        self.queues[usize::from(qid)] = if is_fetched { Some(pair) } else { None };
+        if !is_fetched {
+            return Ok(None);
+        }
+        let token = self.next;
+        self.next = Token(token.0 + 1);
+        self.fetched.push((token, qid));
+        Ok(Some(token))
+    }
+
+    /// Stores the data of a command, or zeros where it may store fewer than its host expects.
+    pub fn place_data(
+        &self,
+        machine: &mut Machine<'_>,
+        qid: u16,
+        entry: &SubmissionEntry,
+        data: Data<'_>,
+        room: Room,
+    ) -> Outcome<()> {
+        match data {
+            Data::ToController(bytes) if !bytes.is_empty() => {
+                machine.store(self.cntlid, room.start(bytes.len()), bytes)
+            }
+            Data::FromController(length) if length != 0 && !fills(entry, qid, length) => {
+                machine.store(self.cntlid, room.start(length), &vec![0; length])
+            }
+            _ => Ok(()),
+        }
+    }
+
+    /// Takes the completion of the i-th fetched command.
+    fn complete(
+        &mut self,
+        machine: &mut Machine<'_>,
+        i: usize,
+        executed: Executed,
+        (need, data): (Need, u64),
+    ) -> Outcome<Completed> {
+        self.commands += 1;
+        let posted = match executed {
+            Executed::Posted(completion) => completion,
+            Executed::NoSuch | Executed::CqFull => return Ok(Completed::without_queue()),
+        };
+        let (_, qid) = self.fetched.remove(i);
+        if let Some(pair) = &mut self.queues[usize::from(qid)] {
+            pair.head = (pair.head + 1) % pair.size;
+            machine.write32(self.cntlid, doorbell(qid) + 4, u32::from(pair.head))?;
+        }
+        let status = Status { sct: posted.sct, sc: posted.sc };
+        Ok(Completed { status, dw0: posted.dw0, data, is_denied: posted.denied_by.is_some(), need })
+    }
+}
+
+/// The tail doorbell of a queue; its head doorbell is 4 bytes further.
+fn doorbell(qid: u16) -> u64 {
+    DOORBELLS + 8 * u64::from(qid)
+}
+
+/// An entry as it goes to the subsystem: PRPs instead of an SGL, PSDT 0.
+fn placed(entry: &SubmissionEntry, data: Data<'_>, room: Room) -> SubmissionEntry {
+    let mut placed = *entry;
+    placed.use_prps();
+    if !matches!(data, Data::None) {
+        let (first, second) = room.pointers(data.length());
+        placed.set_prps(first, second);
+    }
+    placed
+}
+
+/// Whether the target has to know which blocks a command in memory zeroes, to count them. An admin command, a Read and
+/// a Write zero none.
+fn is_followed(qid: u16, entry: &SubmissionEntry) -> bool {
+    qid != 0 && !matches!(entry.opcode(), READ | WRITE)
+}
+
+/// Whether a successful command writes all of these bytes: a Read of exactly as many blocks. For others the buffer is
+/// cleared first, so that the host gets nothing of earlier commands.
+fn fills(entry: &SubmissionEntry, qid: u16, length: usize) -> bool {
+    qid != 0 && entry.opcode() == READ && length == BLOCK as usize * (usize::from(entry.nlb()) + 1)
+}
+
+/// An entry of the target's own.
+fn own_entry(opcode: u8, place: u64, dw10: u32, dw11: u32) -> SubmissionEntry {
+    // No command of a host has this identifier at the same time: each of these runs to its end.
+    let mut entry = SubmissionEntry::new(opcode, 0xfffe, 0).with(dw10, dw11);
+    entry.set_prps(place, 0);
+    entry
+}

@@ -1,0 +1,145 @@
+//! The subsystem, event by event: each is a call of the library, and is noted if the run is kept.
+
+use crate::fault::Outcome;
+use crate::recording::run::Run;
+use nvmesim::{Brought, Change, Executed, Fetched, HostView, LineError, Need, Notices, Reservation, Subsystem};
+
+/// The subsystem of this process.
+pub struct Machine<'a> {
+    subsystem: Subsystem<'a>,
+    run: Option<Run>,
+}
+
+impl<'a> Machine<'a> {
+    pub fn new(subsystem: Subsystem<'a>, run: Option<Run>) -> Self {
+        Machine { subsystem, run }
+    }
+
+    pub fn store(&mut self, cntlid: u16, address: u64, bytes: &[u8]) -> Outcome<()> {
+        self.subsystem.store(cntlid, address, bytes)?;
+        if let Some(run) = &mut self.run {
+            run.stored(cntlid, address, bytes)?;
+        }
+        Ok(())
+    }
+
+    pub fn write32(&mut self, cntlid: u16, offset: u64, value: u32) -> Outcome<()> {
+        self.subsystem.write32(cntlid, offset, value)?;
+        if let Some(run) = &mut self.run {
+            run.wrote32(cntlid, offset, value);
+        }
+        Ok(())
+    }
+
+    pub fn fetch(&mut self, cntlid: u16, qid: u16) -> Outcome<Fetched> {
+        let fetched = self.subsystem.fetch(cntlid, qid)?;
+        if let Some(run) = &mut self.run {
+            run.fetched(cntlid, qid, fetched);
+        }
+        Ok(fetched)
+    }
+
+    pub fn execute(&mut self, cntlid: u16, i: usize) -> Outcome<Executed> {
+        let executed = self.subsystem.execute(cntlid, i)?;
+        if let Some(run) = &mut self.run {
+            run.executed(cntlid, i, executed);
+        }
+        Ok(executed)
+    }
+
+    /// The same over blocks of the disk that are brought in a room. It also returns how many of the room's first blocks
+    /// belong on the disk.
+    pub fn execute_over(
+        &mut self,
+        cntlid: u16,
+        i: usize,
+        room: &mut [u8],
+        brought: Brought,
+    ) -> Outcome<(Executed, u64)> {
+        let (executed, at_hand) = self.subsystem.execute_over(cntlid, i, room, brought)?;
+        if let Some(run) = &mut self.run {
+            run.executed(cntlid, i, executed);
+        }
+        Ok((executed, at_hand))
+    }
+
+    pub fn power_cycle(&mut self) {
+        self.subsystem.power_cycle();
+        if let Some(run) = &mut self.run {
+            run.cycled();
+        }
+    }
+
+    /// What the i-th fetched command of a controller needs of the blocks if it is executed now; nothing if there is no
+    /// such command. The execution reads, writes and flushes nothing else: that is proved.
+    pub fn need(&mut self, cntlid: u16, i: usize) -> Outcome<Need> {
+        Ok(self.subsystem.need(cntlid, i)?.unwrap_or(Need::Nothing))
+    }
+
+    /// Reads a register. That changes nothing, so it is no event of a run.
+    pub fn read32(&mut self, cntlid: u16, offset: u64) -> Outcome<u32> {
+        Ok(self.subsystem.read32(cntlid, offset)?)
+    }
+
+    /// Looks at the memory of a controller's host.
+    pub fn load(&mut self, cntlid: u16, address: u64, bytes: &mut [u8]) -> Outcome<()> {
+        Ok(self.subsystem.load(cntlid, address, bytes)?)
+    }
+
+    /// The reservation and the write protection of a namespace; nothing if there is no such namespace.
+    pub fn reservation(&mut self, nsid: u32) -> Option<Reservation> {
+        self.subsystem.reservation(nsid).ok()
+    }
+
+    /// How the reservation of a namespace concerns the host of a controller; nothing if one of them does not exist.
+    pub fn view(&mut self, nsid: u32, cntlid: u16) -> Option<HostView> {
+        self.subsystem.view(nsid, cntlid).ok()
+    }
+
+    /// Adds the notice that a controller gets of a reservation command, if it gets one.
+    pub fn notify(&mut self, notices: &mut Notices, cntlid: u16, change: Change, before: HostView) -> Outcome<()> {
+        Ok(self.subsystem.notify(notices, cntlid, change, &before)?)
+    }
+
+    /// Answers the query with this number, by the text of a session.
+    pub fn look(&mut self, number: u64, line: &str) -> Result<String, LineError> {
+        self.subsystem.look(number, line)
+    }
+
+    pub fn is_attached(&mut self, cntlid: u16, nsid: u32) -> bool {
+        self.subsystem.is_attached(cntlid, nsid)
+    }
+
+    /// Records whether only one connection is served.
+    pub fn serve_alone(&mut self, is_alone: bool) {
+        if let Some(run) = &mut self.run {
+            run.is_alone = is_alone;
+        }
+    }
+
+    /// Writes the noted events, or begins to; the number of batches after which they are written. With `is_awaited` the
+    /// caller waits for that next.
+    pub fn begin_run(&mut self, is_awaited: bool) -> Outcome<u64> {
+        self.run.as_mut().map_or(Ok(0), |it| it.begin(is_awaited))
+    }
+
+    /// Is called ten times a second: the files of an idle run release the disk space that they have reserved.
+    pub fn rest_run(&mut self) -> Outcome<()> {
+        self.run.as_mut().map_or(Ok(()), Run::rest)
+    }
+
+    /// Syncs the files of the run.
+    pub fn sync_run(&mut self) -> Outcome<()> {
+        self.run.as_mut().map_or(Ok(()), Run::sync)
+    }
+
+    /// Number of batches of the run that are written.
+    pub fn run_done(&self) -> Outcome<u64> {
+        self.run.as_ref().map_or(Ok(0), Run::done)
+    }
+
+    /// Waits until `count` batches of the run are written.
+    pub fn wait_for_run(&self, count: u64) -> Outcome<()> {
+        self.run.as_ref().map_or(Ok(()), |it| it.wait_for(count))
+    }
+}
