@@ -1,60 +1,124 @@
 //! The command line of the simulator.
 
+use crate::jobs;
+use crate::page;
 use crate::run::{run, Report};
-use crate::scenario::Scenario;
+use crate::scenario::{Scenario, KINDS};
+use crate::shrinking::shrink;
 use crate::supervisor::Act;
-use crate::world::SECOND;
-use std::collections::BTreeMap;
-use std::process::{Command, ExitCode, Stdio};
-use std::time::{Duration, Instant};
-use std::{env, fs};
+use crate::world::{self, SECOND};
+use std::process::ExitCode;
+use std::time::Duration;
+use std::{env, fs, thread};
 
 const HELP: &str = "\
-usage: clients/nvme-tcp/simulate [--seed N] [--commands M] [--for TIME] [--without KIND].. [--log FILE] [--no-shrink]
+usage: clients/nvme-tcp/simulate [--seed N | --for TIME | --seeds COUNT] [OPTION]..
 
-Runs the NVMe/TCP target in a simulated world, in which the seed decides everything. With --seed it runs that one; else
-the seeds from --first on, 1 by default, each in a process of its own, for --for: 30s, 10m, 1h.
+Runs the NVMe/TCP target in a simulated world, in which the seed decides everything: docs/SIMULATOR.md describes it.
+With --seed it runs that one; else the seeds from --first on, 1 by default: --seeds of them, or for --for, 60s by
+default: 30s, 10m, 1h.
+  --jobs N         run seeds in N processes, by default one per processor
   --commands M     commands that hosts send in a seed, by default 2000
-  --without KIND   leave out a kind of trouble: kill power stop takeover cut end cycle hold lies disk late
+  --without KIND   leave out a kind of trouble: KINDS
+  --paths N, --depth N, --longest N
+                   at most N paths, commands of a path at a time, blocks of a command
+  --variant N      other random choices of the same scenario, by default 0
   --log FILE       write the events of the seed there, with the simulated time in seconds
+  --page FILE      write a timeline of the seed there, as one HTML page
   --no-shrink      do not look for a smaller failure
-A violation is printed with what the checker knows. Times are nanoseconds of the simulated clock: a block lists the
-writes that may be its value, from `start` (sent) to `end` (answered, or when it could last be executed), and `seen`,
-what reads returned. Look for the block and its times in the log of the same seed, which has starts, ends and
-troubles of targets, and answers. The smallest failing run is printed after it.
-Exit status: 0 no violation; 1 a violation, which is printed with its seed; 3 bad command line.
+  --shrink-for TIME
+                   look for one that long, by default 60s
+  --coverage FOLDER
+                   build with counters, and write there which lines of the target the seeds of --for reached
+A violation is printed with what the checker knows, and after it the smallest run that fails the same way.
+Exit status: 0 no violation; 1 a violation, which is printed with its seed; 3 bad command line; 70 not built.
 ";
 
-struct Options {
-    seed: Option<u64>,
-    first: u64,
-    commands: u64,
-    time: Duration,
-    without: Vec<String>,
-    log: Option<String>,
-    shrinks: bool,
+/// A run, as one command line describes it.
+#[derive(Clone, Debug, PartialEq, Eq)]
+pub struct Run {
+    pub seed: u64,
+    pub commands: u64,
+    pub without: Vec<String>,
+    pub paths: usize,
+    pub depth: usize,
+    pub longest: usize,
+    pub variant: u64,
+    /// A fault of simulator/plant, or none.
+    pub planted: String,
 }
 
-fn time_of(text: &str) -> Option<Duration> {
+pub struct Options {
+    pub run: Run,
+    pub is_one: bool,
+    pub seeds: Option<u64>,
+    pub jobs: usize,
+    pub time: Duration,
+    log: Option<String>,
+    pub page: Option<String>,
+    pub shrinks: bool,
+    pub shrink_time: Duration,
+}
+
+impl Run {
+    fn new() -> Run {
+        let (paths, depth, longest) = (usize::MAX, usize::MAX, usize::MAX);
+        let (without, planted) = (Vec::new(), String::new());
+        Run { seed: 1, commands: 2_000, without, paths, depth, longest, variant: 0, planted }
+    }
+
+    /// The words of its command line.
+    pub fn words(&self) -> Vec<String> {
+        let numbers = [
+            ("--seed", self.seed, None),
+            ("--commands", self.commands, None),
+            ("--paths", self.paths as u64, Some(u64::MAX)),
+            ("--depth", self.depth as u64, Some(u64::MAX)),
+            ("--longest", self.longest as u64, Some(u64::MAX)),
+            ("--variant", self.variant, Some(0)),
+        ];
+        let numbers = numbers.iter().filter(|(_, value, default)| *default != Some(*value));
+        let numbers = numbers.flat_map(|(name, value, _)| [(*name).to_owned(), value.to_string()]);
+        let without = self.without.iter().flat_map(|it| ["--without".to_owned(), it.clone()]);
+        let planted = Some(&self.planted).filter(|it| !it.is_empty());
+        let planted = planted.into_iter().flat_map(|it| ["--planted".to_owned(), it.clone()]);
+        numbers.chain(without).chain(planted).collect()
+    }
+
+    pub fn scenario(&self) -> Scenario {
+        let mut scenario = Scenario::new(self.seed, self.commands, &self.without);
+        scenario.paths.truncate(self.paths.max(1));
+        for path in &mut scenario.paths {
+            (path.depth, path.longest) = (path.depth.min(self.depth), path.longest.min(self.longest));
+        }
+        scenario
+    }
+}
+
+fn time_of(text: &str) -> Result<Duration, String> {
     let digits = text.trim_end_matches(|it: char| !it.is_ascii_digit());
-    let unit = match &text[digits.len()..] {
-        "s" => 1,
-        "m" => 60,
-        "h" => 3600,
-        _ => return None,
-    };
-    digits.parse::<u64>().ok().map(|it| Duration::from_secs(it * unit))
+    let unit = [("s", 1), ("m", 60), ("h", 3600)].into_iter().find(|(name, _)| *name == &text[digits.len()..]);
+    let number = digits.parse::<u64>().ok();
+    let seconds = unit.and_then(|(_, unit)| number.and_then(|it| it.checked_mul(unit)));
+    seconds.map(Duration::from_secs).ok_or_else(|| format!("{text}: no time, such as 30s, 10m or 1h"))
+}
+
+fn kind_of(text: String) -> Result<String, String> {
+    let is_known = KINDS.contains(&text.as_str());
+    is_known.then_some(text.clone()).ok_or_else(|| format!("--without {text}: no kind of trouble; see --help"))
 }
 
 fn options(words: impl Iterator<Item = String>) -> Result<Options, String> {
     let mut options = Options {
-        seed: None,
-        first: 1,
-        commands: 2_000,
+        run: Run::new(),
+        is_one: false,
+        seeds: None,
+        jobs: thread::available_parallelism().map_or(1, |it| it.get()),
         time: Duration::from_secs(60),
-        without: Vec::new(),
         log: None,
+        page: None,
         shrinks: true,
+        shrink_time: Duration::from_secs(60),
     };
     let mut words = words;
     while let Some(word) = words.next() {
@@ -63,47 +127,65 @@ fn options(words: impl Iterator<Item = String>) -> Result<Options, String> {
             continue;
         }
         let value = words.next().ok_or_else(|| format!("{word}: it needs a value, or is unknown; see --help"))?;
-        let number = || value.parse::<u64>().map_err(|_| format!("{word} {value}: no number"));
-        match word.as_str() {
-            "--seed" => options.seed = Some(number()?),
-            "--first" => options.first = number()?,
-            "--commands" => options.commands = number()?,
-            "--for" => options.time = time_of(&value).ok_or_else(|| format!("--for {value}: as 30s, 10m or 1h"))?,
-            "--without" => options.without.push(value),
-            "--log" => options.log = Some(value),
-            // Of simulator/plant.
-            "--planted" => crate::world::plant(&value),
-            _ => return Err(format!("{word}: unknown; see --help")),
-        }
+        take(&mut options, &word, value)?;
     }
     Ok(options)
+}
+
+fn take(options: &mut Options, word: &str, value: String) -> Result<(), String> {
+    let number = || value.parse::<u64>().map_err(|_| format!("{word} {value}: no number"));
+    let size = || number().map(|it| usize::try_from(it).unwrap_or(usize::MAX).max(1));
+    let run = &mut options.run;
+    match word {
+        "--seed" => (run.seed, options.is_one) = (number()?, true),
+        "--first" => run.seed = number()?,
+        "--seeds" => options.seeds = Some(number()?),
+        "--jobs" => options.jobs = size()?,
+        "--commands" => run.commands = number()?,
+        "--for" => options.time = time_of(&value)?,
+        "--without" => run.without.push(kind_of(value)?),
+        "--paths" => run.paths = size()?,
+        "--depth" => run.depth = size()?,
+        "--longest" => run.longest = size()?,
+        "--variant" => run.variant = number()?,
+        "--log" => options.log = Some(value),
+        "--page" => options.page = Some(value),
+        "--shrink-for" => options.shrink_time = time_of(&value)?,
+        "--planted" => run.planted = value,
+        _ => return Err(format!("{word}: unknown; see --help")),
+    }
+    Ok(())
 }
 
 pub fn main(act: Act) -> ExitCode {
     let words: Vec<String> = env::args().skip(1).collect();
     if words.iter().any(|it| it == "--help" || it == "-h") {
-        print!("{HELP}");
+        print!("{}", HELP.replace("KINDS", &KINDS.join(" ")));
         return ExitCode::SUCCESS;
     }
-    let options = match options(words.into_iter()) {
-        Ok(options) => options,
+    match options(words.into_iter()) {
+        Ok(options) if options.is_one => one(&options, act),
+        Ok(options) => jobs::many(&options),
         Err(text) => {
             eprintln!("simulate: {text}");
-            return ExitCode::from(3);
+            ExitCode::from(3)
         }
-    };
-    match options.seed {
-        Some(seed) => one(&options, seed, act),
-        None => many(&options),
     }
 }
 
 /// Runs one seed in this process.
-fn one(options: &Options, seed: u64, act: Act) -> ExitCode {
-    let scenario = Scenario::new(seed, options.commands, &options.without);
-    let report = run(&scenario, act, options.log.is_some());
-    if let (Some(path), Some(lines)) = (&options.log, &report.lines) {
-        if let Err(error) = fs::write(path, lines.join("\n") + "\n") {
+fn one(options: &Options, act: Act) -> ExitCode {
+    world::plant(&options.run.planted);
+    let scenario = options.run.scenario();
+    let report = run(&scenario, options.run.variant, act, options.log.is_some() || options.page.is_some());
+    let lines = report.lines.as_deref().unwrap_or(&[]);
+    for (path, is_page) in [(&options.log, false), (&options.page, true)] {
+        let path = match path {
+            Some(path) => path,
+            None => continue,
+        };
+        let text = if is_page { page::page(&options.run, &report) } else { lines.join("\n") + "\n" };
+        if let Err(error) = fs::write(path, text) {
             eprintln!("simulate: {path}: {error}");
         }
     }
@@ -112,7 +194,10 @@ fn one(options: &Options, seed: u64, act: Act) -> ExitCode {
         return ExitCode::SUCCESS;
     }
     if options.shrinks {
-        shrink(options, seed);
+        let best = shrink(&options.run, options.shrink_time, options.jobs);
+        if let Some(path) = &options.page {
+            jobs::draw(&best, path);
+        }
     }
     ExitCode::from(1)
 }
@@ -120,7 +205,7 @@ fn one(options: &Options, seed: u64, act: Act) -> ExitCode {
 fn print_report(scenario: &Scenario, report: &Report) {
     let source = if scenario.is_volume { "volume".to_owned() } else { format!("image {}", scenario.options.join(" ")) };
     println!(
-        "seed {} {source} blocks {} paths {} troubles {}: {} sent {} answered {} ends {} replayed, {} fenced, {} steps, \
+        "seed {} {source} blocks {} paths {} troubles {}: {} sent {} answered {} ends {} replayed {} fenced, {} steps, \
          {:.1} s simulated, {} events, digest {:016x}",
         scenario.seed,
         scenario.blocks,
@@ -145,92 +230,24 @@ fn print_report(scenario: &Scenario, report: &Report) {
     }
 }
 
-/// What a process for one seed printed, and whether it found a violation.
-fn child(options: &Options, seed: u64, commands: u64, without: &[String]) -> (bool, String) {
-    let program = env::current_exe().unwrap_or_default();
-    let mut command = Command::new(program);
-    command.args(["--no-shrink", "--seed", &seed.to_string(), "--commands", &commands.to_string()]);
-    for kind in options.without.iter().chain(without) {
-        command.args(["--without", kind]);
-    }
-    match command.stdin(Stdio::null()).stderr(Stdio::piped()).output() {
-        Ok(output) if output.status.code().is_some() => {
-            let text = String::from_utf8_lossy(&output.stdout) + String::from_utf8_lossy(&output.stderr);
-            (output.status.code() != Some(0), text.into_owned())
-        }
-        Ok(output) => (true, format!("seed {seed}: the process ended by {}\n", output.status)),
-        Err(error) => (true, format!("seed {seed}: {error}\n")),
-    }
-}
+#[cfg(test)]
+mod tests {
+    use super::*;
 
-/// Runs seeds until the time is over.
-fn many(options: &Options) -> ExitCode {
-    let (begin, mut sent, mut seeds, mut failed) = (Instant::now(), 0, 0, Vec::new());
-    let mut injected: BTreeMap<String, u64> = BTreeMap::new();
-    let mut seed = options.first;
-    while begin.elapsed() < options.time {
-        let (is_bad, text) = child(options, seed, options.commands, &[]);
-        sent += number_before(&text, " sent ");
-        seeds += 1;
-        add_injected(&text, &mut injected);
-        if is_bad {
-            println!("after {:.1} s and {sent} commands:\n{text}", begin.elapsed().as_secs_f64());
-            if options.shrinks {
-                shrink(options, seed);
-            }
-            failed.push(seed);
-        }
-        seed += 1;
-    }
-    let minutes = begin.elapsed().as_secs_f64() / 60.0;
-    println!(
-        "{seeds} seeds, {sent} commands, {:.0} a minute; violations in {}: {failed:?}",
-        sent as f64 / minutes,
-        failed.len()
-    );
-    let injected: Vec<String> = injected.iter().map(|(name, count)| format!("{name} {count}")).collect();
-    println!("injected: {}", injected.join(", "));
-    if failed.is_empty() {
-        ExitCode::SUCCESS
-    } else {
-        ExitCode::from(1)
-    }
-}
-
-fn number_before(text: &str, mark: &str) -> u64 {
-    let head = text.split(mark).next().unwrap_or("");
-    head.rsplit(' ').next().and_then(|it| it.parse().ok()).unwrap_or(0)
-}
-
-fn add_injected(text: &str, sums: &mut BTreeMap<String, u64>) {
-    let line = text.lines().find_map(|it| it.strip_prefix("  injected: ")).unwrap_or("");
-    for (name, count) in line.split(", ").filter_map(|it| it.rsplit_once(' ')) {
-        *sums.entry(name.to_owned()).or_default() += count.parse::<u64>().unwrap_or(0);
-    }
-}
-
-/// Looks for the fewest commands and kinds of trouble with which a seed still fails. Each try is another run, so a
-/// smaller one may fail for another reason: it is printed.
-fn shrink(options: &Options, seed: u64) {
-    let mut without: Vec<String> = Vec::new();
-    let mut commands = options.commands;
-    for kind in crate::scenario::KINDS {
-        let more: Vec<String> = without.iter().cloned().chain([kind.to_owned()]).collect();
-        if child(options, seed, commands, &more).0 {
-            without = more;
+    #[test]
+    fn the_words_of_a_run_are_that_run() {
+        let (without, planted) = (vec!["kill".to_owned(), "cut".to_owned()], "no-sync".to_owned());
+        let run = Run { seed: 7, commands: 9, without, paths: 2, depth: 3, longest: 4, variant: 5, planted };
+        for run in [run, Run::new()] {
+            let read = options(run.words().into_iter()).map(|it| (it.run, it.is_one));
+            assert_eq!(read.ok(), Some((run, true)));
         }
     }
-    let mut step = commands / 2;
-    while step != 0 {
-        if commands > step && child(options, seed, commands - step, &without).0 {
-            commands -= step;
-        } else {
-            step /= 2;
+
+    #[test]
+    fn wrong_words_are_refused() {
+        for words in ["--seed", "--seed x", "--for 5", "--for 1d", "--without nothing", "--what 1"] {
+            assert!(options(words.split(' ').map(str::to_owned)).is_err(), "{words}");
         }
-    }
-    let (is_bad, text) = child(options, seed, commands, &without);
-    let words: String = options.without.iter().chain(&without).map(|it| format!(" --without {it}")).collect();
-    if is_bad {
-        println!("the smallest that fails: simulate --seed {seed} --commands {commands}{words}\n{text}");
     }
 }

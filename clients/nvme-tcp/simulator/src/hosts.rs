@@ -2,32 +2,32 @@
 //! checker.
 
 pub mod checker;
+mod choice;
 pub mod history;
+pub mod pdu;
 pub mod queue;
+mod queues;
+pub mod reservations;
 
+use crate::supervisor::crash;
 use crate::world::{self, with, MILLISECOND, SECOND};
-use checker::{bytes_of, check, Act, Sent};
-use queue::{Command, Lost, Queue};
+use checker::{check, Act, Sent};
+use pdu::Digests;
+use queue::{Command, Completion, Lost, Queue, PATIENCE};
 use std::collections::BTreeMap;
 use std::net::SocketAddr;
 
 /// Opcodes.
-const FLUSH: u8 = 0x00;
-const WRITE: u8 = 0x01;
 const READ: u8 = 0x02;
-const COMPARE: u8 = 0x05;
-const WRITE_ZEROES: u8 = 0x08;
-const DATASET_MANAGEMENT: u8 = 0x09;
-const REGISTER: u8 = 0x0d;
-const REPORT: u8 = 0x0e;
-const ACQUIRE: u8 = 0x11;
-const RELEASE: u8 = 0x15;
+const KEEP_ALIVE: u8 = 0x18;
 /// CC with the controller enabled.
 const ENABLE: u64 = 0x46_0001;
 const CC: u32 = 0x14;
 const CSTS: u32 = 0x1c;
-/// PTPL persists through power loss.
-const PERSISTS: u32 = 3 << 30;
+/// How long a target may refuse a path whose last connections have ended.
+const REFUSALS: u64 = 20 * SECOND;
+/// After this time an end of a connection has a reason that others know too.
+const REASON: u64 = 3 * SECOND;
 
 /// A path of a host to the subsystem.
 #[derive(Clone, Debug)]
@@ -37,20 +37,47 @@ pub struct Path {
     pub cntlid: u16,
     pub blocks: usize,
     pub depth: usize,
-    /// How many blocks a command has at most.
+    /// How many blocks a command has at most, and out of four how many may have more than a few.
     pub longest: usize,
+    pub long: usize,
     /// Whether it breaks rules now and then.
     pub lies: bool,
     /// Out of a thousand commands, those on reservations.
     pub reserves: u64,
+    /// Whether reservations persist through power loss.
+    pub persists: bool,
+    pub digests: Digests,
+    /// One time out of this number a write has Force Unit Access, the target is killed after an answer, twenty times as
+    /// often if that promises something, and a queue ends.
+    pub forces: u64,
+    pub crashes: u64,
+    pub restless: u64,
+    /// Whether a crash may be one of the power.
+    pub cuts_power: bool,
+    /// What it sends, of a hundred commands: writes, reads, compares, zeroes, deallocations. The others flush.
+    pub mix: [usize; 5],
 }
 
 fn below(limit: usize) -> usize {
     with(|it| it.random.index(limit))
 }
 
-fn key_of(host: usize) -> u64 {
-    0x1000 + host as u64
+fn once_in(count: u64) -> bool {
+    with(|it| it.random.once_in(count))
+}
+
+fn now() -> u64 {
+    with(|it| it.now)
+}
+
+/// The process that listens there.
+fn process_at(address: SocketAddr) -> usize {
+    with(|it| it.net.listening.values().find(|it| it.address == Some(address)).map_or(world::HOSTS, |it| it.process))
+}
+
+/// Whether a target was stopped at a time, or later.
+fn was_stopped(process: usize, since: u64) -> bool {
+    with(|it| it.processes[process].stopped_until >= since)
 }
 
 impl Path {
@@ -60,6 +87,7 @@ impl Path {
 
     /// Uses the targets until `is_over`.
     pub fn run(&self, addresses: impl Fn() -> Vec<SocketAddr>, is_over: impl Fn() -> bool) {
+        let mut refused = None;
         while !is_over() {
             let all = addresses();
             if all.is_empty() {
@@ -67,13 +95,31 @@ impl Path {
                 continue;
             }
             let address = all[below(all.len())];
-            let ended = self.connect(address).and_then(|mut it| it.work(&is_over));
-            if let Err(lost) = ended {
-                self.lose(&lost);
+            match self.connect(address) {
+                Ok(mut session) => {
+                    refused = None;
+                    session.work(&is_over);
+                }
+                Err(Lost::Refused) => refused = self.count_refusal(refused, process_at(address)),
+                Err(lost) => self.lose(&lost),
             }
-            let most = if with(|it| it.random.once_in(8)) { SECOND } else { 30 * MILLISECOND };
+            let most = if once_in(8) { SECOND } else { 30 * MILLISECOND };
             let time = with(|it| it.random.within(MILLISECOND, most));
             world::pause(time);
+        }
+    }
+
+    /// A target has refused a Connect, perhaps as it has since a time: that may not last.
+    fn count_refusal(&self, refused: Option<(usize, u64)>, process: usize) -> Option<(usize, u64)> {
+        match refused {
+            Some((by, since)) if by == process && !was_stopped(process, since) => {
+                if now() > since + REFUSALS {
+                    let text = format!("path {} is refused for {} s", self.cntlid, REFUSALS / SECOND);
+                    check(|it| it.violate(text));
+                }
+                refused
+            }
+            _ => Some((process, now())),
         }
     }
 
@@ -81,7 +127,7 @@ impl Path {
     pub fn read_all(&self, address: SocketAddr) -> Result<bool, Lost> {
         let mut session = match self.connect(address) {
             Ok(session) => session,
-            Err(Lost::Ended) => return Ok(false),
+            Err(Lost::Ended | Lost::Refused) => return Ok(false),
             Err(lost) => return Err(lost),
         };
         for slba in (0..self.blocks).step_by(256) {
@@ -96,10 +142,9 @@ impl Path {
 
     pub fn lose(&self, lost: &Lost) {
         match lost {
-            Lost::Ended => (),
+            Lost::Ended | Lost::Refused => (),
             Lost::Silent => {
-                let text =
-                    format!("path {} gets neither an answer nor an end in {} s", self.cntlid, queue::PATIENCE / SECOND);
+                let text = format!("path {} gets neither an answer nor an end in {} s", self.cntlid, PATIENCE / SECOND);
                 check(|it| it.violate(text));
             }
             Lost::Broken(text) => check(|it| it.violate(format!("path {}: {text}", self.cntlid))),
@@ -107,11 +152,12 @@ impl Path {
     }
 
     fn connect(&self, address: SocketAddr) -> Result<Session<'_>, Lost> {
-        let keep_alive = if below(4) == 0 { 10_000 } else { 0 };
-        let mut admin = Queue::open(address)?;
-        let connected = admin.connect(0, self.host_id(), self.cntlid, keep_alive)?;
+        let keep_alive = if below(3) == 0 { [1, 2, 10][below(3)] } else { 0 };
+        let (process, begun) = (process_at(address), now());
+        let mut admin = Queue::open(address, self.digests)?;
+        let connected = admin.connect(0, self.host_id(), self.cntlid, keep_alive * 1_000)?;
         if connected.status != 0 {
-            return Err(Lost::Ended);
+            return Err(Lost::Refused);
         }
         // Its association has ended, and with it all of its commands.
         check(|it| it.bound(Some(self.cntlid)));
@@ -119,12 +165,27 @@ impl Path {
         if admin.property(CSTS)?.value & 1 == 0 {
             return Err(Lost::Ended);
         }
-        let mut io = Queue::open(address)?;
+        let mut io = Queue::open(address, self.digests)?;
         if io.connect(1, self.host_id(), self.cntlid, 0)?.status != 0 {
             return Err(Lost::Ended);
         }
         with(|it| it.note(&format!("path {} is connected to {address}", self.cntlid)));
-        Ok(Session { path: self, admin, io, open: BTreeMap::new() })
+        let names = vec![admin.name(), io.name()];
+        Ok(Session {
+            path: self,
+            admin,
+            io,
+            open: BTreeMap::new(),
+            address,
+            process,
+            begun,
+            names,
+            keep_alive: u64::from(keep_alive) * SECOND,
+            // The target counts from the Connect on.
+            heard: begun,
+            answered: now(),
+            may_end: false,
+        })
     }
 }
 
@@ -135,30 +196,77 @@ struct Session<'p> {
     io: Queue,
     /// The numbers of commands by their identifiers.
     open: BTreeMap<u16, u64>,
+    address: SocketAddr,
+    process: usize,
+    /// When it has begun to connect.
+    begun: u64,
+    /// Its connections so far.
+    names: Vec<i32>,
+    /// Keep Alive Timeout in nanoseconds, and when the last Keep Alive that was answered was sent.
+    keep_alive: u64,
+    heard: u64,
+    /// When the last answer came, or the first of the commands that are open was sent.
+    answered: u64,
+    /// Whether it has done what may end its connections.
+    may_end: bool,
 }
 
 impl Session<'_> {
-    fn work(&mut self, is_over: &impl Fn() -> bool) -> Result<(), Lost> {
+    fn work(&mut self, is_over: &impl Fn() -> bool) {
         let result = self.serve(is_over);
+        self.give_up();
+        match result {
+            Err(Lost::Ended | Lost::Refused) => self.judge_end(),
+            Err(lost) => self.path.lose(&lost),
+            Ok(()) => (),
+        }
+    }
+
+    /// All commands that have no answer will have none.
+    fn give_up(&mut self) {
         for (_, number) in std::mem::take(&mut self.open) {
             check(|it| it.give_up(number));
         }
-        result
+    }
+
+    /// A connection has ended: there must be a reason.
+    fn judge_end(&mut self) {
+        let is_late = self.keep_alive != 0 && now() > self.heard + self.keep_alive;
+        world::pause(REASON);
+        let is_gone = with(|it| {
+            let process = &it.processes[self.process];
+            !process.is_alive || process.outcome.is_some() || process.is_asked_to_end
+        });
+        let is_disturbed =
+            check(|it| it.cycled + 15 * SECOND > self.begun || self.names.iter().any(|name| it.cuts.contains(name)));
+        let is_excused = is_late || is_gone || is_disturbed || self.may_end || was_stopped(self.process, self.begun);
+        if !is_excused {
+            let text = format!("a connection of path {} ends without a reason", self.path.cntlid);
+            check(|it| it.violate(text));
+        }
     }
 
     fn serve(&mut self, is_over: &impl Fn() -> bool) -> Result<(), Lost> {
+        for (command, act) in self.path.first() {
+            self.send(&command, act)?;
+            self.receive()?;
+        }
         let lifetime = 20 + below(2_000);
         let mut count = 0;
         while !is_over() && count < lifetime {
+            self.stay_alive()?;
             let is_full = self.open.len() >= self.path.depth;
             if !is_full && (self.open.is_empty() || below(3) != 0) {
                 self.issue()?;
                 count += 1;
             } else if !self.open.is_empty() {
-                self.receive()?;
+                self.receive_for(if below(2) == 0 { 2 * SECOND } else { PATIENCE })?;
             }
             if below(50) == 0 {
                 self.pause_or_lie()?;
+            }
+            if once_in(self.path.restless) && !self.change_queues()? {
+                return Ok(());
             }
         }
         // Sometimes with commands that have no answer.
@@ -172,6 +280,7 @@ impl Session<'_> {
 
     fn pause_or_lie(&mut self) -> Result<(), Lost> {
         if self.path.lies && below(40) == 0 {
+            self.may_end = true;
             let mut bytes = vec![0; 8 + below(200)];
             with(|it| bytes.iter_mut().for_each(|byte| *byte = it.random.next() as u8));
             self.io.send_bytes(&bytes)?;
@@ -180,19 +289,52 @@ impl Session<'_> {
         } else {
             let most = if below(20) == 0 { 3 * SECOND } else { 2 * MILLISECOND };
             let time = with(|it| it.random.within(0, most));
-            world::pause(time);
+            self.rest(time)?;
+        }
+        Ok(())
+    }
+
+    /// Does nothing for a time but to stay alive.
+    fn rest(&mut self, time: u64) -> Result<(), Lost> {
+        let end = now() + time;
+        while now() < end {
+            let step = if self.keep_alive == 0 { time } else { self.keep_alive / 3 };
+            world::pause(step.min(end - now()));
+            self.stay_alive()?;
+        }
+        Ok(())
+    }
+
+    /// Sends Keep Alive if it is due.
+    fn stay_alive(&mut self) -> Result<(), Lost> {
+        let sent = now();
+        if self.keep_alive != 0 && sent >= self.heard + self.keep_alive / 3 {
+            self.admin.call(&Command { opcode: KEEP_ALIVE, ..Command::default() })?;
+            self.may_end |= now() > self.heard + self.keep_alive;
+            self.heard = sent;
         }
         Ok(())
     }
 
     fn issue(&mut self) -> Result<(), Lost> {
-        let (command, act) = self.choose();
+        let (command, act) = self.path.choose();
         self.send(&command, act)
     }
 
     fn send(&mut self, command: &Command, act: Act) -> Result<(), Lost> {
-        let begun = with(|it| it.now);
-        let number = check(|it| it.begin(Sent { host: self.path.host, cntlid: self.path.cntlid, begun, act }));
+        let sent = Sent {
+            host: self.path.host,
+            cntlid: self.path.cntlid,
+            begun: now(),
+            act,
+            process: self.process,
+            is_forced: choice::is_forced(command),
+            is_spoiled: command.is_spoiled,
+        };
+        if self.open.is_empty() {
+            self.answered = now();
+        }
+        let number = check(|it| it.begin(sent));
         match self.io.send(command) {
             Ok(cid) => {
                 if let Some(other) = self.open.insert(cid, number) {
@@ -207,77 +349,36 @@ impl Session<'_> {
         }
     }
 
+    /// The next answer; until then the host stays alive.
     fn receive(&mut self) -> Result<(), Lost> {
-        let completion = self.io.receive()?;
-        match self.open.remove(&completion.cid) {
-            Some(number) => {
-                with(|it| {
-                    it.note(&format!("path {} command {number} status {:x}", self.path.cntlid, completion.status))
-                });
-                check(|it| it.answer(number, &completion));
-                Ok(())
+        self.answered = now();
+        self.receive_for(PATIENCE)
+    }
+
+    /// The next answer, if it comes in this time: a host may send more while others are due.
+    fn receive_for(&mut self, time: u64) -> Result<(), Lost> {
+        let end = now() + time;
+        loop {
+            let due = if self.keep_alive == 0 { end } else { end.min(self.heard + self.keep_alive / 3) };
+            match self.io.receive_until(due.max(now() + 1)) {
+                Err(Lost::Silent) if due < end => self.stay_alive()?,
+                Err(Lost::Silent) if now() < self.answered + PATIENCE => return Ok(()),
+                result => return self.take(&result?),
             }
-            None => Err(Lost::Broken(format!("an answer to command {}, which was not sent", completion.cid))),
         }
     }
 
-    /// Blocks of a command: few regions are used more than others.
-    fn extent(&self) -> (usize, usize) {
-        let count = if below(4) == 0 { 1 + below(self.path.longest) } else { 1 + below(self.path.longest.min(8)) };
-        let count = count.min(self.path.blocks);
-        let slba = below(self.path.blocks - count + 1);
-        (if below(2) == 0 { slba % 32.min(self.path.blocks - count + 1) } else { slba }, count)
-    }
-
-    fn choose(&self) -> (Command, Act) {
-        if (below(1000) as u64) < self.path.reserves {
-            return self.choose_reserve();
-        }
-        let (slba, count) = self.extent();
-        let place = [&(slba as u64).to_le_bytes()[..], &(count as u32 - 1).to_le_bytes()].concat();
-        let command = |opcode| Command { opcode, nsid: 1, words: place.clone(), ..Command::default() };
-        let bytes = |values: &[u64]| values.iter().flat_map(|it| bytes_of(*it)).collect::<Vec<u8>>();
-        match below(100) {
-            0..=39 => {
-                let values = check(|it| it.values(count));
-                let data = bytes(&values);
-                (Command { data, ..command(WRITE) }, Act::Write { slba, values })
-            }
-            40..=77 => (Command { length: count * 512, ..command(READ) }, Act::Read { slba, count }),
-            78..=82 => {
-                let values: Vec<u64> = (slba..slba + count).map(|it| check(|check| check.newest(it))).collect();
-                (Command { data: bytes(&values), ..command(COMPARE) }, Act::Compare { slba, values })
-            }
-            83..=87 => (command(WRITE_ZEROES), Act::Write { slba, values: vec![0; count] }),
-            88..=90 => {
-                let range = [&[0; 4][..], &(count as u32).to_le_bytes(), &(slba as u64).to_le_bytes()].concat();
-                let words = vec![0, 0, 0, 0, 4, 0, 0, 0];
-                let command = Command { opcode: DATASET_MANAGEMENT, nsid: 1, words, data: range, ..Command::default() };
-                (command, Act::Write { slba, values: vec![0; count] })
-            }
-            _ => (Command { opcode: FLUSH, nsid: 1, ..Command::default() }, Act::Flush),
-        }
-    }
-
-    fn choose_reserve(&self) -> (Command, Act) {
-        let key = key_of(self.path.host);
-        let other = key_of(below(self.path.hosts));
-        let (opcode, word, keys, takes) = match below(10) {
-            0..=3 => (REGISTER, PERSISTS | 1 << 3, vec![0, key], false),
-            4..=5 => (ACQUIRE, 1 << 8, vec![key, 0], true),
-            // It takes the reservation only if the other has it.
-            6..=7 => (ACQUIRE, 1 | 1 << 8, vec![key, other], false),
-            8 => (RELEASE, 1 << 8, vec![key], false),
-            _ => {
-                let words = [&255u32.to_le_bytes()[..], &1u32.to_le_bytes()].concat();
-                let command = Command { opcode: REPORT, nsid: 1, words, length: 1024, ..Command::default() };
-                return (command, Act::Other);
-            }
+    fn take(&mut self, completion: &Completion) -> Result<(), Lost> {
+        self.answered = now();
+        let number = match self.open.remove(&completion.cid) {
+            Some(number) => number,
+            None => return Err(Lost::Broken(format!("an answer to command {}, which was not sent", completion.cid))),
         };
-        // Register again replaces the key by itself, which changes nothing of the reservation.
-        let data = keys.iter().flat_map(|it: &u64| it.to_le_bytes()).collect();
-        let words = word.to_le_bytes().to_vec();
-        let act = if opcode == REGISTER { Act::Other } else { Act::Reserve { takes } };
-        (Command { opcode, nsid: 1, words, data, ..Command::default() }, act)
+        with(|it| it.note(&format!("path {} command {number} status {:x}", self.path.cntlid, completion.status)));
+        let lasts = check(|it| it.answer(number, completion));
+        if once_in(if lasts { (self.path.crashes + 19) / 20 } else { self.path.crashes }) {
+            crash(self.process, self.path.cuts_power && below(2) == 0);
+        }
+        Ok(())
     }
 }

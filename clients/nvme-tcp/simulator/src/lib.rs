@@ -3,7 +3,7 @@
 //! One seed decides everything that happens.
 //!
 //! What it does not do yet: name changes of files are durable at once; no read is misdirected; hosts use one namespace,
-//! digests and authentication are off; nothing checks that the kept run is complete, nor which lines were reached.
+//! and authentication is off.
 
 #![deny(unsafe_code)]
 
@@ -13,11 +13,16 @@ mod chance;
 mod command;
 #[allow(unsafe_code)]
 mod fiber;
+#[allow(unsafe_code)]
+mod heap;
 mod hosts;
+mod jobs;
+mod page;
 mod replay;
 mod run;
 mod scenario;
 mod shadow;
+mod shrinking;
 mod supervisor;
 mod world;
 

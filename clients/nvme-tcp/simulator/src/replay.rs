@@ -1,8 +1,14 @@
 //! Replays the kept run of a target by the proved library: each event must give what the transcript says, and at the
 //! end the blocks must be those of the disk.
 
+use crate::hosts::checker::{value_of, BLOCK};
 use nvmesim::{answer_line, read_configuration, Answered, Event, Refusal, Subsystem, ANY_SIZE};
+use std::collections::{BTreeMap, BTreeSet};
 
+/// The place of the I/O queue's entries in the memory of a host.
+const IO_QUEUE: std::ops::Range<u64> = 0x3000..0x4000;
+/// The bytes of a submission queue entry.
+const ENTRY: usize = 64;
 /// Room for a line of a transcript.
 const LINE: usize = 128;
 
@@ -60,6 +66,32 @@ fn whole(bytes: &[u8]) -> Vec<&str> {
     std::str::from_utf8(&bytes[..end]).map_or(Vec::new(), |it| it.lines().collect())
 }
 
+/// The values of the blocks that Writes of a script have. The data of a command are stored after its entry.
+pub fn values_of(script: &[u8]) -> BTreeSet<u64> {
+    let (mut values, mut is_write) = (BTreeSet::new(), false);
+    for digits in whole(script).iter().filter(|it| it.starts_with("store ")).filter_map(|it| it.split(':').nth(1)) {
+        if digits.len() == 2 * ENTRY {
+            is_write = digits.starts_with("01");
+        }
+        let bytes = if is_write { bytes_of(digits).unwrap_or_default() } else { Vec::new() };
+        values.extend(bytes.chunks_exact(BLOCK).filter_map(value_of));
+    }
+    values
+}
+
+/// How often a script has a command of an I/O queue, by the controller and the identifier.
+pub fn commands_of(script: &[u8]) -> BTreeMap<(u16, u16), usize> {
+    let mut commands = BTreeMap::new();
+    for line in whole(script).iter().filter(|it| it.starts_with("store ")) {
+        if let Some(Owned::Store(cntlid, address, bytes)) = if line.len() < 160 { parsed(line) } else { None } {
+            if bytes.len() == ENTRY && IO_QUEUE.contains(&address) {
+                *commands.entry((cntlid, u16::from(bytes[2]) | u16::from(bytes[3]) << 8)).or_default() += 1;
+            }
+        }
+    }
+    commands
+}
+
 /// Replays a script over blocks, which it changes; how many events agree with the transcript.
 pub fn replay(script: &[u8], transcript: &[u8], blocks: &mut [u8]) -> Result<usize, String> {
     let (lines, gave) = (whole(script), whole(transcript));
@@ -97,6 +129,16 @@ pub fn replay(script: &[u8], transcript: &[u8], blocks: &mut [u8]) -> Result<usi
 #[cfg(test)]
 mod tests {
     use super::*;
+    use crate::hosts::checker::bytes_of as bytes_of_value;
+
+    #[test]
+    fn values_of_writes_are_found() {
+        let digits = |value| bytes_of_value(value).iter().map(|it| format!("{it:02x}")).collect::<String>();
+        let entry = |opcode| format!("store 1 0 hex:{opcode}{}\n", "00".repeat(63));
+        let data = |value| format!("store 1 65536 hex:{}{}\n", digits(value), digits(value + 1));
+        let script = [entry("01"), data(7), entry("05"), data(9)].concat();
+        assert_eq!(values_of(script.as_bytes()), BTreeSet::from([7, 8]));
+    }
 
     #[test]
     fn a_wrong_answer_is_noticed() {

@@ -3,6 +3,7 @@
 use crate::hosts::{checker, Path};
 use crate::scenario::Scenario;
 use crate::supervisor::{Act, Supervisor};
+use crate::world::tap::Tap;
 use crate::world::{self, with, MICROSECOND, MILLISECOND, SECOND};
 use std::cell::{Cell, RefCell};
 use std::collections::BTreeMap;
@@ -10,7 +11,7 @@ use std::net::SocketAddr;
 use std::rc::Rc;
 
 /// Steps without which a seed counts as one without progress: for each command, and for each run.
-const STEPS: (u64, u64) = (20_000, 20_000_000);
+const STEPS: (u64, u64) = (500, 1_000_000);
 
 /// The result of a seed.
 pub struct Report {
@@ -22,6 +23,7 @@ pub struct Report {
     pub digest: u64,
     pub events: u64,
     pub lines: Option<Vec<String>>,
+    pub tapped: Option<Tap>,
     pub injected: BTreeMap<&'static str, u64>,
     pub statuses: BTreeMap<u16, u64>,
     pub fenced: u64,
@@ -39,10 +41,11 @@ struct Shared {
     counts: Cell<(usize, usize)>,
 }
 
-pub fn run(scenario: &Scenario, act: Act, is_logged: bool) -> Report {
-    world::begin(scenario.seed, scenario.chances.clone(), is_logged);
+/// Runs a scenario. `variant` is for other random choices than those of the scenario.
+pub fn run(scenario: &Scenario, variant: u64, act: Act, is_logged: bool) -> Report {
+    world::begin(scenario.seed ^ variant << 40, scenario.chances.clone(), is_logged);
     with(|it| it.net.slow = scenario.slow);
-    checker::begin(scenario.blocks, scenario.writes_through);
+    checker::begin(scenario.blocks, scenario.writes_through, scenario.persists);
     let shared = Rc::new(Shared::default());
     let (theirs, whole) = (Rc::clone(&shared), scenario.clone());
     world::spawn("supervisor", Box::new(move || supervise(whole, act, &theirs)));
@@ -73,6 +76,7 @@ fn report(shared: &Shared) -> Report {
             digest: world.log.digest,
             events: world.log.count,
             lines: world.log.lines.take(),
+            tapped: world.tap.take(),
             injected: std::mem::take(&mut world.injected),
             statuses: std::mem::take(&mut check.statuses),
             fenced: check.fenced,
@@ -93,7 +97,7 @@ fn supervise(scenario: Scenario, act: Act, shared: &Rc<Shared>) {
     }
     while checker::check(|it| it.sent < commands && it.violations.is_empty()) {
         let time = with(|it| it.random.within(100 * MICROSECOND, peace));
-        world::pause(time);
+        supervisor.rest(time);
         supervisor.trouble();
         keep_running(&mut supervisor, shared);
     }

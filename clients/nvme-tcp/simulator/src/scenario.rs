@@ -1,12 +1,17 @@
 //! What a seed decides: the source that is served, the hosts, and how often things go wrong.
 
 use crate::chance::Random;
+use crate::hosts::pdu::Digests;
 use crate::hosts::Path;
 use crate::world::{Chances, MICROSECOND, MILLISECOND};
 
 /// The kinds of trouble, each of which can be left out.
 pub const KINDS: [&str; 11] =
     ["kill", "power", "stop", "takeover", "cut", "end", "cycle", "hold", "lies", "disk", "late"];
+
+/// What hosts send, of a hundred commands: writes, reads, compares, zeroes, deallocations. The others flush.
+const MIXES: [[usize; 5]; 5] =
+    [[40, 37, 5, 5, 4], [40, 37, 5, 5, 4], [25, 25, 0, 25, 20], [10, 88, 0, 1, 0], [40, 20, 0, 4, 3]];
 
 #[derive(Clone, Debug)]
 pub struct Scenario {
@@ -16,6 +21,10 @@ pub struct Scenario {
     /// Options of an image.
     pub options: Vec<&'static str>,
     pub writes_through: bool,
+    /// Whether targets keep their runs: then a failure of the disk ends them.
+    pub keeps_run: bool,
+    /// Whether reservations persist through power loss.
+    pub persists: bool,
     pub blocks: usize,
     pub paths: Vec<Path>,
     pub chances: Chances,
@@ -36,42 +45,79 @@ impl Scenario {
             _ => Vec::new(),
         };
         let writes_through = is_volume || options.contains(&"--write-through");
-        let blocks = [64, 256, 2048, 32_768][random.index(4)];
+        // The last two have more frames than the cache. Few commands, most of them long, fill it at once.
+        let is_heavy = random.once_in(12);
+        let blocks = if is_heavy { 24_576 } else { [40, 40, 160, 1_024, 9_216][random.index(5)] };
+        let commands = if is_heavy { commands.min(400) } else { commands };
         let kinds = KINDS.iter().copied().filter(|it| !without.iter().any(|out| out == it));
         let kinds: Vec<&str> = kinds.filter(|_| !random.once_in(3)).collect();
         let has = |kind: &str| kinds.contains(&kind);
-        let disk = |random: &mut Random, often: u64| if has("disk") && random.once_in(3) { often } else { 0 };
-        let chances = Chances {
-            late_disk: if has("late") { 20 + random.below(300) } else { 0 },
-            failed_read: disk(&mut random, 3_000),
-            failed_write: disk(&mut random, 5_000),
-            failed_sync: disk(&mut random, 5_000),
-            short: [0, 3, 50][random.index(3)],
-            yields: [0, 2, 10][random.index(3)],
-        };
+        let chances = Scenario::chances(&mut random, &has);
         let slow = [(MICROSECOND, 5 * MICROSECOND), (20 * MICROSECOND, MILLISECOND / 2), (0, 20 * MILLISECOND)];
-        let (slow, peace) = (slow[random.index(3)], [20, 200, 3_000][random.index(3)] * MILLISECOND);
-        let paths = Scenario::paths(&mut random, blocks, has("lies"));
+        let (slow, peace) = (slow[random.index(3)], [100, 400, 1_500][random.index(3)] * MILLISECOND);
+        let (keeps_run, persists) = (!random.once_in(4), !random.once_in(3));
+        let mut paths = Scenario::paths(&mut random, blocks, persists, &has);
+        if is_heavy {
+            let most = |it: &mut Path| (it.depth, it.long, it.longest, it.mix) = (31, 4, 256, MIXES[3]);
+            paths.iter_mut().for_each(most);
+        }
         let options = if is_volume { Vec::new() } else { options };
-        Scenario { seed, commands, is_volume, options, writes_through, blocks, paths, chances, slow, kinds, peace }
+        Scenario {
+            seed,
+            commands,
+            is_volume,
+            options,
+            writes_through,
+            keeps_run,
+            persists,
+            blocks,
+            paths,
+            chances,
+            slow,
+            kinds,
+            peace,
+        }
     }
 
-    fn paths(random: &mut Random, blocks: usize, lies: bool) -> Vec<Path> {
+    fn chances(random: &mut Random, has: &dyn Fn(&str) -> bool) -> Chances {
+        let disk = |random: &mut Random, often: u64| if has("disk") && random.once_in(3) { often } else { 0 };
+        Chances {
+            late_disk: if has("late") { [4, 20 + random.below(300)][random.index(2)] } else { 0 },
+            failed_read: disk(random, 1_000),
+            failed_write: disk(random, 1_000),
+            failed_sync: disk(random, 1_000),
+            short: [0, 3, 50][random.index(3)],
+            yields: [0, 2, 10][random.index(3)],
+        }
+    }
+
+    fn paths(random: &mut Random, blocks: usize, persists: bool, has: &dyn Fn(&str) -> bool) -> Vec<Path> {
         let hosts = if random.once_in(8) { random.within(5, 16) } else { random.within(1, 4) } as usize;
-        let depth = [1, 4, 16][random.index(3)];
-        let reserves = [0, 20, 200][random.index(3)];
-        let longest = [8, 32, 256][random.index(3)];
+        let reserves = [0, 20, 200, 500][random.index(4)];
         let per_host = if hosts > 8 { 1 } else { 1 + random.index(2) };
-        let all = (0..hosts).flat_map(|host| (0..per_host).map(move |path| (host, path)));
-        let paths = (1..).zip(all).map(|(cntlid, (host, _))| Path {
-            host,
+        let all: Vec<usize> = (0..hosts * per_host).map(|it| it / per_host).collect();
+        let crashes = [0, 60, 300][random.index(3)];
+        let common = Path {
+            host: 0,
             hosts,
-            cntlid,
+            cntlid: 0,
             blocks,
-            depth,
-            longest: longest.min(blocks),
-            lies,
+            depth: [1, 4, 16, 31][random.index(4)],
+            longest: [8, 32, 256, 256][random.index(4)].min(blocks),
+            long: 1,
+            lies: has("lies"),
             reserves,
+            persists,
+            digests: Digests::default(),
+            forces: [0, 3, 20][random.index(3)],
+            crashes: if has("kill") || has("power") { crashes } else { 0 },
+            restless: [0, 100, 400][random.index(3)],
+            cuts_power: has("power"),
+            mix: MIXES[random.index(MIXES.len())],
+        };
+        let paths = (1..).zip(all).map(|(cntlid, host)| {
+            let digests = Digests { header: random.once_in(3), data: random.once_in(3) };
+            Path { host, cntlid, digests, ..common.clone() }
         });
         paths.collect()
     }

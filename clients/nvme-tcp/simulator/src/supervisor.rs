@@ -1,7 +1,7 @@
 //! Starts targets, troubles them, and judges how they end.
 
 use crate::hosts::checker::{check, BLOCK};
-use crate::replay::replay;
+use crate::replay::{commands_of, replay, values_of};
 use crate::scenario::Scenario;
 use crate::shadow::os::unix::net::UnixStream;
 use crate::world::disk::Kind;
@@ -20,6 +20,11 @@ const CONFIG: &str = "/etc/config";
 const BLOCKS_AT: usize = 2 << 20;
 /// How long a target may take to start, with a lease to wait out, and to end in order.
 const LONGEST: u64 = 60 * SECOND;
+
+/// The most crashes of a seed after answers, and the ends after which targets are left alone: what was killed keeps its
+/// memory, and a seed should be short.
+const MOST_CRASHES: u64 = 12;
+const MOST_ENDS: usize = 30;
 
 /// A target that was started.
 pub struct Running {
@@ -45,6 +50,43 @@ pub struct Supervisor {
 
 fn words(list: &[&str]) -> Vec<OsString> {
     list.iter().map(OsString::from).collect()
+}
+
+/// A host has got an answer, and at once its target is killed, or the power of all machines and disks fails.
+pub fn crash(process: usize, loses_power: bool) {
+    let count = with(|it| *it.injected.entry("crash").and_modify(|it| *it += 1).or_insert(1));
+    if has_ended(process) || count > MOST_CRASHES {
+        return;
+    }
+    with(|world| {
+        world.note(if loses_power { "power fails after an answer" } else { "a target is killed after an answer" });
+        *world.injected.entry(if loses_power { "power" } else { "kill" }).or_default() += 1;
+        for it in 1..world.processes.len() {
+            let other = &world.processes[it];
+            if (loses_power || it == process) && other.is_alive && other.outcome.is_none() {
+                world.kill(it);
+                let World { net, random, now, .. } = world;
+                net.drop_all(it, *now, if loses_power { 4 * SECOND } else { 0 }, random);
+                check(|check| check.crashes.insert(it, loses_power));
+            }
+        }
+    });
+    if loses_power {
+        fail_power();
+    }
+}
+
+/// Whether a process has ended or was killed.
+fn has_ended(process: usize) -> bool {
+    with(|it| !it.processes[process].is_alive || it.processes[process].outcome.is_some())
+}
+
+fn fail_power() {
+    with(|world| {
+        world.cut_power();
+        world.boots.values_mut().for_each(|it| *it += 1);
+    });
+    check(|it| it.lose_power());
 }
 
 /// The injected faults that may end a target.
@@ -86,31 +128,37 @@ impl Supervisor {
         }
     }
 
-    /// Starts a target on a machine, and waits until it serves or ends.
-    pub fn start(&mut self, machine: usize) {
-        self.starts += 1;
-        let (script, control) = (format!("/run/{}.nvme", self.starts), format!("/run/{}.control", self.starts));
-        let address = SocketAddr::from(([127, 0, 0, 1], 4420 + machine as u16));
-        let listen = address.to_string();
-        let mut list = vec!["--listen", &listen, "--script", &script, "--control", &control, "--cache", "4M", "--wait"];
+    fn command_line(&self, listen: &str, script: &str, control: &str) -> Vec<OsString> {
+        let mut list = vec!["--listen", listen, "--control", control, "--cache", "4M", "--wait"];
+        if self.scenario.keeps_run {
+            list.extend(["--script", script]);
+        }
         if self.scenario.is_volume {
             list.push(DEVICE);
         } else {
             list.extend(self.scenario.options.iter());
             list.extend(["--image", IMAGE, "--state", "/state", CONFIG]);
         }
-        let (act, given) = (self.act, words(&list));
+        words(&list)
+    }
+
+    /// Starts a target on a machine, and waits until it serves or ends.
+    pub fn start(&mut self, machine: usize) {
+        self.starts += 1;
+        let (script, control) = (format!("/run/{}.nvme", self.starts), format!("/run/{}.control", self.starts));
+        let address = SocketAddr::from(([127, 0, 0, 1], 4420 + machine as u16));
+        let (act, given) = (self.act, self.command_line(&address.to_string(), &script, &control));
         with(|it| it.note(&format!("target {} starts on machine {machine}", self.starts)));
         let process = world::start_process(machine, "target", move || act(given));
         let may_lose_lease = !self.running.is_empty();
         self.running.iter_mut().for_each(|it| it.may_lose_lease = true);
         let faults = with(|it| faults(it));
         self.running.push(Running { process, machine, script, control, address, faults, may_lose_lease });
+        let loss = check(|it| it.lose_reservations());
         let end = with(|it| it.now) + LONGEST;
         loop {
-            let (serves, has_ended, now) =
-                with(|it| (it.processes[process].served.is_some(), it.processes[process].outcome.is_some(), it.now));
-            if serves || has_ended {
+            let (serves, now) = with(|it| (it.processes[process].served.is_some(), it.now));
+            if serves || has_ended(process) {
                 break;
             }
             if now > end {
@@ -119,8 +167,13 @@ impl Supervisor {
             }
             world::pause(5 * MILLISECOND);
         }
+        let serves = with(|it| it.processes[process].served.is_some());
+        check(|it| it.has_lost_reservations(loss, serves));
         if self.running.len() == 1 {
             check(|it| it.bound(None));
+        } else {
+            // Some hosts go to the other target at once.
+            (0..4).for_each(|_| self.cut());
         }
     }
 
@@ -134,7 +187,12 @@ impl Supervisor {
     pub fn collect(&mut self) {
         let all = std::mem::take(&mut self.running);
         for it in all {
+            let crashed = check(|check| check.crashes.remove(&it.process));
             match with(|world| world.processes[it.process].outcome.clone()) {
+                _ if crashed.is_some() => {
+                    self.replay(&it, false);
+                    self.close(&it, 0);
+                }
                 None => self.running.push(it),
                 Some(outcome) => {
                     self.judge(&it, &outcome);
@@ -148,7 +206,10 @@ impl Supervisor {
         let is_excused = with(|world| faults(world)) > it.faults || it.may_lose_lease;
         let said = with(|world| world.processes[it.process].said.clone());
         match outcome {
-            Ok(()) => self.replay(it, true),
+            Ok(()) => {
+                check(|check| check.sync());
+                self.replay(it, true)
+            }
             Err((status, text)) => {
                 let last: Vec<&str> = said.lines().rev().take(3).collect();
                 if *status == 101 || !is_excused {
@@ -172,8 +233,27 @@ impl Supervisor {
         }
     }
 
+    /// Each command that a target has answered is in its kept run.
+    fn check_run(&self, it: &Running, script: &[u8]) {
+        let (values, commands) = (values_of(script), commands_of(script));
+        for (command, count) in check(|check| check.commands.remove(&it.process)).unwrap_or_default() {
+            if commands.get(&command).copied().unwrap_or(0) < count {
+                let text = format!("the kept run lacks command {} of controller {}", command.1, command.0);
+                return check(|it| it.violate(text));
+            }
+        }
+        for value in check(|check| check.kept.remove(&it.process)).unwrap_or_default() {
+            if !values.contains(&value) {
+                return check(|it| it.violate(format!("the kept run lacks the write of value {value:#x}")));
+            }
+        }
+    }
+
     /// Replays the script of a target.
     fn replay(&mut self, it: &Running, is_over: bool) {
+        if !self.scenario.keeps_run {
+            return;
+        }
         let (script, transcript, served, is_alone, now) = with(|world| {
             let content = |path: &str| world.disks.content(path);
             let transcript = content(&format!("{}.out", it.script));
@@ -181,6 +261,10 @@ impl Supervisor {
             let bytes = world.disks.served.map(|at| world.disks.inodes[at].data.clone());
             (content(&it.script), transcript, served, !it.may_lose_lease, bytes)
         });
+        // What a crash of a machine leaves of it is nothing, or the space that was reserved.
+        if script.iter().any(|it| *it != 0) {
+            self.check_run(it, &script);
+        }
         let from = if self.scenario.is_volume { BLOCKS_AT } else { 0 };
         let mut blocks = match served {
             Some(served) if is_alone => served[from..].to_vec(),
@@ -215,11 +299,19 @@ impl Supervisor {
             self.replay(&it, false);
             self.close(&it, 4 * SECOND);
         }
-        with(|world| {
-            world.cut_power();
-            world.boots.values_mut().for_each(|it| *it += 1);
-        });
-        check(|it| it.lose_power());
+        fail_power();
+    }
+
+    /// Waits for a time, in which hosts may end targets.
+    pub fn rest(&self, time: u64) {
+        let end = with(|it| it.now) + time;
+        loop {
+            let now = with(|it| it.now);
+            if now >= end || check(|it| !it.crashes.is_empty() || !it.violations.is_empty()) {
+                return;
+            }
+            world::pause((end - now).min(10 * MILLISECOND));
+        }
     }
 
     /// Asks a target to end, and waits for that.
@@ -230,31 +322,49 @@ impl Supervisor {
             world.processes[process].is_asked_to_end = true;
         });
         let end = with(|it| it.now) + LONGEST;
-        while with(|it| it.processes[process].outcome.is_none()) {
+        while !has_ended(process) {
             if with(|it| it.now) > end {
                 return check(|it| it.violate("a target does not end".to_owned()));
             }
             world::pause(5 * MILLISECOND);
         }
         self.collect();
+        if self.running.is_empty() && self.scenario.kinds.contains(&"power") && with(|it| it.random.once_in(3)) {
+            fail_power();
+        }
     }
 
-    /// Asks a target a control line.
-    fn ask(&self, at: usize, line: &str) {
+    /// Power is lost in the subsystem of a target, and comes back.
+    fn cycle(&self, at: usize) {
+        let loss = check(|it| {
+            it.cycled = with(|it| it.now);
+            it.lose_reservations()
+        });
+        let is_done = self.ask(at, "powercycle");
+        check(|it| {
+            it.cycled = with(|it| it.now);
+            it.has_lost_reservations(loss, is_done);
+        });
+    }
+
+    /// Asks a target a control line; whether it has an answer.
+    fn ask(&self, at: usize, line: &str) -> bool {
         with(|it| it.note(&format!("control line {line}")));
         if let Ok(mut stream) = UnixStream::connect(&self.running[at].control) {
             let sent = stream.write_all(format!("{line}\n").as_bytes());
             let mut room = [0; 256];
             if sent.is_ok() && with(|it| it.processes[self.running[at].process].stopped_until <= it.now) {
-                let _ = stream.read(&mut room);
+                return stream.read(&mut room).map_or(false, |count| room[..count].starts_with(line.as_bytes()));
             }
         }
+        false
     }
 
     /// One trouble, chosen at random among those of the scenario.
     pub fn trouble(&mut self) {
+        self.collect();
         let kinds = self.scenario.kinds.clone();
-        if kinds.is_empty() || self.running.is_empty() {
+        if kinds.is_empty() || self.running.is_empty() || self.ends > MOST_ENDS {
             return;
         }
         let (kind, at) = with(|it| (kinds[it.random.index(kinds.len())], it.random.index(self.running.len())));
@@ -270,7 +380,7 @@ impl Supervisor {
                 self.start(1 - self.running[at].machine.min(1))
             }
             "cut" => (0..3).for_each(|_| self.cut()),
-            "cycle" => self.ask(at, "powercycle"),
+            "cycle" => self.cycle(at),
             "hold" => self.hold(at),
             _ => (),
         }
@@ -297,12 +407,18 @@ impl Supervisor {
             let names: Vec<i32> =
                 net.sides.iter().filter(|(_, it)| it.process == world::HOSTS).map(|(name, _)| *name).collect();
             if !names.is_empty() {
-                net.cut(names[random.index(names.len())], *now, random);
+                let name = names[random.index(names.len())];
+                net.cut(name, *now, random);
+                check(|it| it.cuts.insert(name));
             }
         });
     }
 
+    /// Holds the commands of a controller for a time. A target that is stopped would take the lines in any order.
     fn hold(&self, at: usize) {
+        if with(|it| it.processes[self.running[at].process].stopped_until > it.now) {
+            return;
+        }
         let (cntlid, time) = with(|it| (1 + it.random.index(self.scenario.paths.len()), it.random.below(SECOND)));
         self.ask(at, &format!("hold {cntlid}"));
         world::pause(time);

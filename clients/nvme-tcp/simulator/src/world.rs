@@ -2,14 +2,17 @@
 
 pub mod disk;
 pub mod network;
+pub mod tap;
 
 use crate::chance::Random;
 use crate::fiber::{self, Fiber};
+use crate::heap;
 use disk::Disks;
 use network::Network;
 use std::cell::RefCell;
 use std::collections::BTreeMap;
 use std::time::Duration;
+use tap::Tap;
 
 pub const MICROSECOND: u64 = 1_000;
 pub const MILLISECOND: u64 = 1_000 * MICROSECOND;
@@ -45,7 +48,16 @@ struct Thread {
     state: State,
     until: Option<u64>,
     is_late: bool,
+    /// It is in a system call, which does not stop with its process.
+    is_called: bool,
     fiber: Option<Fiber>,
+}
+
+impl Thread {
+    /// Whether it can run at a time, if its process is stopped until another.
+    fn can_run(&self, now: u64, stopped_until: u64) -> bool {
+        self.state == State::Ready && (self.is_called || stopped_until <= now)
+    }
 }
 
 /// How a process ended by itself.
@@ -88,6 +100,8 @@ pub struct World {
     pub disks: Disks,
     pub chances: Chances,
     pub log: Log,
+    /// What is kept for the timeline.
+    pub tap: Option<Tap>,
     threads: Vec<Thread>,
     current: usize,
     /// Injected faults by their names, with how often each happened.
@@ -131,9 +145,12 @@ pub fn is_planted(name: &str) -> bool {
     PLANTED.with(|it| *it.borrow() == name)
 }
 
-/// Does something with the world. It must not switch.
+/// Does something with the world. It must not switch. What it allocates is the world's.
 pub fn with<R>(act: impl FnOnce(&mut World) -> R) -> R {
-    WORLD.with(|it| act(it.borrow_mut().as_mut().expect("there is a world")))
+    let owner = heap::set_owner(HOSTS);
+    let result = WORLD.with(|it| act(it.borrow_mut().as_mut().expect("there is a world")));
+    heap::set_owner(owner);
+    result
 }
 
 /// Begins a world.
@@ -149,6 +166,7 @@ pub fn begin(seed: u64, chances: Chances, is_logged: bool) {
         disks: Disks::new(),
         chances,
         log: Log { lines: is_logged.then(Vec::new), ..Log::default() },
+        tap: is_logged.then(Tap::default),
         threads: Vec::new(),
         current: usize::MAX,
         injected: BTreeMap::new(),
@@ -174,6 +192,7 @@ impl World {
     pub fn note(&mut self, text: &str) {
         let now = self.now;
         self.log.put(now, text);
+        self.tap.iter_mut().for_each(|it| it.note(now, text));
     }
 
     /// Whether a fault happens now, which is counted.
@@ -219,6 +238,7 @@ impl World {
             state: State::Ready,
             until: None,
             is_late: false,
+            is_called: false,
             fiber: Some(fiber),
         };
         let free = self.threads.iter().position(|it| it.state == State::Ended && it.fiber.is_none());
@@ -244,12 +264,7 @@ impl World {
         loop {
             self.wake_late();
             while self.net.deliver(self.now).map(|keys| keys.into_iter().for_each(|it| self.wake_all(it))).is_some() {}
-            let now = self.now;
-            let processes = &self.processes;
-            let can_run = |it: &Thread| it.state == State::Ready && processes[it.process].stopped_until <= now;
-            let ready: Vec<usize> = (0..self.threads.len()).filter(|it| can_run(&self.threads[*it])).collect();
-            if !ready.is_empty() {
-                let chosen = ready[self.random.index(ready.len())];
+            if let Some(chosen) = self.ready() {
                 self.now += 100 + self.random.below(1_500);
                 self.steps += 1;
                 self.current = chosen;
@@ -264,6 +279,16 @@ impl World {
         }
     }
 
+    /// Any of the fibers that can run now.
+    fn ready(&mut self) -> Option<usize> {
+        let (now, processes) = (self.now, &self.processes);
+        let can_run = |it: &Thread| it.can_run(now, processes[it.process].stopped_until);
+        let count = self.threads.iter().filter(|it| can_run(it)).count();
+        let chosen = self.random.index(count);
+        let mut all = self.threads.iter().enumerate().filter(|(_, it)| can_run(it));
+        all.nth(chosen).map(|(at, _)| at)
+    }
+
     fn wake_late(&mut self) {
         let now = self.now;
         for it in &mut self.threads {
@@ -276,12 +301,15 @@ impl World {
     /// Ends a process at once: none of its fibers runs again, and nothing of it is dropped.
     pub fn kill(&mut self, process: usize) {
         self.processes[process].is_alive = false;
+        let now = self.now;
+        self.tap.iter_mut().for_each(|it| it.end(process, now));
         for it in self.threads.iter_mut().filter(|it| it.process == process && it.state != State::Ended) {
             it.state = State::Ended;
             it.fiber = None;
         }
         self.disks.unlock_all(process);
         self.wake_all(Key::Lock);
+        heap::free_all(process);
     }
 }
 
@@ -307,7 +335,9 @@ pub fn step() -> bool {
         Some(place) => place,
         None => return false,
     };
+    heap::set_owner(with(|it| it.process()));
     fiber::resume(place);
+    heap::set_owner(HOSTS);
     with(|it| {
         let current = it.current;
         // Its stack is not used any more.
@@ -326,10 +356,14 @@ pub fn start_process(machine: usize, name: &str, work: impl FnOnce() -> Outcome 
         world.processes.push(Process::new(machine));
         let process = world.processes.len() - 1;
         let name = format!("{name} {process}");
+        let now = world.now;
+        world.tap.iter_mut().for_each(|it| it.begin(process, machine, now));
         let run = move || {
             let outcome = work();
             with(|world| {
                 world.note(&format!("{name} ends: {outcome:?}"));
+                let now = world.now;
+                world.tap.iter_mut().for_each(|it| it.end(process, now));
                 world.processes[process].outcome = Some(outcome);
             });
         };
@@ -358,6 +392,18 @@ pub fn wait(key: Key, until: Option<u64>) -> bool {
         let current = world.current;
         world.threads[current].is_late
     })
+}
+
+/// Begins or ends a system call. The thread of a stopped process waits at the end.
+pub fn call(begins: bool) {
+    let is_stopped = with(|world| {
+        let current = world.current;
+        world.threads[current].is_called = begins;
+        world.processes[world.threads[current].process].stopped_until > world.now
+    });
+    if is_stopped && !begins {
+        pause(0);
+    }
 }
 
 /// Waits for a time, in nanoseconds.

@@ -2,11 +2,14 @@
 
 use super::history::{Block, State};
 use super::queue::Completion;
+use super::reservations::{entries_of, Registrations};
 use crate::world::with;
 use std::cell::RefCell;
-use std::collections::BTreeMap;
+use std::collections::{BTreeMap, BTreeSet};
 
 pub const BLOCK: usize = 512;
+/// The key of host 0; the others have the next.
+pub const KEY: u64 = 0x1000;
 /// Statuses after which a write may have been executed: Data Transfer Error, Internal Error, Command Abort Requested,
 /// Transient Transport Error, and Write Fault.
 const UNSURE: [u16; 5] = [0x04, 0x06, 0x07, 0x22, 0x280];
@@ -29,11 +32,16 @@ pub enum Act {
         values: Vec<u64>,
     },
     Flush,
-    /// A command that may change the reservation; `takes` if its success leaves the host as the one that may write.
+    /// A command that may change the reservation; `takes` if its success leaves the host as the one that may write, and
+    /// `from` if its success takes the registration of another host away.
     Reserve {
         takes: bool,
+        from: Option<usize>,
     },
-    Other,
+    Register,
+    /// It also releases the reservation.
+    Unregister,
+    Report,
 }
 
 /// A command that was sent.
@@ -43,6 +51,12 @@ pub struct Sent {
     pub cntlid: u16,
     pub begun: u64,
     pub act: Act,
+    /// The process that it was sent to.
+    pub process: usize,
+    /// Force Unit Access.
+    pub is_forced: bool,
+    /// The digest of its data is wrong.
+    pub is_spoiled: bool,
 }
 
 /// Since when only one host may write.
@@ -61,12 +75,27 @@ pub struct Checker {
     pub statuses: BTreeMap<u16, u64>,
     /// Commands without an answer, by their numbers.
     open: BTreeMap<u64, Sent>,
-    /// Writes of connections that were lost.
-    given_up: Vec<Sent>,
+    /// Commands of connections that were lost, with their numbers.
+    given_up: Vec<(u64, Sent)>,
     next: u64,
     next_value: u64,
     fence: Option<Fence>,
+    /// How many commands on the reservation were sent, and which of them was the last when each was.
+    reserves: u64,
+    reserved_at: BTreeMap<u64, u64>,
     pub fenced: u64,
+    pub registrations: Registrations,
+    /// Whether reservations persist through power loss.
+    persists: bool,
+    /// The values of the writes that each target has answered: they are in its kept run. And how often it has answered
+    /// a command of a controller with this identifier that is in the run as it is.
+    pub kept: BTreeMap<usize, Vec<u64>>,
+    pub commands: BTreeMap<usize, BTreeMap<(u16, u16), usize>>,
+    /// Targets that were killed by hosts, and whether power was lost.
+    pub crashes: BTreeMap<usize, bool>,
+    /// What may end a connection: cuts of them, and when a power cycle was asked for last.
+    pub cuts: BTreeSet<i32>,
+    pub cycled: u64,
 }
 
 thread_local! {
@@ -77,7 +106,7 @@ pub fn check<R>(act: impl FnOnce(&mut Checker) -> R) -> R {
     CHECKER.with(|it| act(it.borrow_mut().as_mut().expect("there is a checker")))
 }
 
-pub fn begin(blocks: usize, writes_through: bool) {
+pub fn begin(blocks: usize, writes_through: bool, persists: bool) {
     let checker = Checker {
         blocks: (0..blocks).map(|_| Block::new()).collect(),
         violations: Vec::new(),
@@ -90,7 +119,16 @@ pub fn begin(blocks: usize, writes_through: bool) {
         next: 0,
         next_value: 0,
         fence: None,
+        reserves: 0,
+        reserved_at: BTreeMap::new(),
         fenced: 0,
+        registrations: Registrations::new(persists),
+        persists,
+        kept: BTreeMap::new(),
+        commands: BTreeMap::new(),
+        crashes: BTreeMap::new(),
+        cuts: BTreeSet::new(),
+        cycled: 0,
     };
     CHECKER.with(|it| *it.borrow_mut() = Some(checker));
 }
@@ -115,7 +153,7 @@ fn word(value: u64, at: u64) -> u64 {
 }
 
 /// The value of a block, if all of it has one.
-fn value_of(bytes: &[u8]) -> Option<u64> {
+pub fn value_of(bytes: &[u8]) -> Option<u64> {
     let mut first = [0; 8];
     first.copy_from_slice(&bytes[..8]);
     let value = u64::from_le_bytes(first);
@@ -152,13 +190,33 @@ impl Checker {
                 self.blocks[block].begin(*value, sent.begun);
             }
         }
-        if let Act::Reserve { .. } = sent.act {
-            self.fence = None;
-        }
-        self.sent += 1;
         self.next += 1;
+        self.begin_reserve(&sent);
+        self.sent += 1;
         self.open.insert(self.next, sent);
         self.next
+    }
+
+    fn begin_reserve(&mut self, sent: &Sent) {
+        match sent.act {
+            Act::Reserve { from, .. } => {
+                self.fence = None;
+                self.reserves += 1;
+                self.reserved_at.insert(self.next, self.reserves);
+                from.into_iter().for_each(|it| self.registrations.take(it, self.next, sent.begun));
+            }
+            Act::Unregister => {
+                (self.fence, self.reserves) = (None, self.reserves + 1);
+                self.registrations.take(sent.host, self.next, sent.begun);
+            }
+            Act::Register => self.registrations.register(sent.host, self.next, sent.begun),
+            _ => (),
+        }
+    }
+
+    /// The host that has the reservation, if that is known.
+    pub fn holder(&self) -> Option<usize> {
+        self.fence.map(|it| it.host)
     }
 
     /// When the oldest command began that may still be answered.
@@ -166,30 +224,93 @@ impl Checker {
         self.open.values().map(|it| it.begun).min().unwrap_or(u64::MAX)
     }
 
-    pub fn answer(&mut self, number: u64, completion: &Completion) {
+    /// A command is answered; whether that promises what a crash may not take.
+    pub fn answer(&mut self, number: u64, completion: &Completion) -> bool {
         let sent = match self.open.remove(&number) {
             Some(sent) => sent,
-            None => return self.violate(format!("command {number} is answered twice")),
+            None => {
+                self.violate(format!("command {number} is answered twice"));
+                return false;
+            }
         };
+        let is_reserve = matches!(sent.act, Act::Register | Act::Unregister | Act::Reserve { .. });
+        let lasts = is_reserve || matches!(sent.act, Act::Flush) || sent.is_forced;
+        self.judge(&sent, number, completion);
+        lasts && completion.status == 0
+    }
+
+    fn judge(&mut self, sent: &Sent, number: u64, completion: &Completion) {
         self.answered += 1;
         *self.statuses.entry(completion.status).or_default() += 1;
         let is_done = completion.status == 0;
+        if matches!(sent.act, Act::Read { .. } | Act::Compare { .. } | Act::Flush | Act::Report) && is_done {
+            let commands = self.commands.entry(sent.process).or_default();
+            *commands.entry((sent.cntlid, completion.cid)).or_default() += 1;
+        }
         match &sent.act {
-            Act::Write { slba, values } => self.wrote(&sent, *slba, values, completion.status),
-            Act::Read { slba, count } if is_done => self.has_read(&sent, *slba, *count, &completion.data),
-            Act::Compare { slba, values } if is_done => self.saw(&sent, *slba, values),
+            Act::Write { .. } if sent.is_spoiled && is_done => {
+                self.violate(format!("a write succeeds whose digest is wrong: {sent:?}"))
+            }
+            Act::Write { slba, values } => self.wrote(sent, *slba, values, completion.status),
+            Act::Read { slba, count } if is_done => self.has_read(sent, *slba, *count, &completion.data),
+            Act::Compare { slba, values } if is_done => self.saw(sent, *slba, values),
             Act::Compare { .. } if completion.status == COMPARE_FAILURE => (),
             Act::Flush if is_done => self.blocks.iter_mut().for_each(|it| it.flush(sent.begun)),
-            Act::Reserve { takes: true } if is_done => self.take(sent.host),
+            Act::Reserve { takes, from } => self.reserved(sent, number, (*takes, *from), completion.status),
+            Act::Register | Act::Unregister => self.registered(number, completion.status, true),
+            Act::Report if is_done => self.reported(sent, &completion.data),
             _ => (),
         }
     }
 
-    /// A host has a reservation, unless another command may change that.
-    fn take(&mut self, host: usize) {
-        if !self.open.values().chain(&self.given_up).any(|it| matches!(it.act, Act::Reserve { .. })) {
-            self.fence = Some(Fence { host, since: now() });
+    /// A command that registers a host, or takes a registration away, is answered.
+    fn registered(&mut self, number: u64, status: u16, is_certain: bool) {
+        match status {
+            0 => self.registrations.bound(number, now(), is_certain),
+            status if UNSURE.contains(&status) => (),
+            _ => self.registrations.deny(number),
         }
+    }
+
+    /// A host has a reservation, unless another command may change that.
+    fn reserved(&mut self, sent: &Sent, number: u64, (takes, from): (bool, Option<usize>), status: u16) {
+        // A host that preempts itself may stay.
+        self.registered(number, status, from != Some(sent.host));
+        let is_last = self.reserved_at.remove(&number) == Some(self.reserves);
+        let is_reserve = |it: &Sent| matches!(it.act, Act::Reserve { .. } | Act::Unregister);
+        let others = self.open.values().chain(self.given_up.iter().map(|(_, it)| it)).any(is_reserve);
+        if takes && status == 0 && is_last && !others {
+            self.fence = Some(Fence { host: sent.host, since: now() });
+        }
+    }
+
+    /// A Reservation Report is answered.
+    fn reported(&mut self, sent: &Sent, data: &[u8]) {
+        let entries = entries_of(data, KEY);
+        if let Err(text) = self.registrations.judge(&entries, sent.begun, now()) {
+            self.violate(format!("a report is wrong: {text}"));
+        }
+        if let Some(fence) = self.fence.filter(|it| it.since < sent.begun) {
+            if entries.iter().any(|it| it.is_holder != (it.host == fence.host)) {
+                self.violate(format!("host {} has the reservation, and the report says {entries:?}", fence.host));
+            }
+        }
+    }
+
+    /// Power may be lost in the subsystem from now on, which keeps what persists; the number of that.
+    pub fn lose_reservations(&mut self) -> u64 {
+        if !self.persists {
+            self.fence = None;
+        }
+        self.registrations.lose(now())
+    }
+
+    /// It was lost by now, for sure or perhaps.
+    pub fn has_lost_reservations(&mut self, number: u64, is_certain: bool) {
+        if !self.persists {
+            self.fence = None;
+        }
+        self.registrations.has_lost(number, if is_certain { now() } else { u64::MAX }, is_certain);
     }
 
     fn wrote(&mut self, sent: &Sent, slba: usize, values: &[u64], status: u16) {
@@ -204,13 +325,16 @@ impl Checker {
         }
         let state = match status {
             0 => State::Done,
-            status if UNSURE.contains(&status) => State::Maybe,
+            status if UNSURE.contains(&status) && !sent.is_spoiled => State::Maybe,
             _ => State::Denied,
         };
-        let oldest = self.oldest();
+        if status == 0 && values[0] != 0 {
+            self.kept.entry(sent.process).or_default().extend(values);
+        }
+        let (oldest, is_durable) = (self.oldest(), self.writes_through || sent.is_forced);
         for (block, value) in (slba..).zip(values) {
             let it = &mut self.blocks[block];
-            it.answer(*value, sent.begun, end, state, self.writes_through);
+            it.answer(*value, sent.begun, end, state, is_durable);
             it.prune(oldest);
         }
     }
@@ -244,26 +368,35 @@ impl Checker {
             None => return,
         };
         if let Act::Write { slba, values } = &sent.act {
+            let state = if sent.is_spoiled { State::Denied } else { State::Maybe };
             for (block, value) in (*slba..).zip(values) {
-                self.blocks[block].answer(*value, sent.begun, u64::MAX, State::Maybe, false);
+                self.blocks[block].answer(*value, sent.begun, u64::MAX, state, false);
             }
         }
-        self.given_up.push(sent);
+        self.reserved_at.remove(&number);
+        self.given_up.push((number, sent));
     }
 
     /// Nothing that was given up is executed from now on: of this controller, or of all.
     pub fn bound(&mut self, cntlid: Option<u16>) {
         let end = now();
-        let (over, rest): (Vec<Sent>, Vec<Sent>) =
-            self.given_up.drain(..).partition(|it| cntlid.map_or(true, |cntlid| it.cntlid == cntlid));
+        let (over, rest): (Vec<_>, Vec<_>) =
+            self.given_up.drain(..).partition(|(_, it)| cntlid.map_or(true, |cntlid| it.cntlid == cntlid));
         self.given_up = rest;
-        for sent in over {
+        for (number, sent) in over {
             if let Act::Write { slba, values } = &sent.act {
                 for (block, value) in (*slba..).zip(values) {
                     self.blocks[block].bound(*value, sent.begun, end);
                 }
             }
+            self.registrations.bound(number, end, false);
         }
+    }
+
+    /// All that was answered is on the disk.
+    pub fn sync(&mut self) {
+        let now = now();
+        self.blocks.iter_mut().for_each(|it| it.flush(now));
     }
 
     pub fn lose_power(&mut self) {

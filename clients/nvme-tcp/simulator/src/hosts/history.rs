@@ -42,6 +42,8 @@ struct Seen {
 pub struct Block {
     pub versions: Vec<Version>,
     seen: Vec<Seen>,
+    /// When power was lost last, if that may have taken what was read.
+    lost: u64,
 }
 
 impl Version {
@@ -54,7 +56,7 @@ impl Version {
 impl Block {
     pub fn new() -> Block {
         let zero = Version { value: 0, start: 0, end: 0, state: State::Done, is_durable: true, is_cut: false };
-        Block { versions: vec![zero], seen: Vec::new() }
+        Block { versions: vec![zero], seen: Vec::new(), lost: 0 }
     }
 
     pub fn begin(&mut self, value: u64, now: u64) {
@@ -101,7 +103,10 @@ impl Block {
         if !self.versions.iter().any(is_possible) {
             return Err(format!("value {value:#x} was read from {start} to {end}; it may be {:?}", self));
         }
-        self.seen.push(Seen { value, start, end });
+        // An answer that was on the way when power was lost promises nothing.
+        if start > self.lost {
+            self.seen.push(Seen { value, start, end });
+        }
         Ok(())
     }
 
@@ -136,6 +141,7 @@ impl Block {
     pub fn lose_power(&mut self, now: u64, writes_through: bool) {
         if !writes_through {
             self.seen.clear();
+            self.lost = now;
         }
         for it in self.versions.iter_mut().filter(|it| !it.is_durable) {
             it.is_cut |= it.state == State::Pending;
@@ -177,6 +183,9 @@ mod tests {
         block.lose_power(50, false);
         assert!(block.clone().read(0, 60, 70).is_err(), "the first was flushed");
         assert!(block.clone().read(2, 60, 70).is_ok());
+        assert!(block.clone().read(2, 45, 55).is_ok(), "its answer was on the way");
+        let mut late = block.clone();
+        assert!(late.read(2, 45, 55).is_ok() && late.read(1, 60, 70).is_ok());
         assert!(block.read(1, 60, 70).is_ok() && block.read(2, 80, 90).is_err(), "it is old or new, and stays so");
     }
 

@@ -1,20 +1,15 @@
 //! A queue of a host: a connection that sends command capsules and receives their completions.
 
+use super::pdu::{
+    self, data_of, pdu, u16_at, u32_at, Digests, CAPSULE, CONTROLLER_DATA, HOST_DATA, IC_REQUEST, IC_RESPONSE, LAST,
+    READY_TO_TRANSFER, RESPONSE, TERMINATION,
+};
 use crate::shadow::net::TcpStream;
 use crate::world::{self, with, Key, SECOND};
 use std::collections::BTreeMap;
 use std::io::{self, ErrorKind, Read, Write};
-use std::net::SocketAddr;
+use std::net::{Shutdown, SocketAddr};
 
-/// Types of PDUs.
-const IC_REQUEST: u8 = 0;
-const IC_RESPONSE: u8 = 1;
-const TERMINATION: u8 = 3;
-const CAPSULE: u8 = 4;
-const RESPONSE: u8 = 5;
-const HOST_DATA: u8 = 6;
-const CONTROLLER_DATA: u8 = 7;
-const READY_TO_TRANSFER: u8 = 9;
 /// The most bytes of a write that go into its capsule.
 const MOST_IN_CAPSULE: usize = 8192;
 /// How long the target may take for an answer, or to end the connection.
@@ -25,6 +20,8 @@ pub const PATIENCE: u64 = 60 * SECOND;
 pub enum Lost {
     /// The connection has ended.
     Ended,
+    /// The target has refused a Connect.
+    Refused,
     /// Neither an answer nor an end has come in time.
     Silent,
     /// The target broke the transport's rules.
@@ -56,46 +53,35 @@ pub struct Command {
     pub data: Vec<u8>,
     pub length: usize,
     pub in_capsule: bool,
+    /// Whether some of its data change on the way, so that their digest is wrong.
+    pub is_spoiled: bool,
 }
 
 pub struct Queue {
     stream: TcpStream,
     come: Vec<u8>,
     data: BTreeMap<u16, Vec<u8>>,
-    going: BTreeMap<u16, Vec<u8>>,
+    /// Data that the target asks for, and whether some change on the way.
+    going: BTreeMap<u16, (Vec<u8>, bool)>,
     next: u16,
-}
-
-fn u32_at(bytes: &[u8], at: usize) -> u32 {
-    u32::from_le_bytes([bytes[at], bytes[at + 1], bytes[at + 2], bytes[at + 3]])
-}
-
-fn u16_at(bytes: &[u8], at: usize) -> u16 {
-    u16::from_le_bytes([bytes[at], bytes[at + 1]])
-}
-
-fn pdu(kind: u8, flags: u8, header: &[u8], data: &[u8]) -> Vec<u8> {
-    let size = 8 + header.len();
-    let mut bytes = vec![kind, flags, size as u8, if data.is_empty() { 0 } else { size as u8 }];
-    bytes.extend(((size + data.len()) as u32).to_le_bytes());
-    bytes.extend(header);
-    bytes.extend(data);
-    bytes
+    digests: Digests,
 }
 
 impl Queue {
     /// Connects, and exchanges ICReq and ICResp.
-    pub fn open(address: SocketAddr) -> Result<Queue, Lost> {
+    pub fn open(address: SocketAddr, digests: Digests) -> Result<Queue, Lost> {
         let stream = TcpStream::connect(address)?;
+        stream.set_nonblocking(true)?;
         let (come, data, going) = (Vec::new(), BTreeMap::new(), BTreeMap::new());
-        let mut queue = Queue { stream, come, data, going, next: 0 };
+        let mut queue = Queue { stream, come, data, going, next: 0, digests: Digests::default() };
         let mut request = vec![0; 120];
-        request[0] = 0;
-        queue.send_bytes(&pdu(IC_REQUEST, 0, &request, &[]))?;
-        let unit = queue.unit()?;
-        if unit[0] != IC_RESPONSE {
-            return Err(Lost::Broken(format!("ICReq is answered by a PDU of type {}", unit[0])));
+        request[3] = digests.field();
+        queue.send_bytes(&pdu(IC_REQUEST, 0, &request, &[], Digests::default()))?;
+        let unit = queue.unit(with(|it| it.now) + PATIENCE)?;
+        if unit[0] != IC_RESPONSE || unit[11] != digests.field() {
+            return Err(Lost::Broken(format!("ICReq is answered by a PDU of type {}, DGST {}", unit[0], unit[11])));
         }
+        queue.digests = digests;
         Ok(queue)
     }
 
@@ -104,14 +90,40 @@ impl Queue {
         self.stream.as_raw_fd()
     }
 
+    /// Sends bytes, and takes what comes meanwhile: a target whose answers have no room takes no commands either.
     pub fn send_bytes(&mut self, bytes: &[u8]) -> Result<(), Lost> {
-        self.stream.write_all(bytes)?;
+        let (mut rest, mut end) = (bytes, with(|it| it.now) + PATIENCE);
+        while !rest.is_empty() {
+            match self.stream.write(rest) {
+                Ok(count) => {
+                    rest = &rest[count..];
+                    end = with(|it| it.now) + PATIENCE;
+                }
+                Err(error) if error.kind() == ErrorKind::WouldBlock => self.take_bytes(end)?,
+                Err(error) => return Err(error.into()),
+            }
+        }
         Ok(())
     }
 
-    /// The next PDU.
-    fn unit(&mut self) -> Result<Vec<u8>, Lost> {
-        let end = with(|it| it.now) + PATIENCE;
+    /// Takes what has come. If nothing has, it waits until something has, or there is room for what is sent.
+    fn take_bytes(&mut self, end: u64) -> Result<(), Lost> {
+        if !self.stream.has_come() {
+            let is_late = world::wait(Key::Descriptor(self.name()), Some(end));
+            return if is_late { Err(Lost::Silent) } else { Ok(()) };
+        }
+        let mut room = [0; 65536];
+        match self.stream.read(&mut room) {
+            Ok(0) => return Err(Lost::Ended),
+            Ok(count) => self.come.extend(&room[..count]),
+            Err(error) if error.kind() == ErrorKind::WouldBlock => (),
+            Err(error) => return Err(error.into()),
+        }
+        Ok(())
+    }
+
+    /// The next PDU, if it comes by this time.
+    fn unit(&mut self, end: u64) -> Result<Vec<u8>, Lost> {
         loop {
             let length = if self.come.len() >= 8 { u32_at(&self.come, 4) as usize } else { 8 };
             if self.come.len() >= 8 && !(8..=1 << 21).contains(&length) {
@@ -122,27 +134,26 @@ impl Queue {
                 let unit = std::mem::replace(&mut self.come, rest);
                 return if unit[0] == TERMINATION { Err(Lost::Ended) } else { Ok(unit) };
             }
-            if !self.stream.has_come() && world::wait(Key::Descriptor(self.name()), Some(end)) {
-                return Err(Lost::Silent);
-            }
-            if !self.stream.has_come() {
-                continue;
-            }
-            let mut room = [0; 65536];
-            match self.stream.read(&mut room) {
-                Ok(0) => return Err(Lost::Ended),
-                Ok(count) => self.come.extend(&room[..count]),
-                Err(error) if error.kind() == ErrorKind::WouldBlock => (),
-                Err(error) => return Err(error.into()),
-            }
+            self.take_bytes(end)?;
         }
+    }
+
+    /// Sends nothing more.
+    pub fn leave(&mut self) {
+        let _ = self.stream.shutdown(Shutdown::Write);
+    }
+
+    /// Reads what has come, and forgets it.
+    pub fn skip(&mut self) {
+        let mut room = [0; 65536];
+        while self.stream.has_come() && self.stream.read(&mut room).map_or(false, |count| count != 0) {}
     }
 
     /// Sends a command; its identifier.
     pub fn send(&mut self, command: &Command) -> Result<u16, Lost> {
         let cid = self.next;
         self.next = (self.next + 1) % 0x8000;
-        let Command { opcode, form, nsid, words, data, length, in_capsule } = command;
+        let Command { opcode, form, nsid, words, data, length, in_capsule, is_spoiled } = command;
         let is_inside = !data.is_empty() && (*in_capsule || data.len() <= MOST_IN_CAPSULE);
         let mut entry = [0; 64];
         (entry[0], entry[1]) = (*opcode, 0x40);
@@ -155,19 +166,29 @@ impl Queue {
         entry[39] = if is_inside { 0x01 } else { 0x5a };
         entry[40..40 + words.len()].copy_from_slice(words);
         if !data.is_empty() && !is_inside {
-            self.going.insert(cid, data.clone());
+            self.going.insert(cid, (data.clone(), *is_spoiled));
         }
-        self.send_bytes(&pdu(CAPSULE, 0, &entry, if is_inside { data } else { &[] }))?;
+        let mut unit = pdu(CAPSULE, 0, &entry, if is_inside { data } else { &[] }, self.digests);
+        if is_inside && *is_spoiled {
+            pdu::spoil(&mut unit);
+        }
+        self.send_bytes(&unit)?;
         Ok(cid)
     }
 
     /// The next completion. Requested data are sent meanwhile.
     pub fn receive(&mut self) -> Result<Completion, Lost> {
+        self.receive_until(with(|it| it.now) + PATIENCE)
+    }
+
+    /// The next completion, if it comes by this time.
+    pub fn receive_until(&mut self, end: u64) -> Result<Completion, Lost> {
         loop {
-            let unit = self.unit()?;
+            let unit = self.unit(end)?;
             if unit.len() < 24 {
                 return Err(Lost::Broken(format!("a PDU of type {} has {} bytes", unit[0], unit.len())));
             }
+            let part = data_of(&unit, self.digests).map_err(Lost::Broken)?;
             match unit[0] {
                 RESPONSE => {
                     let cid = u16_at(&unit, 20);
@@ -177,12 +198,11 @@ impl Queue {
                 }
                 CONTROLLER_DATA => {
                     let (cid, count) = (u16_at(&unit, 8), u32_at(&unit, 16) as usize);
-                    let (offset, place) = (u32_at(&unit, 12) as usize, usize::from(unit[3]));
                     let data = self.data.entry(cid).or_default();
-                    if offset != data.len() || unit.len() != place + count {
+                    if u32_at(&unit, 12) as usize != data.len() || part.len() != count {
                         return Err(Lost::Broken("C2HData has a wrong offset or length".to_owned()));
                     }
-                    data.extend(&unit[place..]);
+                    data.extend(part);
                 }
                 READY_TO_TRANSFER => self.send_data(&unit)?,
                 kind => return Err(Lost::Broken(format!("a PDU of type {kind}"))),
@@ -193,11 +213,12 @@ impl Queue {
     fn send_data(&mut self, unit: &[u8]) -> Result<(), Lost> {
         let (cid, tag) = (u16_at(unit, 8), u16_at(unit, 10));
         let (start, count) = (u32_at(unit, 12) as usize, u32_at(unit, 16) as usize);
-        let data = self.going.get(&cid).cloned().unwrap_or_default();
+        let (data, is_spoiled) = self.going.get(&cid).cloned().unwrap_or_default();
         if start + count > data.len() {
             return Err(Lost::Broken("R2T for data that there are not".to_owned()));
         }
         let part = with(|it| 512 * it.random.within(4, 64)) as usize;
+        let spoiled = if is_spoiled { with(|it| it.random.index((count + part - 1) / part)) } else { usize::MAX };
         for at in (start..start + count).step_by(part) {
             let piece = &data[at..(at + part).min(start + count)];
             let is_last = at + piece.len() == start + count;
@@ -205,7 +226,11 @@ impl Queue {
             header.extend((at as u32).to_le_bytes());
             header.extend((piece.len() as u32).to_le_bytes());
             header.extend([0; 4]);
-            self.send_bytes(&pdu(HOST_DATA, if is_last { 4 } else { 0 }, &header, piece))?;
+            let mut unit = pdu(HOST_DATA, if is_last { LAST } else { 0 }, &header, piece, self.digests);
+            if (at - start) / part == spoiled {
+                pdu::spoil(&mut unit);
+            }
+            self.send_bytes(&unit)?;
         }
         if start + count == data.len() {
             self.going.remove(&cid);
@@ -244,6 +269,10 @@ impl Queue {
         words.extend(offset.to_le_bytes());
         words.extend(value.to_le_bytes());
         self.call(&Command { opcode: 0x7f, form: 0, words, ..Command::default() })
+    }
+
+    pub fn disconnect(&mut self) -> Result<u16, Lost> {
+        self.send(&Command { opcode: 0x7f, form: 8, ..Command::default() })
     }
 
     pub fn property(&mut self, offset: u32) -> Result<Completion, Lost> {

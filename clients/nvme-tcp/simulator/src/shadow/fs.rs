@@ -21,6 +21,8 @@ struct Open {
     /// Who has opened it: a machine and a process.
     by: (usize, usize),
     is_direct: bool,
+    /// Each write goes to the end of the file.
+    appends: bool,
     place: AtomicU64,
     /// What the kernel makes up, such as the name of the machine.
     text: Option<Vec<u8>>,
@@ -49,10 +51,31 @@ const CACHED: Time = Time { least: 1, most: 8 };
 const MEDIUM: Time = Time { least: 20, most: 200 };
 const SYNC: Time = Time { least: 50, most: 1_500 };
 
-fn spend(time: &Time) {
-    if !fiber::is_inside() {
-        return;
+/// A call on a disk. One that has begun takes effect though its process is stopped; it returns afterwards.
+struct Call {
+    is_inside: bool,
+}
+
+impl Call {
+    fn begin(time: &Time) -> Call {
+        let is_inside = fiber::is_inside();
+        if is_inside {
+            world::call(true);
+            spend(time);
+        }
+        Call { is_inside }
     }
+}
+
+impl Drop for Call {
+    fn drop(&mut self) {
+        if self.is_inside {
+            world::call(false);
+        }
+    }
+}
+
+fn spend(time: &Time) {
     let nanoseconds = with(|it| {
         let late = it.chances.late_disk;
         let factor = if it.happens("late disk", late) { it.random.within(20, 2_000) } else { 1 };
@@ -82,7 +105,7 @@ impl Open {
             return Ok(count);
         }
         let is_medium = self.is_medium();
-        spend(if is_medium { &MEDIUM } else { &CACHED });
+        let _call = Call::begin(if is_medium { &MEDIUM } else { &CACHED });
         with(|world| {
             let (fails, short) = (world.chances.failed_read, world.chances.short);
             if is_medium && world.happens("failed read", fails) {
@@ -105,7 +128,7 @@ impl Open {
 
     fn write_at(&self, bytes: &[u8], place: u64) -> io::Result<usize> {
         let is_medium = self.is_medium();
-        spend(if is_medium { &MEDIUM } else { &CACHED });
+        let _call = Call::begin(if is_medium { &MEDIUM } else { &CACHED });
         let count = with(|world| {
             let (fails, short) = (world.chances.failed_write, world.chances.short);
             if is_medium && world.happens("failed write", fails) {
@@ -130,7 +153,7 @@ impl Open {
 
     fn sync(&self) -> io::Result<()> {
         let until = with(|it| it.disks.inodes[self.inode].written());
-        spend(&SYNC);
+        let _call = Call::begin(&SYNC);
         with(|world| {
             let fails = world.chances.failed_sync;
             if world.happens("failed sync", fails) {
@@ -199,7 +222,7 @@ impl File {
     }
 
     pub(super) fn punch_hole(&self, place: u64, count: u64) -> io::Result<()> {
-        spend(&MEDIUM);
+        let _call = Call::begin(&MEDIUM);
         with(|it| it.disks.inodes[self.it().inode].zero(place as usize, count as usize));
         Ok(())
     }
@@ -217,6 +240,9 @@ impl Read for &File {
 impl Write for &File {
     fn write(&mut self, bytes: &[u8]) -> io::Result<usize> {
         let it = self.it();
+        if it.appends {
+            it.place.store(with(|world| world.disks.inodes[it.inode].data.len()) as u64, Ordering::Relaxed);
+        }
         let count = it.write_at(bytes, it.place.load(Ordering::Relaxed))?;
         it.place.fetch_add(count as u64, Ordering::Relaxed);
         Ok(count)
@@ -328,10 +354,9 @@ impl OpenOptions {
             if self.truncate {
                 world.disks.inodes[inode].set_length(0);
             }
-            let place = if self.append { world.disks.inodes[inode].data.len() as u64 } else { 0 };
-            let is_direct = self.flags & DIRECT != 0;
-            let open = Open { inode, number: world.disks.open(), by, is_direct, place: AtomicU64::new(place), text };
-            Ok(File(Arc::new(Shared(open))))
+            let (is_direct, appends) = (self.flags & DIRECT != 0, self.append);
+            let place = AtomicU64::new(0);
+            Ok(File(Arc::new(Shared(Open { inode, number: world.disks.open(), by, is_direct, appends, place, text }))))
         })
     }
 }

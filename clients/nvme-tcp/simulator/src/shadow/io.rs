@@ -18,7 +18,7 @@ impl Write for Said {
             if said.len() < MOST {
                 said.push_str(&String::from_utf8_lossy(bytes));
             }
-            if !self.is_error {
+            if !self.is_error && world.processes[process].served.is_none() {
                 let bytes = world.disks.served.map(|it| world.disks.inodes[it].data.clone());
                 world.processes[process].served = bytes;
             }

@@ -16,8 +16,9 @@ pub(super) struct Socket {
 impl Drop for Socket {
     fn drop(&mut self) {
         with(|world| {
-            let World { net, random, now, .. } = world;
+            let World { net, random, now, tap, .. } = world;
             net.close(self.name, *now, random);
+            tap.iter_mut().for_each(|it| it.close(self.name, *now));
         });
     }
 }
@@ -26,7 +27,8 @@ impl Socket {
     pub fn read(&self, room: &mut [u8]) -> io::Result<usize> {
         loop {
             let result = with(|world| {
-                let World { net, random, chances, .. } = world;
+                let is_host = world.process() == world::HOSTS;
+                let World { net, random, chances, tap, now, .. } = world;
                 let come = net.come(self.name);
                 let side = match net.sides.get(&self.name) {
                     Some(side) => side,
@@ -37,6 +39,9 @@ impl Socket {
                     let most = come.min(room.len());
                     let count = if random.once_in(chances.short) { 1 + random.index(most) } else { most };
                     net.read(self.name, room, count);
+                    if let Some(tap) = tap.as_mut().filter(|_| is_host) {
+                        tap.receive(self.name, &room[..count], *now);
+                    }
                     let peer = net.sides.get(&self.name).map_or(0, |it| it.peer);
                     net.keys(peer).into_iter().for_each(|it| world.wake_all(it));
                     return Some(Ok(count));
@@ -58,7 +63,8 @@ impl Socket {
     pub fn write(&self, bytes: &[u8]) -> io::Result<usize> {
         loop {
             let result = with(|world| {
-                let World { net, random, now, chances, .. } = world;
+                let is_host = world.process() == world::HOSTS;
+                let World { net, random, now, chances, tap, .. } = world;
                 let side = match net.sides.get(&self.name) {
                     Some(side) => side,
                     None => return Some(Err(ErrorKind::BrokenPipe.into())),
@@ -73,6 +79,9 @@ impl Socket {
                 }
                 let count = if random.once_in(chances.short) { 1 + random.index(most) } else { most };
                 net.write(self.name, &bytes[..count], *now, random);
+                if let Some(tap) = tap.as_mut().filter(|_| is_host) {
+                    tap.send(self.name, &bytes[..count], *now);
+                }
                 Some(Ok(count))
             });
             match result {

@@ -1,7 +1,7 @@
 //! The functions of the target's `system.rs`.
 
 use super::fs::File;
-use crate::world::{self, with, Key, MILLISECOND};
+use crate::world::{self, with, Key, MICROSECOND, MILLISECOND};
 use ::std::io;
 use ::std::os::unix::io::AsRawFd;
 use ::std::time::Duration;
@@ -69,6 +69,8 @@ pub fn lock(file: &File, is_shared: bool, waits: bool) -> io::Result<()> {
 /// The descriptors that are waited for.
 pub struct Poll {
     name: i32,
+    /// What was ready last, as a number that no order changes, and how often it was so before.
+    last: (u64, u64),
 }
 
 impl Poll {
@@ -76,7 +78,7 @@ impl Poll {
         with(|it| {
             let name = it.net.descriptor();
             it.net.polls.insert(name, Default::default());
-            Ok(Poll { name })
+            Ok(Poll { name, last: (0, 0) })
         })
     }
 
@@ -113,12 +115,24 @@ impl Poll {
         ready.clear();
         world::may_yield();
         self.find(ready);
+        self.spend(ready);
         if ready.is_empty() && milliseconds != 0 {
             let until = with(|it| it.now) + milliseconds as u64 * MILLISECOND;
             world::wait(Key::Descriptor(self.name), Some(until));
             self.find(ready);
         }
         Ok(())
+    }
+
+    /// The call takes time. A caller that leaves the same descriptors ready again and again does not keep others from
+    /// running.
+    fn spend(&mut self, ready: &[Ready]) {
+        let sum = ready.iter().fold(1, |sum: u64, it| sum.wrapping_mul(it.name << 1 | 1));
+        let is_same = !ready.is_empty() && sum == self.last.0;
+        self.last = (sum, if is_same { self.last.1 + 1 } else { 0 });
+        if self.last.1 >= 16 {
+            world::pause(self.last.1.min(100) * MICROSECOND);
+        }
     }
 
     fn find(&self, ready: &mut Vec<Ready>) {

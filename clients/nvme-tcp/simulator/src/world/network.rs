@@ -197,9 +197,11 @@ impl Network {
     /// Takes bytes that have come.
     pub fn read(&mut self, name: i32, room: &mut [u8], count: usize) {
         if let Some(side) = self.sides.get_mut(&name) {
-            for (to, from) in room.iter_mut().zip(side.come.drain(..count)) {
-                *to = from;
-            }
+            let (first, second) = side.come.as_slices();
+            let split = first.len().min(count);
+            room[..split].copy_from_slice(&first[..split]);
+            room[split..count].copy_from_slice(&second[..count - split]);
+            side.come.drain(..count);
         }
     }
 

@@ -1,0 +1,109 @@
+//! Memory of simulated processes. One that is killed drops nothing, as in a real crash, but its memory has to be
+//! returned: a target has about 10 MB, and a run kills hundreds. So this file calls the C library's allocator for the
+//! program, notes which process has each large block, and frees those of a process that is gone.
+//!
+//! Why it is safe: only fibers of a process use its blocks, and none of them runs again. What the world keeps is
+//! allocated while `with` runs, and so has no process. Each function passes its arguments to the C library's.
+
+use std::cell::Cell;
+use std::ffi::c_void;
+
+/// A block of this size is large.
+const LARGE: usize = 16 << 10;
+/// The most large blocks of all processes; more are never freed.
+const MOST: usize = 4096;
+
+extern "C" {
+    fn __libc_malloc(size: usize) -> *mut c_void;
+    fn __libc_calloc(count: usize, size: usize) -> *mut c_void;
+    fn __libc_realloc(block: *mut c_void, size: usize) -> *mut c_void;
+    fn __libc_free(block: *mut c_void);
+    fn malloc_usable_size(block: *mut c_void) -> usize;
+}
+
+struct Blocks {
+    /// The process that runs; 0 if none does.
+    owner: Cell<usize>,
+    count: Cell<usize>,
+    /// Blocks, and the processes that have them.
+    list: [Cell<(usize, usize)>; MOST],
+}
+
+#[allow(clippy::declare_interior_mutable_const)]
+const NONE: Cell<(usize, usize)> = Cell::new((0, 0));
+
+thread_local! {
+    // Without a destructor and an allocation, so that it can be used at any time.
+    static BLOCKS: Blocks = const { Blocks { owner: Cell::new(0), count: Cell::new(0), list: [NONE; MOST] } };
+}
+
+/// Names the process that allocates from now on; the one before.
+pub fn set_owner(process: usize) -> usize {
+    BLOCKS.with(|it| it.owner.replace(process))
+}
+
+fn note(block: *mut c_void, size: usize) -> *mut c_void {
+    if size >= LARGE && !block.is_null() {
+        BLOCKS.with(|it| {
+            let count = it.count.get();
+            if it.owner.get() != 0 && count < MOST {
+                it.list[count].set((block as usize, it.owner.get()));
+                it.count.set(count + 1);
+            }
+        });
+    }
+    block
+}
+
+fn forget(block: *mut c_void) {
+    BLOCKS.with(|it| {
+        let count = it.count.get();
+        if let Some(at) = (0..count).rev().find(|at| it.list[*at].get().0 == block as usize) {
+            it.list[at].set(it.list[count - 1].get());
+            it.count.set(count - 1);
+        }
+    });
+}
+
+/// Frees the large blocks of a process.
+pub fn free_all(process: usize) {
+    BLOCKS.with(|it| {
+        let mut at = 0;
+        while at < it.count.get() {
+            let (block, owner) = it.list[at].get();
+            if owner == process {
+                it.count.set(it.count.get() - 1);
+                it.list[at].set(it.list[it.count.get()].get());
+                unsafe { __libc_free(block as *mut c_void) };
+            } else {
+                at += 1;
+            }
+        }
+    });
+}
+
+#[no_mangle]
+extern "C" fn malloc(size: usize) -> *mut c_void {
+    note(unsafe { __libc_malloc(size) }, size)
+}
+
+#[no_mangle]
+extern "C" fn calloc(count: usize, size: usize) -> *mut c_void {
+    note(unsafe { __libc_calloc(count, size) }, count.saturating_mul(size))
+}
+
+#[no_mangle]
+extern "C" fn realloc(block: *mut c_void, size: usize) -> *mut c_void {
+    if !block.is_null() && unsafe { malloc_usable_size(block) } >= LARGE {
+        forget(block);
+    }
+    note(unsafe { __libc_realloc(block, size) }, size)
+}
+
+#[no_mangle]
+extern "C" fn free(block: *mut c_void) {
+    if !block.is_null() && unsafe { malloc_usable_size(block) } >= LARGE {
+        forget(block);
+    }
+    unsafe { __libc_free(block) };
+}

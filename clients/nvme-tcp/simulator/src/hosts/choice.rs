@@ -1,0 +1,135 @@
+//! Which command a path sends next.
+
+use super::checker::{bytes_of, check, Act, KEY};
+use super::queue::Command;
+use super::{below, once_in, Path, READ};
+
+/// Opcodes.
+const FLUSH: u8 = 0x00;
+const WRITE: u8 = 0x01;
+const COMPARE: u8 = 0x05;
+const WRITE_ZEROES: u8 = 0x08;
+const DATASET_MANAGEMENT: u8 = 0x09;
+const REGISTER: u8 = 0x0d;
+const REPORT: u8 = 0x0e;
+const ACQUIRE: u8 = 0x11;
+const RELEASE: u8 = 0x15;
+/// Force Unit Access.
+const FORCED: u32 = 1 << 30;
+/// CPTPL: reservations persist through power loss, or do not. IEKEY.
+const PERSISTS: u32 = 3 << 30;
+const IS_LOST: u32 = 2 << 30;
+const ANY_KEY: u32 = 1 << 3;
+/// The blocks of long zeroes.
+const LONG_ZEROES: (usize, usize) = (2_000, 2_600);
+/// Out of this number of commands one has data that change on the way, if they have a digest and the host breaks rules.
+const SPOILED: u64 = 60;
+
+fn key_of(host: usize) -> u64 {
+    KEY + host as u64
+}
+
+/// Whether a command has Force Unit Access.
+pub fn is_forced(command: &Command) -> bool {
+    matches!(command.opcode, WRITE | WRITE_ZEROES) && command.words.get(11).map_or(false, |it| it & 0x40 != 0)
+}
+
+/// A Reservation Report with 128-bit identifiers.
+fn report() -> (Command, Act) {
+    let words = [&1023u32.to_le_bytes()[..], &1u32.to_le_bytes()].concat();
+    (Command { opcode: REPORT, nsid: 1, words, length: 4096, ..Command::default() }, Act::Report)
+}
+
+impl Path {
+    /// Blocks of a command: few regions are used more than others.
+    fn extent(&self) -> (usize, usize) {
+        let count = if below(4) < self.long { 1 + below(self.longest) } else { 1 + below(self.longest.min(8)) };
+        self.extent_of(count.min(self.blocks))
+    }
+
+    fn extent_of(&self, count: usize) -> (usize, usize) {
+        let slba = below(self.blocks - count + 1);
+        (if below(2) == 0 { slba % 32.min(self.blocks - count + 1) } else { slba }, count)
+    }
+
+    pub fn choose(&self) -> (Command, Act) {
+        if (below(1000) as u64) < self.reserves {
+            return self.choose_reserve();
+        }
+        let (slba, count) = self.extent();
+        let forced = if once_in(self.forces) { FORCED } else { 0 };
+        let place = [&(slba as u64).to_le_bytes()[..], &(count as u32 - 1 | forced).to_le_bytes()].concat();
+        let command = |opcode| Command { opcode, nsid: 1, words: place.clone(), ..Command::default() };
+        let bytes = |values: &[u64]| values.iter().flat_map(|it| bytes_of(*it)).collect::<Vec<u8>>();
+        let mut rest = below(100);
+        let kind = self.mix.iter().position(|share| {
+            let is_it = rest < *share;
+            rest = rest.saturating_sub(*share);
+            is_it
+        });
+        match kind {
+            Some(0) => {
+                let values = check(|it| it.values(count));
+                let is_spoiled = self.lies && self.digests.data && once_in(SPOILED);
+                (Command { data: bytes(&values), is_spoiled, ..command(WRITE) }, Act::Write { slba, values })
+            }
+            Some(1) => (Command { length: count * 512, ..command(READ) }, Act::Read { slba, count }),
+            Some(2) => {
+                let values: Vec<u64> = (slba..slba + count).map(|it| check(|check| check.newest(it))).collect();
+                (Command { data: bytes(&values), ..command(COMPARE) }, Act::Compare { slba, values })
+            }
+            Some(3) if self.blocks > LONG_ZEROES.1 && below(2) == 0 => self.zero_many(),
+            Some(3) => (command(WRITE_ZEROES), Act::Write { slba, values: vec![0; count] }),
+            Some(_) => {
+                let range = [&[0; 4][..], &(count as u32).to_le_bytes(), &(slba as u64).to_le_bytes()].concat();
+                let words = vec![0, 0, 0, 0, 4, 0, 0, 0];
+                let command = Command { opcode: DATASET_MANAGEMENT, nsid: 1, words, data: range, ..Command::default() };
+                (command, Act::Write { slba, values: vec![0; count] })
+            }
+            None => (Command { opcode: FLUSH, nsid: 1, ..Command::default() }, Act::Flush),
+        }
+    }
+
+    /// Zeroes that are long enough to wait for their turn.
+    fn zero_many(&self) -> (Command, Act) {
+        let (slba, count) = self.extent_of(LONG_ZEROES.0 + below(LONG_ZEROES.1 - LONG_ZEROES.0));
+        let words = [&(slba as u64).to_le_bytes()[..], &(count as u32 - 1).to_le_bytes()].concat();
+        let command = Command { opcode: WRITE_ZEROES, nsid: 1, words, ..Command::default() };
+        (command, Act::Write { slba, values: vec![0; count] })
+    }
+
+    /// What a path that has connected looks at first: what was promised is there, before anything replaces it.
+    pub fn first(&self) -> Vec<(Command, Act)> {
+        let count = 32.min(self.blocks);
+        let words = [&0u64.to_le_bytes()[..], &(count as u32 - 1).to_le_bytes()].concat();
+        let read = Command { opcode: READ, nsid: 1, words, length: count * 512, ..Command::default() };
+        let mut list = vec![(read, Act::Read { slba: 0, count })];
+        if self.reserves != 0 {
+            list.push(report());
+        }
+        list
+    }
+
+    fn choose_reserve(&self) -> (Command, Act) {
+        let (key, other) = (key_of(self.host), below(self.hosts));
+        let (opcode, word, keys, act) = match below(14) {
+            0..=3 => {
+                let persists = if self.persists { PERSISTS } else { IS_LOST };
+                (REGISTER, persists | ANY_KEY, vec![0, key], Act::Register)
+            }
+            4..=5 => (ACQUIRE, 1 << 8, vec![key, 0], Act::Reserve { takes: true, from: None }),
+            // It takes the reservation only if the other has it.
+            6..=7 => {
+                let takes = check(|it| it.holder()) == Some(other) && other != self.host;
+                (ACQUIRE, 1 | 1 << 8, vec![key, key_of(other)], Act::Reserve { takes, from: Some(other) })
+            }
+            8 => (RELEASE, 1 << 8, vec![key], Act::Reserve { takes: false, from: None }),
+            9..=10 => (REGISTER, 1, vec![key, 0], Act::Unregister),
+            _ => return report(),
+        };
+        // Register again replaces the key by itself, which changes nothing of the reservation.
+        let data = keys.iter().flat_map(|it: &u64| it.to_le_bytes()).collect();
+        let words = word.to_le_bytes().to_vec();
+        (Command { opcode, nsid: 1, words, data, ..Command::default() }, act)
+    }
+}

@@ -1,0 +1,125 @@
+//! Queues of a session that end while it continues, or end it.
+
+use super::checker::check;
+use super::queue::{Command, Lost, Queue};
+use super::{below, now, was_stopped, Session, CC, CSTS, ENABLE, KEEP_ALIVE, REFUSALS};
+use crate::world::{self, MILLISECOND, SECOND};
+
+impl Session<'_> {
+    /// Ends a queue in one of several ways; whether the session continues.
+    pub fn change_queues(&mut self) -> Result<bool, Lost> {
+        if below(2) == 0 {
+            while !self.open.is_empty() {
+                self.receive()?;
+            }
+        }
+        match below(4) {
+            0 => self.disconnect()?,
+            1 => self.drop_queue()?,
+            2 => self.reset()?,
+            _ => {
+                self.leave_admin()?;
+                return Ok(false);
+            }
+        }
+        Ok(true)
+    }
+
+    /// Opens the connection of an I/O queue; the status of its Connect.
+    fn open_queue(&mut self) -> Result<(Queue, u16), Lost> {
+        let mut io = Queue::open(self.address, self.path.digests)?;
+        self.names.push(io.name());
+        let status = io.connect(1, self.path.host_id(), self.path.cntlid, 0)?.status;
+        Ok((io, status))
+    }
+
+    /// Takes a new I/O queue for the one that has ended; the old connection.
+    fn replace(&mut self, io: Queue) -> Queue {
+        self.give_up();
+        check(|it| it.bound(Some(self.path.cntlid)));
+        std::mem::replace(&mut self.io, io)
+    }
+
+    /// Disconnects the I/O queue, and connects another before the connection of the first is closed.
+    fn disconnect(&mut self) -> Result<(), Lost> {
+        let cid = self.io.disconnect()?;
+        loop {
+            let completion = self.io.receive()?;
+            if completion.cid == cid {
+                break;
+            }
+            self.take(&completion)?;
+        }
+        let (io, status) = self.open_queue()?;
+        if status != 0 {
+            return self.refuse(status, "Disconnect");
+        }
+        let _old = self.replace(io);
+        self.rest(MILLISECOND * below(20) as u64)
+    }
+
+    /// Closes the connection of the I/O queue, and connects another once the target has noticed.
+    fn drop_queue(&mut self) -> Result<(), Lost> {
+        self.io.leave();
+        let begun = now();
+        loop {
+            let (io, status) = self.open_queue()?;
+            if status == 0 {
+                drop(self.replace(io));
+                return Ok(());
+            }
+            // The association is there as long as this is answered.
+            self.admin.call(&Command { opcode: KEEP_ALIVE, ..Command::default() })?;
+            if now() > begun + REFUSALS {
+                return self.refuse(status, "the end of its connection");
+            }
+            // A target that can't send notices no end.
+            self.io.skip();
+            world::pause(5 * MILLISECOND);
+        }
+    }
+
+    /// Resets the controller, and enables it again. The connection of its I/O queue ends.
+    fn reset(&mut self) -> Result<(), Lost> {
+        self.admin.set_property(CC, 0)?;
+        self.drain()?;
+        self.admin.set_property(CC, ENABLE)?;
+        if self.admin.property(CSTS)?.value & 1 == 0 {
+            return Err(Lost::Broken("a controller is not ready after it was enabled".to_owned()));
+        }
+        let (io, status) = self.open_queue()?;
+        if status != 0 {
+            return self.refuse(status, "a reset of its controller");
+        }
+        drop(self.replace(io));
+        Ok(())
+    }
+
+    /// Closes the connection of the admin queue: that of the I/O queue ends too.
+    fn leave_admin(&mut self) -> Result<(), Lost> {
+        self.keep_alive = 0;
+        self.admin.leave();
+        self.drain()
+    }
+
+    /// Takes the answers that come until the connection of the I/O queue ends.
+    fn drain(&mut self) -> Result<(), Lost> {
+        loop {
+            match self.receive() {
+                Ok(()) => (),
+                Err(Lost::Ended) => return Ok(()),
+                Err(lost) => return Err(lost),
+            }
+        }
+    }
+
+    /// An I/O queue is refused: that has a reason if the association has ended meanwhile.
+    fn refuse(&mut self, status: u16, after: &str) -> Result<(), Lost> {
+        self.rest(SECOND / 2)?;
+        self.admin.call(&Command { opcode: KEEP_ALIVE, ..Command::default() })?;
+        if was_stopped(self.process, self.begun) {
+            return Err(Lost::Ended);
+        }
+        Err(Lost::Broken(format!("its I/O queue is refused with status {status:x} after {after}")))
+    }
+}
