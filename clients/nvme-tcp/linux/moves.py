@@ -12,8 +12,8 @@ from typing import Callable, Dict, Iterator, List, Union
 from linux.cluster import SETTLED, STATE, nodes_image
 from linux.fencer import Fencer
 from linux.machines import SLOWER, Guest, ask_monitor, say
-from linux.private import private_network, tap
-from linux.rooms import Room, make_cables
+from linux.namespaces import Namespace, make_cables
+from linux.network import network_namespace, tap
 from linux.scenes import config, free_port
 from linux.writers import Watch, Writer, turns
 from tests.host import BLOCK, Host
@@ -26,8 +26,10 @@ BLOCKS, PORT = 2048, 4420
 ADDRESS = ("10.88.0.9", PORT)
 # Milliseconds until Corosync gives a silent machine up.
 TOKEN = int(1000 * SLOWER)
+# Seconds of the volume's lease.
+LEASE = max(1, int(SLOWER))
 # Machines are guests, or namespaces of this kernel, which needs no emulation.
-ROOMS = bool(os.environ.get("ROOMS"))
+NAMESPACES = bool(os.environ.get("NAMESPACES"))
 # What the target keeps of its run, in the folder that it shares with the scene.
 KEEP = "--script /share/run.nvme --force"
 FOLLOWS = {"t1": "t2", "t2": "t1"}
@@ -82,12 +84,12 @@ class Moves:
     def __init__(self, built: Path, folder: Path) -> None:
         self.built, self.folder = built, folder
         self.root, self.volume = nodes_image(built), folder / "volume"
-        self.guests: Dict[str, Union[Twin, Room]] = {}
+        self.guests: Dict[str, Union[Twin, Namespace]] = {}
         self.faults: List[str] = []
         self.writers: List[Writer] = []
         self.ports = {it: free_port() for it in MACHINES}
         (folder / "config.nvme").write_text(config(BLOCKS, "a1", "b2", "c3", "a1", "b2", "c3"))
-        words = [PROGRAM, "format", self.volume, "--config", folder / "config.nvme"]
+        words = [PROGRAM, "format", self.volume, "--config", folder / "config.nvme", "--lease", str(LEASE)]
         subprocess.run(words, stdout=subprocess.DEVNULL, check=True)
         self.fencer = Fencer(self.kill)
         self.fencer.start()
@@ -110,7 +112,7 @@ class Moves:
     def boot(self, name: str) -> None:
         """Boots a machine, which joins the cluster."""
         self.share(name)
-        guest = Room(self.root, self.folder, name) if ROOMS else Twin(self, name)
+        guest = Namespace(self.root, self.folder, name) if NAMESPACES else Twin(self, name)
         self.guests[name] = guest
         text = guest.run("sh /share/target-node; echo status $?", SETTLED)
         self.wants(f"{name} is set up", "status 0" in text)
@@ -179,7 +181,8 @@ class Moves:
         if is_fenced:
             self.guests["t2"].run("stonith_admin --history t1 --verbose | grep successful", SETTLED)
         outages = ", ".join(f"{it.longest(begun):.1f}" for it in self.writers)
-        say(f"seconds without an answer, for hosts a1, b2 and c3: {outages}; the token is {TOKEN} ms")
+        say(f"seconds without an answer, for hosts a1, b2 and c3: {outages}; the token is {TOKEN} ms, "
+            f"the lease {LEASE} s")
 
     def end(self) -> None:
         """The hosts end, and read what they wrote."""
@@ -230,8 +233,8 @@ class Moves:
 @contextlib.contextmanager
 def machines(built: Path, folder: Path) -> Iterator[Moves]:
     """Both machines with the target on t1, and hosts that write."""
-    with private_network(*MACHINES):
-        if ROOMS:
+    with network_namespace(*MACHINES):
+        if NAMESPACES:
             make_cables(*MACHINES)
         it = Moves(built, folder)
         try:

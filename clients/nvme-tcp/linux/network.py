@@ -1,4 +1,4 @@
-"""A network of the scene's own: a bridge between guests, by TAP devices, and the programs of the scene."""
+"""A network namespace for a scene: a bridge between guests, by TAP devices, and the programs of the scene."""
 import contextlib
 import ctypes
 import os
@@ -16,7 +16,7 @@ def call(name: str, *words: int) -> None:
     library = ctypes.CDLL(None, use_errno=True)
     if getattr(library, name)(*words) != 0:
         fault = os.strerror(ctypes.get_errno())
-        raise AssertionError(f"{name}: {fault}; scenes with a network of their own are for root")
+        raise AssertionError(f"{name}: {fault}; scenes with a network namespace are for root")
 
 
 def tap(guest: str) -> str:
@@ -25,7 +25,7 @@ def tap(guest: str) -> str:
 
 
 @contextlib.contextmanager
-def private_network(*guests: str) -> Iterator[None]:
+def network_namespace(*guests: str) -> Iterator[None]:
     """Puts this thread, and those that it starts, into a network with a bridge to these guests."""
     before = os.open("/proc/thread-self/ns/net", os.O_RDONLY)
     call("unshare", NEWNET)

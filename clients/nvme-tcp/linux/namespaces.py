@@ -10,11 +10,11 @@ from typing import List
 from linux.machines import BOOT, Guest, say
 
 HERE = Path(__file__).resolve().parent
-# The bridge by which rooms reach the scene, at the address that guests of QEMU have for it.
+# The bridge by which they reach the scene, at the address that guests of QEMU have for it.
 OUTSIDE = ("management", "10.0.2.2")
 
 
-class Room(Guest):
+class Namespace(Guest):
     """A machine in namespaces. `run` types a line into its shell, as for a guest."""
 
     def __init__(self, root: Path, folder: Path, host: str) -> None:
@@ -24,7 +24,7 @@ class Room(Guest):
         words = ["losetup", "--find", "--show", folder / "volume"]
         self.disk = subprocess.run(words, stdout=subprocess.PIPE, text=True, check=True).stdout.strip()
         words = ["unshare", "--pid", "--mount", "--net", "--uts", "--ipc", "--fork", "--kill-child", "--propagation",
-                 "private", HERE / "room", host, root, folder, self.disk]
+                 "private", HERE / "namespace", host, root, folder, self.disk]
         self.process = subprocess.Popen(words, stdin=subprocess.PIPE, stdout=subprocess.PIPE, bufsize=0,
                                         stderr=subprocess.STDOUT, start_new_session=True)
         self.first = self.find_first()
@@ -97,7 +97,7 @@ def ip(line: str) -> None:
 
 
 def make_cables(*hosts: str) -> None:
-    """The bridge to the scene, and the cable between two rooms."""
+    """The bridge to the scene, and the cable between two machines."""
     name, address = OUTSIDE
     for line in (f"link add {name} type bridge", f"addr add {address}/24 dev {name}", f"link set {name} up"):
         ip(line)
@@ -105,9 +105,9 @@ def make_cables(*hosts: str) -> None:
 
 
 def plug_in(host: str, first: int) -> None:
-    """Connects a room to its networks: eth0 to the scene, eth1 to the other room, eth2 to the hosts."""
+    """Connects a machine to its networks: eth0 to the scene, eth1 to the other machine, eth2 to the hosts."""
     ip(f"link set cable-{host} name eth1 netns {first}")
-    # The room waits for the last one.
+    # The machine waits for the last one.
     for device, bridge in (("eth0", OUTSIDE[0]), ("eth2", "hosts")):
         ip(f"link add {device}-{host} type veth peer name {device} netns {first}")
         ip(f"link set {device}-{host} master {bridge} up")
