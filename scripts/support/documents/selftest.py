@@ -96,7 +96,7 @@ CHANGED = (
     ("clients/python/nvmesim/looks.py", "The next word, after its label", "The next word, behind its label",
      "looks.py:140: 'behind': write after"),
     ("scripts/closed-streams", "# ", "# It stands\n# on others. ", "closed-streams:2: 'stands': write is"),
-    ("clients/nvme-tcp/src/output.rs", "/// Number of bytes sent.", "/// So many bytes were sent.",
+    ("clients/nvme-tcp/src/transport/output.rs", "/// Number of bytes sent.", "/// So many bytes were sent.",
      "output.rs:35: 'So many': write the quantity's name"),
     ("clients/c/nvmesim.h", "Borrowed bytes are yours again", "Lent bytes are yours again", "'Lent': write borrowed"),
     # Words of clients and scripts alone: a docstring, messages of each language, trailing comments, a help text.
