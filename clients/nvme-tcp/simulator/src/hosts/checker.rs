@@ -59,6 +59,13 @@ pub struct Sent {
     pub is_spoiled: bool,
 }
 
+impl Sent {
+    /// Whether it may change who has the reservation.
+    fn may_change_holder(&self) -> bool {
+        matches!(self.act, Act::Reserve { .. } | Act::Unregister)
+    }
+}
+
 /// Since when only one host may write.
 #[derive(Clone, Copy, Debug)]
 struct Fence {
@@ -83,6 +90,8 @@ pub struct Checker {
     /// How many commands on the reservation were sent, and which of them was the last when each was.
     reserves: u64,
     reserved_at: BTreeMap<u64, u64>,
+    /// When the reservation may have changed last.
+    changed: u64,
     pub fenced: u64,
     pub registrations: Registrations,
     /// Whether reservations persist through power loss.
@@ -121,6 +130,7 @@ pub fn begin(blocks: usize, writes_through: bool, persists: bool) {
         fence: None,
         reserves: 0,
         reserved_at: BTreeMap::new(),
+        changed: 0,
         fenced: 0,
         registrations: Registrations::new(persists),
         persists,
@@ -185,12 +195,12 @@ impl Checker {
 
     /// A command is sent: its number.
     pub fn begin(&mut self, sent: Sent) -> u64 {
+        self.next += 1;
         if let Act::Write { slba, values } = &sent.act {
             for (block, value) in (*slba..).zip(values) {
-                self.blocks[block].begin(*value, sent.begun);
+                self.blocks[block].begin(self.next, *value, sent.begun);
             }
         }
-        self.next += 1;
         self.begin_reserve(&sent);
         self.sent += 1;
         self.open.insert(self.next, sent);
@@ -198,6 +208,9 @@ impl Checker {
     }
 
     fn begin_reserve(&mut self, sent: &Sent) {
+        if matches!(sent.act, Act::Reserve { .. } | Act::Register | Act::Unregister) {
+            with(|it| it.note(&format!("path {} sends command {}: {:?}", sent.cntlid, self.next, sent.act)));
+        }
         match sent.act {
             Act::Reserve { from, .. } => {
                 self.fence = None;
@@ -251,13 +264,17 @@ impl Checker {
             Act::Write { .. } if sent.is_spoiled && is_done => {
                 self.violate(format!("a write succeeds whose digest is wrong: {sent:?}"))
             }
-            Act::Write { slba, values } => self.wrote(sent, *slba, values, completion.status),
+            Act::Write { slba, values } => self.wrote(sent, number, (*slba, values), completion.status),
             Act::Read { slba, count } if is_done => self.has_read(sent, *slba, *count, &completion.data),
             Act::Compare { slba, values } if is_done => self.saw(sent, *slba, values),
             Act::Compare { .. } if completion.status == COMPARE_FAILURE => (),
             Act::Flush if is_done => self.blocks.iter_mut().for_each(|it| it.flush(sent.begun)),
             Act::Reserve { takes, from } => self.reserved(sent, number, (*takes, *from), completion.status),
-            Act::Register | Act::Unregister => self.registered(number, completion.status, true),
+            Act::Register => self.registered(number, completion.status, true),
+            Act::Unregister => {
+                self.registered(number, completion.status, true);
+                self.note_change(completion.status);
+            }
             Act::Report if is_done => self.reported(sent, &completion.data),
             _ => (),
         }
@@ -272,16 +289,23 @@ impl Checker {
         }
     }
 
-    /// A host has a reservation, unless another command may change that.
+    /// A command that changes the reservation is answered.
+    fn note_change(&mut self, status: u16) {
+        if status == 0 || UNSURE.contains(&status) {
+            self.changed = now();
+        }
+    }
+
+    /// A host has a reservation, unless another command may have changed that since this one was sent, or still may.
     fn reserved(&mut self, sent: &Sent, number: u64, (takes, from): (bool, Option<usize>), status: u16) {
         // A host that preempts itself may stay.
         self.registered(number, status, from != Some(sent.host));
         let is_last = self.reserved_at.remove(&number) == Some(self.reserves);
-        let is_reserve = |it: &Sent| matches!(it.act, Act::Reserve { .. } | Act::Unregister);
-        let others = self.open.values().chain(self.given_up.iter().map(|(_, it)| it)).any(is_reserve);
-        if takes && status == 0 && is_last && !others {
+        let others = self.open.values().chain(self.given_up.iter().map(|(_, it)| it)).any(Sent::may_change_holder);
+        if takes && status == 0 && is_last && !others && self.changed <= sent.begun {
             self.fence = Some(Fence { host: sent.host, since: now() });
         }
+        self.note_change(status);
     }
 
     /// A Reservation Report is answered.
@@ -308,12 +332,12 @@ impl Checker {
     /// It was lost by now, for sure or perhaps.
     pub fn has_lost_reservations(&mut self, number: u64, is_certain: bool) {
         if !self.persists {
-            self.fence = None;
+            (self.fence, self.changed) = (None, now());
         }
         self.registrations.has_lost(number, if is_certain { now() } else { u64::MAX }, is_certain);
     }
 
-    fn wrote(&mut self, sent: &Sent, slba: usize, values: &[u64], status: u16) {
+    fn wrote(&mut self, sent: &Sent, number: u64, (slba, values): (usize, &[u64]), status: u16) {
         let mut end = now();
         if let Some(fence) = self.fence.filter(|it| it.host != sent.host) {
             if status == 0 && sent.begun > fence.since {
@@ -332,9 +356,8 @@ impl Checker {
             self.kept.entry(sent.process).or_default().extend(values);
         }
         let (oldest, is_durable) = (self.oldest(), self.writes_through || sent.is_forced);
-        for (block, value) in (slba..).zip(values) {
-            let it = &mut self.blocks[block];
-            it.answer(*value, sent.begun, end, state, is_durable);
+        for it in &mut self.blocks[slba..slba + values.len()] {
+            it.answer(number, end, state, is_durable);
             it.prune(oldest);
         }
     }
@@ -369,8 +392,8 @@ impl Checker {
         };
         if let Act::Write { slba, values } = &sent.act {
             let state = if sent.is_spoiled { State::Denied } else { State::Maybe };
-            for (block, value) in (*slba..).zip(values) {
-                self.blocks[block].answer(*value, sent.begun, u64::MAX, state, false);
+            for it in &mut self.blocks[*slba..slba + values.len()] {
+                it.answer(number, u64::MAX, state, false);
             }
         }
         self.reserved_at.remove(&number);
@@ -384,9 +407,10 @@ impl Checker {
             self.given_up.drain(..).partition(|(_, it)| cntlid.map_or(true, |cntlid| it.cntlid == cntlid));
         self.given_up = rest;
         for (number, sent) in over {
+            self.changed = if sent.may_change_holder() { end } else { self.changed };
             if let Act::Write { slba, values } = &sent.act {
-                for (block, value) in (*slba..).zip(values) {
-                    self.blocks[block].bound(*value, sent.begun, end);
+                for it in &mut self.blocks[*slba..slba + values.len()] {
+                    it.bound(number, end);
                 }
             }
             self.registrations.bound(number, end, false);

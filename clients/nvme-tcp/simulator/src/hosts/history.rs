@@ -20,6 +20,8 @@ pub enum State {
 
 #[derive(Clone, Copy, Debug)]
 pub struct Version {
+    /// The number of its command. Zeros have no value of their own.
+    number: u64,
     pub value: u64,
     pub start: u64,
     pub end: u64,
@@ -55,12 +57,15 @@ impl Version {
 
 impl Block {
     pub fn new() -> Block {
-        let zero = Version { value: 0, start: 0, end: 0, state: State::Done, is_durable: true, is_cut: false };
+        let (state, is_durable, is_cut) = (State::Done, true, false);
+        let zero = Version { number: 0, value: 0, start: 0, end: 0, state, is_durable, is_cut };
         Block { versions: vec![zero], seen: Vec::new(), lost: 0 }
     }
 
-    pub fn begin(&mut self, value: u64, now: u64) {
+    /// A command with a number writes a value.
+    pub fn begin(&mut self, number: u64, value: u64, now: u64) {
         self.versions.push(Version {
+            number,
             value,
             start: now,
             end: OPEN,
@@ -70,10 +75,9 @@ impl Block {
         });
     }
 
-    /// A write of a value that began at a time is answered, or given up.
-    pub fn answer(&mut self, value: u64, begun: u64, end: u64, state: State, is_durable: bool) {
-        let is_it = |it: &&mut Version| it.value == value && it.start == begun && it.state != State::Done;
-        if let Some(it) = self.versions.iter_mut().find(is_it) {
+    /// A write is answered, or given up.
+    pub fn answer(&mut self, number: u64, end: u64, state: State, is_durable: bool) {
+        if let Some(it) = self.versions.iter_mut().find(|it| it.number == number) {
             it.is_durable = is_durable && state == State::Done;
             // An answer that was on the way when power was lost promises nothing, unless it was written through.
             let is_lost = it.is_cut && state == State::Done && !is_durable;
@@ -85,8 +89,8 @@ impl Block {
     }
 
     /// A write that has no answer is executed by this time, or never.
-    pub fn bound(&mut self, value: u64, begun: u64, end: u64) {
-        for it in self.versions.iter_mut().filter(|it| it.value == value && it.start == begun) {
+    pub fn bound(&mut self, number: u64, end: u64) {
+        for it in self.versions.iter_mut().filter(|it| it.number == number) {
             it.end = it.end.min(end);
         }
     }
@@ -94,7 +98,7 @@ impl Block {
     /// Judges a read, and remembers it.
     pub fn read(&mut self, value: u64, start: u64, end: u64) -> Result<(), String> {
         let is_possible = |it: &Version| {
-            let writes = self.versions.iter().filter(|other| other.state == State::Done && other.start != it.start);
+            let writes = self.versions.iter().filter(|other| other.state == State::Done && other.number != it.number);
             let mut after = writes
                 .map(|other| (other.start, other.end))
                 .chain(self.seen.iter().filter(|seen| seen.value != it.value).map(|seen| (seen.start, seen.end)));
@@ -120,7 +124,7 @@ impl Block {
             !all.iter().any(|other| {
                 other.state == State::Done
                     && other.is_durable
-                    && other.start != it.start
+                    && other.number != it.number
                     && it.is_over(other.start, other.end, oldest)
             })
         });
@@ -158,8 +162,8 @@ mod tests {
     fn written(list: &[(u64, u64, u64)]) -> Block {
         let mut block = Block::new();
         for (value, start, end) in list {
-            block.begin(*value, *start);
-            block.answer(*value, *start, *end, State::Done, false);
+            block.begin(*value, *value, *start);
+            block.answer(*value, *end, State::Done, false);
         }
         block
     }
@@ -194,20 +198,32 @@ mod tests {
         for writes_through in [false, true] {
             let mut block = written(&[(1, 10, 20)]);
             block.flush(25);
-            block.begin(2, 30);
+            block.begin(2, 2, 30);
             block.lose_power(40, writes_through);
-            block.answer(2, 30, 45, State::Done, writes_through);
+            block.answer(2, 45, State::Done, writes_through);
             assert!(block.clone().read(2, 60, 70).is_ok());
             assert_eq!(block.read(1, 60, 70).is_ok(), !writes_through);
         }
     }
 
     #[test]
+    fn zeroes_that_were_sent_together_are_two() {
+        let mut block = written(&[(7, 10, 20)]);
+        block.flush(25);
+        (1..=2).for_each(|number| block.begin(number, 0, 30));
+        block.answer(1, 35, State::Done, false);
+        block.lose_power(40, false);
+        block.answer(2, 45, State::Done, false);
+        assert!(block.clone().read(0, 60, 70).is_ok());
+        assert!(block.read(7, 60, 70).is_ok(), "power took both");
+    }
+
+    #[test]
     fn what_has_no_answer_ends_at_a_fence() {
         let mut block = written(&[(1, 10, 20)]);
-        block.begin(2, 30);
+        block.begin(2, 2, 30);
         assert!(block.clone().read(2, 100, 110).is_ok());
-        block.bound(2, 30, 40);
+        block.bound(2, 40);
         assert!(block.read(1, 50, 60).is_ok());
         assert!(block.read(2, 100, 110).is_err(), "it has landed after its fence");
     }
