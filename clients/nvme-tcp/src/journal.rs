@@ -2,9 +2,10 @@
 //! starts of targets, so that a target that is started again has what persists.
 //!
 //! The event loop gives its records to a thread, which writes and syncs all that it has. Nothing that was executed
-//! after a change is answered or written to the disk before the record of that change is synced. So an incomplete record
-//! was never answered, and is dropped.
+//! after a change is answered or written to the disk before the record of that change is synced. So an incomplete batch
+//! of records was never answered, and is dropped.
 
+pub mod batch;
 pub mod checkpoint;
 pub mod folder;
 pub mod record;
@@ -38,7 +39,7 @@ const FAILED: u64 = u64::MAX;
 /// The content of a journal that was opened.
 pub struct Found {
     pub current: Current,
-    /// How many bytes at its end were a part of a record, and are left out.
+    /// How many bytes at its end were a part of a batch of records, and are left out.
     pub torn: usize,
 }
 

@@ -263,7 +263,7 @@ fn open_journal(folder: Folder, configuration: &Configuration) -> Result<(Journa
 /// The events of a journal that count; reports which others there are.
 fn told(name: &str, Found { current, torn }: Found) -> Vec<Event> {
     if torn != 0 {
-        warn(format_args!("{name}: dropped the last {torn} bytes, an incomplete record that was never answered"));
+        warn(format_args!("{name}: dropped the last {torn} bytes, incomplete records that were never answered"));
     }
     if current.stale != 0 {
         let why = "of an older epoch than those before them: their target had continued after another took over";

@@ -14,6 +14,14 @@ from tests.host import BLOCK, CAPSULE, IN_CAPSULE, Ended, Host, Queue, digest_of
 from tests.targets import BLOCKS, LIVE, SIM, TWO_HOSTS, Target, TargetTest
 
 FORCE_UNIT_ACCESS = 1 << 30
+# The kind of a record of the journal that has the records of a batch.
+BATCH = 7
+
+
+def framed(content: bytes) -> bytes:
+    """A record of the journal with this content."""
+    size = len(content).to_bytes(4, "little")
+    return size + digest_of(size) + digest_of(content) + content
 
 
 class Images(TargetTest):
@@ -352,24 +360,65 @@ class Lasts(TargetTest):
         identity.write_bytes(whole)
         self.target.start()
 
-    def test_a_journal_of_the_first_version(self) -> None:
-        """Its records have no epoch, and no start is among them. It is read and continued."""
+    def contents(self) -> list[bytes]:
+        """The contents of the journal's records after its version: the configuration, and then also those of batches."""
+        rest, contents = self.journal.read_bytes()[18:], []
+        while rest:
+            size = 12 + int.from_bytes(rest[:4], "little")
+            content, rest = rest[12:size], rest[size:]
+            if content[0] != BATCH:
+                contents.append(content)
+                continue
+            content = content[1:]
+            while content:
+                size = 4 + int.from_bytes(content[:4], "little")
+                contents.append(content[4:size])
+                content = content[size:]
+        return contents
+
+    def test_a_journal_of_an_older_version(self) -> None:
+        """It is read and continued. Records of the first have no epoch, and no start is among them."""
         a, b = self.host(), self.host(0xb2)
         a.register(0, 0xa), a.acquire(0xa)
         self.target.kill()
-        whole, records = self.journal.read_bytes(), []
-        while whole[18:]:
-            size = 12 + int.from_bytes(whole[18:22], "little")
-            records.append(whole[18:18 + size][12:])
-            whole = whole[:18] + whole[18 + size:]
-        first = [records[0], *(bytes([it[0] - 2]) + it[9:] for it in records[1:] if it[0] != 5), b"\2"]
-        framed = [len(it).to_bytes(4, "little") for it in first]
-        framed = [size + digest_of(size) + digest_of(it) + it for size, it in zip(framed, first)]
-        self.journal.write_bytes(b"nvmetcp journal 1\n" + b"".join(framed))
-        (self.journal.parent / "identity").unlink()
-        for _ in range(2):
+        config, *records = self.contents()
+        first = [*(bytes([it[0] - 2]) + it[9:] for it in records if it[0] != 5), b"\2"]
+        for version, contents in ((2, [config, *records]), (1, [config, *first])):
+            self.journal.write_bytes(b"nvmetcp journal %d\n" % version + b"".join(map(framed, contents)))
+            (self.journal.parent / "identity").unlink()
+            for key in (0xb0, 0xb1):
+                self.target.start()
+                a, b = self.host(), self.host(0xb2)
+                self.assertEqual([b.write(7, bytes(512)), a.write(7, bytes(512))], [0x4083, 0])
+                self.assertEqual(b.reserve(0x0d, 2 | 8, 0, key), 0)
+                self.target.kill()
+            self.assertEqual(self.contents()[-1][-8:], (0xb1).to_bytes(8, "little"))
+        self.target.start()
+
+    def test_a_journal_of_a_newer_version(self) -> None:
+        self.target.kill()
+        whole = self.journal.read_bytes()
+        self.journal.write_bytes(whole[:16] + b"4" + whole[17:])
+        self.refused("the journal has format 4, which is newer than this program")
+        self.journal.write_bytes(whole)
+        self.target.start()
+
+    def test_a_torn_batch(self) -> None:
+        """Sectors of the last batch are lost, and later ones are there: it was never answered. Not so of one before."""
+        a, b = self.host(), self.host(0xb2)
+        a.register(0, 0xa), a.acquire(0xa)
+        self.target.kill()
+        whole = self.journal.read_bytes()
+        release = self.contents()[-1][:13] + b"\x15" + self.contents()[-1][14:]
+        batch = framed(bytes([BATCH]) + b"".join(len(it).to_bytes(4, "little") + it for it in [release] * 20))
+        for torn in (range(0, 512), range(100, 612), range(1000, 1512)):
+            left = bytes(0 if at in torn else it for at, it in enumerate(batch))
+            self.journal.write_bytes(whole + left + batch)
+            self.refused(f"the record at byte {len(whole)} is damaged, and others follow it")
+            self.journal.write_bytes(whole + left)
             self.target.start()
-            self.assertEqual([self.host(0xb2).write(7, bytes(512)), self.host().write(7, bytes(512))], [0x4083, 0])
+            self.assertIn(f"dropped the last {len(left)} bytes", (self.folder / "errors").read_text())
+            self.assertEqual(self.host(0xb2).write(7, bytes(512)), 0x4083)
             self.target.kill()
         self.target.start()
 

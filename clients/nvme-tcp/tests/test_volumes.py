@@ -236,7 +236,7 @@ class Refusals(VolumeTest):
         self.flip(last + 100)
         self.assertIn("of the journal were never answered", self.passes("check", self.volume))
         target = self.target()
-        self.assertIn("an incomplete record that was never answered", self.errors(target))
+        self.assertIn("incomplete records that were never answered", self.errors(target))
         self.assertEqual(self.host(target).write(7, bytes(BLOCK)), 0)
 
     def test_a_damaged_journal(self) -> None:

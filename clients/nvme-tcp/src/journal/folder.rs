@@ -1,13 +1,14 @@
 //! The journal of a state folder: a file that grows. It begins with the configuration.
 //!
-//! An incomplete record at its end is dropped; any other fault refuses the journal. A target that finds records of
-//! another after its own has been taken over: it ends without an answer.
+//! An incomplete batch of records at its end is dropped; any other fault refuses the journal. A target that finds records
+//! of another after its own has been taken over: it ends without an answer.
 
 use super::{newest_of, Found, Hold, Journal, Log};
 use crate::configuration::Configuration;
 use crate::files::locking::open_regular;
 use crate::files::watched::{changed, Watched};
-use crate::journal::record::{current, heads, records_of, Event, Record};
+use crate::journal::batch::batches;
+use crate::journal::record::{current, heads, newer_version, records_of, Event, Record};
 use crate::journal::state::{self, Folder};
 use std::fs::{File, OpenOptions};
 use std::io::{self, ErrorKind, Read, Seek, SeekFrom, Write};
@@ -85,6 +86,9 @@ fn read_or_begin(file: &mut File, folder: &Folder, configuration: &Configuration
     if let Some(head) = heads.iter().find(|head| bytes.starts_with(head)) {
         return Ok((bytes, head.len()));
     }
+    if let Some(version) = newer_version(&bytes) {
+        return Err(changed(format!("the journal has format {version}, which is newer than this program")));
+    }
     if !heads.iter().any(|head| head.starts_with(&bytes)) {
         return Err(changed("the journal is of another configuration".to_owned()));
     }
@@ -106,15 +110,18 @@ fn read_from(file: &mut File, place: u64) -> io::Result<Vec<u8>> {
 }
 
 impl Log for FolderLog {
-    /// If another target takes the folder over meanwhile, that is an error too: it may not have read the records.
+    /// If another target takes the folder over meanwhile, that is an error too: it may not have read the records. After
+    /// an error the thread appends nothing more, so that only the last batch can be without a sync.
     fn append(&mut self, records: &[u8]) -> io::Result<()> {
         let own = &self.own;
         own.check_files()?;
-        let end = own.length.load(Ordering::Relaxed) + records.len() as u64;
-        own.limit.store(end, Ordering::Release);
-        (&own.file).write_all(records)?;
-        own.file.sync_data()?;
-        own.length.store(end, Ordering::Release);
+        for batch in batches(records) {
+            let end = own.length.load(Ordering::Relaxed) + batch.len() as u64;
+            own.limit.store(end, Ordering::Release);
+            (&own.file).write_all(&batch)?;
+            own.file.sync_data()?;
+            own.length.store(end, Ordering::Release);
+        }
         own.check_files()
     }
 }

@@ -1,21 +1,24 @@
 //! The records of a journal, as bytes: commands that changed what lasts, power cycles, starts of targets, and
-//! checkpoints.
+//! checkpoints. In a state folder those that are synced together are one [`batch`].
 //!
 //! Each start raises the epoch, and each record has that of the target that wrote it. So a record that a target appends
 //! when another has taken its folder over is known by its older epoch.
 
 use crate::bytes::{first, put, u16_at, u32_at, u64_at};
 use crate::digest::crc32c;
+use crate::journal::batch;
 use crate::journal::checkpoint::Checkpoint;
 use crate::nvme::entry::SubmissionEntry;
 use crate::nvme::ENTRY;
 use crate::target::window::MOST_DATA;
 use std::io::{self, ErrorKind};
 
-/// What a journal begins with, in this version and in the first. Records of the first have no epoch: theirs is 0.
-const MAGIC: [&[u8]; 2] = [b"nvmetcp journal 2\n", b"nvmetcp journal 1\n"];
+/// What a journal begins with, before the version that it was begun in. The second version has no batches, and records
+/// of the first have no epoch: theirs is 0. A target appends what it writes to a journal of any version.
+const MAGIC: &[u8] = b"nvmetcp journal ";
+const VERSION: u32 = 3;
 /// A record has its length, a digest of that, a digest of its content, and its content.
-const HEAD: usize = 12;
+pub(super) const HEAD: usize = 12;
 /// A content has its kind and its epoch. A command then has its controller, its queue, its entry and its data.
 const COMMAND: u8 = 3;
 const CYCLE: u8 = 4;
@@ -26,7 +29,8 @@ const FIRST_COMMAND: u8 = 1;
 const FIRST_CYCLE: u8 = 2;
 const BEFORE_FIELDS: usize = 9;
 const BEFORE_DATA: usize = 4 + ENTRY;
-const MOST_RECORD: usize = HEAD + BEFORE_FIELDS + BEFORE_DATA + MOST_DATA;
+/// The longest content of a record that is no batch.
+pub(super) const MOST_CONTENT: usize = BEFORE_FIELDS + BEFORE_DATA + MOST_DATA;
 
 /// What has happened.
 #[derive(Clone, Debug, PartialEq, Eq)]
@@ -49,7 +53,7 @@ pub struct Record {
 }
 
 impl Record {
-    fn of(content: &[u8]) -> Option<Record> {
+    pub(super) fn of(content: &[u8]) -> Option<Record> {
         let (epoch, fields) = match *content.first()? {
             FIRST_COMMAND | FIRST_CYCLE => (0, &content[1..]),
             _ if content.len() >= BEFORE_FIELDS => (u64_at(content, 1), &content[BEFORE_FIELDS..]),
@@ -96,7 +100,7 @@ pub fn push_cycle(bytes: &mut Vec<u8>, epoch: u64) {
 }
 
 /// Appends a content, which is given in parts, with its length and digests.
-fn push(bytes: &mut Vec<u8>, parts: &[&[u8]]) {
+pub(super) fn push(bytes: &mut Vec<u8>, parts: &[&[u8]]) {
     let at = bytes.len();
     bytes.extend([0; HEAD]);
     parts.iter().for_each(|it| bytes.extend_from_slice(it));
@@ -105,9 +109,17 @@ fn push(bytes: &mut Vec<u8>, parts: &[&[u8]]) {
     [length, digests[0], digests[1]].iter().enumerate().for_each(|(number, it)| put(bytes, at + 4 * number, it));
 }
 
-/// What the journal of a configuration begins with, in this version and in the first.
-pub fn heads(configuration: &str) -> [Vec<u8>; 2] {
-    MAGIC.map(|magic| [magic, &framed(configuration.as_bytes())].concat())
+/// What the journal of a configuration begins with, in this version and in those before.
+pub fn heads(configuration: &str) -> Vec<Vec<u8>> {
+    let begin = |version: u32| [MAGIC, format!("{version}\n").as_bytes(), &framed(configuration.as_bytes())].concat();
+    (1..=VERSION).rev().map(begin).collect()
+}
+
+/// The version of a journal, if it is newer than this one.
+pub fn newer_version(bytes: &[u8]) -> Option<u32> {
+    let line = bytes.strip_prefix(MAGIC)?.split(|it| *it == b'\n').next()?;
+    let version = std::str::from_utf8(line).ok()?.parse().ok()?;
+    (version > VERSION).then_some(version)
 }
 
 fn framed(content: &[u8]) -> Vec<u8> {
@@ -117,15 +129,20 @@ fn framed(content: &[u8]) -> Vec<u8> {
 }
 
 /// The records from a place on, and the end of the last.
+///
+/// What follows that is the part of a batch that was never synced, and is left out. For a batch is only written once
+/// those before it are synced, and what it records is only answered once it is synced itself. So if a whole batch
+/// follows, what is damaged was synced and may have been answered: that is an error. A record within a batch is never
+/// taken for one that follows, since it has no digests of its own.
 pub fn records_of(bytes: &[u8], begin: usize) -> io::Result<(Vec<Record>, usize)> {
     let (mut records, mut at) = (Vec::new(), begin);
     while let Some(content) = content_at(bytes, at) {
         let wrong = || io::Error::new(ErrorKind::InvalidData, format!("the bytes at {at} are no record"));
-        records.push(Record::of(content).ok_or_else(wrong)?);
+        records.extend(batch::records_in(content).ok_or_else(wrong)?);
         at += HEAD + content.len();
     }
     let rest = bytes.len() - at;
-    if rest > MOST_RECORD || (at + 1..bytes.len()).any(|place| content_at(bytes, place).is_some()) {
+    if rest > batch::MOST || (at + 1..bytes.len()).any(|place| content_at(bytes, place).is_some()) {
         let text = format!("the record at byte {at} is damaged, and others follow it");
         return Err(io::Error::new(ErrorKind::InvalidData, text));
     }
@@ -133,7 +150,7 @@ pub fn records_of(bytes: &[u8], begin: usize) -> io::Result<(Vec<Record>, usize)
 }
 
 /// The content of the record at a place, if one is there whole.
-fn content_at(bytes: &[u8], at: usize) -> Option<&[u8]> {
+pub(super) fn content_at(bytes: &[u8], at: usize) -> Option<&[u8]> {
     let head = bytes.get(at..at + HEAD)?;
     let length = u32_at(head, 0) as usize;
     if length == 0 || crc32c(&head[..4]) != u32_at(head, 4) {
@@ -211,6 +228,20 @@ mod tests {
         let bytes = [framed(&content), framed(&[FIRST_CYCLE])].concat();
         let records = vec![command(0, 3), Record { epoch: 0, event: Event::Cycle }];
         assert_eq!(records_of(&bytes, 0).unwrap(), (records, bytes.len()));
+    }
+
+    #[test]
+    fn journals_begin_with_their_version() {
+        let heads = heads("x");
+        assert_eq!(heads.len(), 3);
+        for (head, version) in heads.iter().zip([3, 2, 1]) {
+            assert!(head.starts_with(format!("nvmetcp journal {version}\n").as_bytes()));
+            assert_eq!((&head[18..], newer_version(head)), (&framed(b"x")[..], None));
+        }
+        for (begin, version) in [("nvmetcp journal 4\n", Some(4)), ("nvmetcp journal 12", Some(12)), ("nvmetcp", None)]
+        {
+            assert_eq!(newer_version(begin.as_bytes()), version);
+        }
     }
 
     #[test]
