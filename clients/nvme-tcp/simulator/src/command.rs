@@ -1,5 +1,6 @@
 //! The command line of the simulator.
 
+use crate::habits::HABITS;
 use crate::jobs;
 use crate::page;
 use crate::run::{run, Report};
@@ -104,7 +105,7 @@ fn time_of(text: &str) -> Result<Duration, String> {
 }
 
 fn kind_of(text: String) -> Result<String, String> {
-    let is_known = KINDS.contains(&text.as_str());
+    let is_known = KINDS.iter().chain(&HABITS).any(|it| *it == text);
     is_known.then_some(text.clone()).ok_or_else(|| format!("--without {text}: no kind of trouble; see --help"))
 }
 
@@ -160,7 +161,7 @@ fn take(options: &mut Options, word: &str, value: String) -> Result<(), String> 
 pub fn main(act: Act) -> ExitCode {
     let words: Vec<String> = env::args().skip(1).collect();
     if words.iter().any(|it| it == "--help" || it == "-h") {
-        print!("{}", HELP.replace("KINDS", &KINDS.join(" ")));
+        print!("{}", HELP.replace("KINDS", &[&KINDS[..], &HABITS].concat().join(" ")));
         return ExitCode::SUCCESS;
     }
     match options(words.into_iter()) {

@@ -1,16 +1,23 @@
 //! Hosts of the simulator. Each path is a fiber: it connects, sends random commands, and gives the answers to the
 //! checker.
 
+mod admin;
 pub mod checker;
 mod choice;
+mod features;
 pub mod history;
+mod identify;
+mod logs;
 pub mod pdu;
+mod protection;
 pub mod queue;
 mod queues;
 pub mod reservations;
 
+use crate::habits::Habits;
 use crate::supervisor::crash;
 use crate::world::{self, with, MILLISECOND, SECOND};
+use admin::Known;
 use checker::{check, Act, Sent};
 use pdu::Digests;
 use queue::{Command, Completion, Lost, Queue, PATIENCE};
@@ -24,6 +31,8 @@ const KEEP_ALIVE: u8 = 0x18;
 const ENABLE: u64 = 0x46_0001;
 const CC: u32 = 0x14;
 const CSTS: u32 = 0x1c;
+/// Status of a command on a namespace that is detached.
+const DETACHED: u16 = 0x0b;
 /// How long a target may refuse a path whose last connections have ended.
 const REFUSALS: u64 = 20 * SECOND;
 /// After this time an end of a connection has a reason that others know too.
@@ -56,6 +65,9 @@ pub struct Path {
     pub cuts_power: bool,
     /// What it sends, of a hundred commands: writes, reads, compares, zeroes, deallocations. The others flush.
     pub mix: [usize; 5],
+    /// The name of the subsystem.
+    pub name: &'static str,
+    pub habits: Habits,
 }
 
 fn below(limit: usize) -> usize {
@@ -123,13 +135,16 @@ impl Path {
         }
     }
 
-    /// Reads all blocks; whether that was possible.
+    /// Reads all blocks; whether that was possible. The namespace may be detached.
     pub fn read_all(&self, address: SocketAddr) -> Result<bool, Lost> {
         let mut session = match self.connect(address) {
             Ok(session) => session,
             Err(Lost::Ended | Lost::Refused) => return Ok(false),
             Err(lost) => return Err(lost),
         };
+        let detached = |check: &mut checker::Checker| check.statuses.get(&DETACHED).copied();
+        let before = check(detached);
+        session.restore()?;
         for slba in (0..self.blocks).step_by(256) {
             let count = 256.min(self.blocks - slba);
             let words = [&(slba as u64).to_le_bytes()[..], &(count as u32 - 1).to_le_bytes()].concat();
@@ -137,7 +152,7 @@ impl Path {
             session.send(&command, Act::Read { slba, count })?;
             session.receive()?;
         }
-        Ok(true)
+        Ok(check(detached) == before)
     }
 
     pub fn lose(&self, lost: &Lost) {
@@ -185,6 +200,7 @@ impl Path {
             heard: begun,
             answered: now(),
             may_end: false,
+            known: Known::default(),
         })
     }
 }
@@ -209,6 +225,7 @@ struct Session<'p> {
     answered: u64,
     /// Whether it has done what may end its connections.
     may_end: bool,
+    known: Known,
 }
 
 impl Session<'_> {
@@ -247,6 +264,7 @@ impl Session<'_> {
     }
 
     fn serve(&mut self, is_over: &impl Fn() -> bool) -> Result<(), Lost> {
+        self.restore()?;
         for (command, act) in self.path.first() {
             self.send(&command, act)?;
             self.receive()?;
@@ -264,6 +282,9 @@ impl Session<'_> {
             }
             if below(50) == 0 {
                 self.pause_or_lie()?;
+            }
+            if once_in(self.path.habits.admin) {
+                self.administer()?;
             }
             if once_in(self.path.restless) && !self.change_queues()? {
                 return Ok(());

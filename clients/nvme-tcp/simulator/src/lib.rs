@@ -13,6 +13,7 @@ mod chance;
 mod command;
 #[allow(unsafe_code)]
 mod fiber;
+mod habits;
 #[allow(unsafe_code)]
 mod heap;
 mod hosts;

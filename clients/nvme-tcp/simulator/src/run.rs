@@ -117,13 +117,13 @@ fn supervise(scenario: Scenario, act: Act, shared: &Rc<Shared>) {
 fn finish(supervisor: &mut Supervisor, scenario: &Scenario, shared: &Rc<Shared>) {
     with(|it| it.chances = crate::world::Chances { yields: 10, ..Default::default() });
     for _ in 0..2 {
-        for _ in 0..20 {
+        for path in scenario.paths.iter().cycle().take(20) {
             keep_running(supervisor, shared);
-            let read = supervisor.running.first().map_or(Ok(false), |it| scenario.paths[0].read_all(it.address));
+            let read = supervisor.running.first().map_or(Ok(false), |it| path.read_all(it.address));
             match read {
                 Ok(true) => break,
                 Ok(false) => (),
-                Err(lost) => scenario.paths[0].lose(&lost),
+                Err(lost) => path.lose(&lost),
             }
             world::pause(SECOND);
         }

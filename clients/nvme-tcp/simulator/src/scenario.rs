@@ -1,6 +1,7 @@
 //! What a seed decides: the source that is served, the hosts, and how often things go wrong.
 
 use crate::chance::Random;
+use crate::habits::Habits;
 use crate::hosts::pdu::Digests;
 use crate::hosts::Path;
 use crate::world::{Chances, MICROSECOND, MILLISECOND};
@@ -12,6 +13,9 @@ pub const KINDS: [&str; 11] =
 /// What hosts send, of a hundred commands: writes, reads, compares, zeroes, deallocations. The others flush.
 const MIXES: [[usize; 5]; 5] =
     [[40, 37, 5, 5, 4], [40, 37, 5, 5, 4], [25, 25, 0, 25, 20], [10, 88, 0, 1, 0], [40, 20, 0, 4, 3]];
+
+/// The name of the subsystem, unless an option gives it another.
+pub const NAME: &str = "nqn.2024-01.example:suvmileh";
 
 #[derive(Clone, Debug)]
 pub struct Scenario {
@@ -57,6 +61,8 @@ impl Scenario {
         let (slow, peace) = (slow[random.index(3)], [100, 400, 1_500][random.index(3)] * MILLISECOND);
         let (keeps_run, persists) = (!random.once_in(4), !random.once_in(3));
         let mut paths = Scenario::paths(&mut random, blocks, persists, &has);
+        let habits = Habits::new(seed, without);
+        paths.iter_mut().for_each(|it| it.habits = habits);
         if is_heavy {
             let most = |it: &mut Path| (it.depth, it.long, it.longest, it.mix) = (31, 4, 256, MIXES[3]);
             paths.iter_mut().for_each(most);
@@ -114,6 +120,8 @@ impl Scenario {
             restless: [0, 100, 400][random.index(3)],
             cuts_power: has("power"),
             mix: MIXES[random.index(MIXES.len())],
+            name: NAME,
+            habits: Habits::default(),
         };
         let paths = (1..).zip(all).map(|(cntlid, host)| {
             let digests = Digests { header: random.once_in(3), data: random.once_in(3) };

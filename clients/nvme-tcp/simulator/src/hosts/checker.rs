@@ -1,6 +1,7 @@
 //! What hosts were promised, and whether they got it.
 
 use super::history::{Block, State};
+use super::protection::Protection;
 use super::queue::Completion;
 use super::reservations::{entries_of, Registrations};
 use crate::world::with;
@@ -105,6 +106,9 @@ pub struct Checker {
     /// What may end a connection: cuts of them, and when a power cycle was asked for last.
     pub cuts: BTreeSet<i32>,
     pub cycled: u64,
+    pub protection: Protection,
+    /// What never changes, by its name.
+    pub same: BTreeMap<&'static str, Vec<u8>>,
 }
 
 thread_local! {
@@ -139,6 +143,8 @@ pub fn begin(blocks: usize, writes_through: bool, persists: bool) {
         crashes: BTreeMap::new(),
         cuts: BTreeSet::new(),
         cycled: 0,
+        protection: Protection::default(),
+        same: BTreeMap::new(),
     };
     CHECKER.with(|it| *it.borrow_mut() = Some(checker));
 }
@@ -347,6 +353,9 @@ impl Checker {
             self.fenced += u64::from(status == CONFLICT);
             end = end.min(fence.since);
         }
+        if status == 0 && self.protection.since.map_or(false, |since| sent.begun > since) {
+            self.violate(format!("a write succeeds after the write protection was answered: {sent:?}"));
+        }
         let state = match status {
             0 => State::Done,
             status if UNSURE.contains(&status) && !sent.is_spoiled => State::Maybe,
@@ -403,6 +412,7 @@ impl Checker {
     /// Nothing that was given up is executed from now on: of this controller, or of all.
     pub fn bound(&mut self, cntlid: Option<u16>) {
         let end = now();
+        self.bound_protection(cntlid);
         let (over, rest): (Vec<_>, Vec<_>) =
             self.given_up.drain(..).partition(|(_, it)| cntlid.map_or(true, |cntlid| it.cntlid == cntlid));
         self.given_up = rest;

@@ -6,7 +6,7 @@ use super::pdu::{
 };
 use crate::shadow::net::TcpStream;
 use crate::world::{self, with, Key, SECOND};
-use std::collections::BTreeMap;
+use std::collections::{BTreeMap, BTreeSet};
 use std::io::{self, ErrorKind, Read, Write};
 use std::net::{Shutdown, SocketAddr};
 
@@ -55,6 +55,18 @@ pub struct Command {
     pub in_capsule: bool,
     /// Whether some of its data change on the way, so that their digest is wrong.
     pub is_spoiled: bool,
+    /// An identifier that is in use, and a pointer that does not fit its data.
+    pub cid: Option<u16>,
+    pub pointer: Option<Pointer>,
+}
+
+/// PSDT, and a descriptor of an SGL.
+#[derive(Clone, Copy, Debug)]
+pub struct Pointer {
+    pub psdt: u8,
+    pub address: u64,
+    pub length: u32,
+    pub kind: u8,
 }
 
 pub struct Queue {
@@ -65,6 +77,14 @@ pub struct Queue {
     going: BTreeMap<u16, (Vec<u8>, bool)>,
     next: u16,
     digests: Digests,
+    /// Asynchronous Event Requests that have no answer, and the answers of others.
+    pub requests: BTreeSet<u16>,
+    pub events: Vec<Completion>,
+}
+
+/// ATTRIB of a property: CAP, ASQ and ACQ have eight bytes.
+fn size_of_property(offset: u32) -> Vec<u8> {
+    vec![u8::from(matches!(offset, 0x00 | 0x28 | 0x30)), 0, 0, 0]
 }
 
 impl Queue {
@@ -73,7 +93,8 @@ impl Queue {
         let stream = TcpStream::connect(address)?;
         stream.set_nonblocking(true)?;
         let (come, data, going) = (Vec::new(), BTreeMap::new(), BTreeMap::new());
-        let mut queue = Queue { stream, come, data, going, next: 0, digests: Digests::default() };
+        let (requests, events) = (BTreeSet::new(), Vec::new());
+        let mut queue = Queue { stream, come, data, going, next: 0, digests: Digests::default(), requests, events };
         let mut request = vec![0; 120];
         request[3] = digests.field();
         queue.send_bytes(&pdu(IC_REQUEST, 0, &request, &[], Digests::default()))?;
@@ -151,9 +172,9 @@ impl Queue {
 
     /// Sends a command; its identifier.
     pub fn send(&mut self, command: &Command) -> Result<u16, Lost> {
-        let cid = self.next;
-        self.next = (self.next + 1) % 0x8000;
-        let Command { opcode, form, nsid, words, data, length, in_capsule, is_spoiled } = command;
+        let cid = command.cid.unwrap_or(self.next);
+        self.next = (self.next + u16::from(command.cid.is_none())) % 0x8000;
+        let Command { opcode, form, nsid, words, data, length, in_capsule, is_spoiled, pointer, .. } = command;
         let is_inside = !data.is_empty() && (*in_capsule || data.len() <= MOST_IN_CAPSULE);
         let mut entry = [0; 64];
         (entry[0], entry[1]) = (*opcode, 0x40);
@@ -164,6 +185,11 @@ impl Queue {
         }
         entry[32..36].copy_from_slice(&(data.len().max(*length) as u32).to_le_bytes());
         entry[39] = if is_inside { 0x01 } else { 0x5a };
+        if let Some(it) = pointer {
+            (entry[1], entry[39]) = (it.psdt, it.kind);
+            entry[24..32].copy_from_slice(&it.address.to_le_bytes());
+            entry[32..36].copy_from_slice(&it.length.to_le_bytes());
+        }
         entry[40..40 + words.len()].copy_from_slice(words);
         if !data.is_empty() && !is_inside {
             self.going.insert(cid, (data.clone(), *is_spoiled));
@@ -240,11 +266,16 @@ impl Queue {
 
     pub fn call(&mut self, command: &Command) -> Result<Completion, Lost> {
         let cid = self.send(command)?;
-        let completion = self.receive()?;
-        if completion.cid != cid {
-            return Err(Lost::Broken(format!("command {cid} is answered by {}", completion.cid)));
+        loop {
+            let completion = self.receive()?;
+            if completion.cid == cid {
+                return Ok(completion);
+            }
+            if !self.requests.remove(&completion.cid) {
+                return Err(Lost::Broken(format!("command {cid} is answered by {}", completion.cid)));
+            }
+            self.events.push(completion);
         }
-        Ok(completion)
     }
 
     /// The Connect of Fabrics.
@@ -265,7 +296,7 @@ impl Queue {
     }
 
     pub fn set_property(&mut self, offset: u32, value: u64) -> Result<Completion, Lost> {
-        let mut words = vec![0, 0, 0, 0];
+        let mut words = size_of_property(offset);
         words.extend(offset.to_le_bytes());
         words.extend(value.to_le_bytes());
         self.call(&Command { opcode: 0x7f, form: 0, words, ..Command::default() })
@@ -276,7 +307,7 @@ impl Queue {
     }
 
     pub fn property(&mut self, offset: u32) -> Result<Completion, Lost> {
-        let mut words = vec![0, 0, 0, 0];
+        let mut words = size_of_property(offset);
         words.extend(offset.to_le_bytes());
         self.call(&Command { opcode: 0x7f, form: 4, words, ..Command::default() })
     }

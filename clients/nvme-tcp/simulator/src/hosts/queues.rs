@@ -1,5 +1,6 @@
 //! Queues of a session that end while it continues, or end it.
 
+use super::admin::Known;
 use super::checker::check;
 use super::queue::{Command, Lost, Queue};
 use super::{below, now, was_stopped, Session, CC, CSTS, ENABLE, KEEP_ALIVE, REFUSALS};
@@ -82,6 +83,8 @@ impl Session<'_> {
     /// Resets the controller, and enables it again. The connection of its I/O queue ends.
     fn reset(&mut self) -> Result<(), Lost> {
         self.admin.set_property(CC, 0)?;
+        self.admin.requests.clear();
+        self.known = Known::default();
         self.drain()?;
         self.admin.set_property(CC, ENABLE)?;
         if self.admin.property(CSTS)?.value & 1 == 0 {
