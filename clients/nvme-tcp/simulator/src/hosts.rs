@@ -2,8 +2,10 @@
 //! checker.
 
 mod admin;
+mod breaches;
 pub mod checker;
 mod choice;
+mod fabrics;
 mod features;
 pub mod history;
 mod identify;
@@ -13,6 +15,8 @@ mod protection;
 pub mod queue;
 mod queues;
 pub mod reservations;
+pub mod visits;
+mod wrong;
 
 use crate::habits::Habits;
 use crate::supervisor::crash;
@@ -20,7 +24,7 @@ use crate::world::{self, with, MILLISECOND, SECOND};
 use admin::Known;
 use checker::{check, Act, Sent};
 use pdu::Digests;
-use queue::{Command, Completion, Lost, Queue, PATIENCE};
+use queue::{Breach, Command, Completion, Lost, Queue, PATIENCE};
 use std::collections::BTreeMap;
 use std::net::SocketAddr;
 
@@ -65,8 +69,9 @@ pub struct Path {
     pub cuts_power: bool,
     /// What it sends, of a hundred commands: writes, reads, compares, zeroes, deallocations. The others flush.
     pub mix: [usize; 5],
-    /// The name of the subsystem.
+    /// The name of the subsystem, and the address that discovery returns, if it is not the target's.
     pub name: &'static str,
+    pub advertised: Option<&'static str>,
     pub habits: Habits,
 }
 
@@ -107,6 +112,9 @@ impl Path {
                 continue;
             }
             let address = all[below(all.len())];
+            if once_in(self.habits.visits) {
+                self.visit(address);
+            }
             match self.connect(address) {
                 Ok(mut session) => {
                     refused = None;
@@ -170,7 +178,7 @@ impl Path {
         let keep_alive = if below(3) == 0 { [1, 2, 10][below(3)] } else { 0 };
         let (process, begun) = (process_at(address), now());
         let mut admin = Queue::open(address, self.digests)?;
-        let connected = admin.connect(0, self.host_id(), self.cntlid, keep_alive * 1_000)?;
+        let connected = admin.connect(&self.connect_of(0, keep_alive * 1_000))?;
         if connected.status != 0 {
             return Err(Lost::Refused);
         }
@@ -181,7 +189,7 @@ impl Path {
             return Err(Lost::Ended);
         }
         let mut io = Queue::open(address, self.digests)?;
-        if io.connect(1, self.host_id(), self.cntlid, 0)?.status != 0 {
+        if io.connect(&self.connect_of(1, 0))?.status != 0 {
             return Err(Lost::Ended);
         }
         with(|it| it.note(&format!("path {} is connected to {address}", self.cntlid)));
@@ -338,6 +346,11 @@ impl Session<'_> {
     }
 
     fn issue(&mut self) -> Result<(), Lost> {
+        if once_in(self.path.habits.errs) {
+            let (command, act) = self.path.choose_wrong();
+            self.may_end |= command.breach != Breach::None;
+            return self.send(&command, act);
+        }
         let (command, act) = self.path.choose();
         self.send(&command, act)
     }

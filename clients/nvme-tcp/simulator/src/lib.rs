@@ -11,6 +11,7 @@ pub use ::std::*;
 
 mod chance;
 mod command;
+mod control;
 #[allow(unsafe_code)]
 mod fiber;
 mod habits;
@@ -25,6 +26,7 @@ mod scenario;
 mod shadow;
 mod shrinking;
 mod supervisor;
+mod tools;
 mod world;
 
 pub use shadow::{collections, fs, io, memory, net, os, process, sync, system, thread, time};

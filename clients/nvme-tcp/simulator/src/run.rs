@@ -1,8 +1,10 @@
 //! Runs one seed, from the first start of a target to the end of the last.
 
+use crate::control::{Asked, Operator};
 use crate::hosts::{checker, Path};
 use crate::scenario::Scenario;
 use crate::supervisor::{Act, Supervisor};
+use crate::tools;
 use crate::world::tap::Tap;
 use crate::world::{self, with, MICROSECOND, MILLISECOND, SECOND};
 use std::cell::{Cell, RefCell};
@@ -35,6 +37,7 @@ pub struct Report {
 #[derive(Default)]
 struct Shared {
     addresses: RefCell<Vec<SocketAddr>>,
+    asked: RefCell<Vec<Asked>>,
     is_over: Cell<bool>,
     running: Cell<usize>,
     is_done: Cell<bool>,
@@ -46,6 +49,7 @@ pub fn run(scenario: &Scenario, variant: u64, act: Act, is_logged: bool) -> Repo
     world::begin(scenario.seed ^ variant << 40, scenario.chances.clone(), is_logged);
     with(|it| it.net.slow = scenario.slow);
     checker::begin(scenario.blocks, scenario.writes_through, scenario.persists);
+    checker::check(|it| it.protection.is_read_only = scenario.manner.is_read_only);
     let shared = Rc::new(Shared::default());
     let (theirs, whole) = (Rc::clone(&shared), scenario.clone());
     world::spawn("supervisor", Box::new(move || supervise(whole, act, &theirs)));
@@ -95,6 +99,9 @@ fn supervise(scenario: Scenario, act: Act, shared: &Rc<Shared>) {
     for path in scenario.paths.iter().cloned() {
         begin(path, commands, shared);
     }
+    if scenario.manner.is_asked {
+        begin_asking(&scenario, shared);
+    }
     while checker::check(|it| it.sent < commands && it.violations.is_empty()) {
         let time = with(|it| it.random.within(100 * MICROSECOND, peace));
         supervisor.rest(time);
@@ -131,10 +138,29 @@ fn finish(supervisor: &mut Supervisor, scenario: &Scenario, shared: &Rc<Shared>)
             supervisor.end(0);
         }
     }
+    if scenario.manner.uses_tools && checker::check(|it| it.violations.is_empty()) {
+        tools::use_all(supervisor);
+    }
 }
 
 fn follow(supervisor: &Supervisor, shared: &Shared) {
-    *shared.addresses.borrow_mut() = supervisor.running.iter().map(|it| it.address).collect();
+    let running = supervisor.running.iter();
+    *shared.addresses.borrow_mut() = running.clone().flat_map(|it| [Some(it.address), it.second]).flatten().collect();
+    let asked = running.map(|it| Asked { process: it.process, control: it.control.clone() });
+    *shared.asked.borrow_mut() = asked.collect();
+}
+
+/// Starts an operator.
+fn begin_asking(scenario: &Scenario, shared: &Rc<Shared>) {
+    shared.running.set(shared.running.get() + 1);
+    let (shared, commands) = (Rc::clone(shared), scenario.commands);
+    let mut operator = Operator::new(scenario.paths.len(), scenario.manner.is_memory);
+    let work = move || {
+        let is_over = || shared.is_over.get() || checker::check(|it| it.sent >= commands);
+        operator.run(|| shared.asked.borrow().clone(), is_over);
+        shared.running.set(shared.running.get() - 1);
+    };
+    world::spawn("operator", Box::new(work));
 }
 
 /// Judges the targets that have ended, and starts one if there is none.

@@ -1,7 +1,8 @@
 //! What a seed decides: the source that is served, the hosts, and how often things go wrong.
 
 use crate::chance::Random;
-use crate::habits::Habits;
+use crate::habits::{Habits, Manner};
+use crate::hosts::visits::HOST_OF_ELSEWHERE;
 use crate::hosts::pdu::Digests;
 use crate::hosts::Path;
 use crate::world::{Chances, MICROSECOND, MILLISECOND};
@@ -16,6 +17,10 @@ const MIXES: [[usize; 5]; 5] =
 
 /// The name of the subsystem, unless an option gives it another.
 pub const NAME: &str = "nqn.2024-01.example:suvmileh";
+
+/// The most blocks that a target keeps in memory here, and the most controllers of a subsystem.
+const MOST_IN_MEMORY: usize = 1_024;
+const MOST_CONTROLLERS: usize = 16;
 
 #[derive(Clone, Debug)]
 pub struct Scenario {
@@ -37,6 +42,7 @@ pub struct Scenario {
     pub kinds: Vec<&'static str>,
     /// Between two troubles, in nanoseconds at most.
     pub peace: u64,
+    pub manner: Manner,
 }
 
 impl Scenario {
@@ -61,13 +67,19 @@ impl Scenario {
         let (slow, peace) = (slow[random.index(3)], [100, 400, 1_500][random.index(3)] * MILLISECOND);
         let (keeps_run, persists) = (!random.once_in(4), !random.once_in(3));
         let mut paths = Scenario::paths(&mut random, blocks, persists, &has);
-        let habits = Habits::new(seed, without);
-        paths.iter_mut().for_each(|it| it.habits = habits);
+        let (habits, mut manner) = (Habits::new(seed, without), Manner::new(seed, without));
+        manner.is_memory &= !is_volume && blocks <= MOST_IN_MEMORY;
+        manner.binds &= paths.len() < MOST_CONTROLLERS;
+        for path in &mut paths {
+            (path.habits, path.advertised) = (habits, manner.advertised);
+            path.name = manner.name.unwrap_or(NAME);
+        }
         if is_heavy {
             let most = |it: &mut Path| (it.depth, it.long, it.longest, it.mix) = (31, 4, 256, MIXES[3]);
             paths.iter_mut().for_each(most);
         }
-        let options = if is_volume { Vec::new() } else { options };
+        let options = if is_volume || manner.is_memory { Vec::new() } else { options };
+        let writes_through = writes_through || manner.is_memory;
         Scenario {
             seed,
             commands,
@@ -82,6 +94,7 @@ impl Scenario {
             slow,
             kinds,
             peace,
+            manner,
         }
     }
 
@@ -121,6 +134,7 @@ impl Scenario {
             cuts_power: has("power"),
             mix: MIXES[random.index(MIXES.len())],
             name: NAME,
+            advertised: None,
             habits: Habits::default(),
         };
         let paths = (1..).zip(all).map(|(cntlid, host)| {
@@ -130,11 +144,23 @@ impl Scenario {
         paths.collect()
     }
 
+    /// The values of `--allow`: each host comes from here, and one from elsewhere.
+    pub fn allowed(&self) -> Vec<String> {
+        let mut hosts: Vec<u128> = self.paths.iter().map(Path::host_id).collect();
+        hosts.dedup();
+        let mut list: Vec<String> = hosts.iter().map(|it| format!("{:032x}=127.0.0.1", it.swap_bytes())).collect();
+        list.push(format!("{:032x}=10.9.9.9", HOST_OF_ELSEWHERE.swap_bytes()));
+        list
+    }
+
     /// The lines of CONFIG.
     pub fn config(&self) -> String {
         let mut text = String::new();
         for it in &self.paths {
             text += &format!("controller {} host {:#x}\n", it.cntlid, it.host_id());
+        }
+        if self.manner.binds {
+            text += &format!("controller {} host {HOST_OF_ELSEWHERE:#x}\n", self.paths.len() + 1);
         }
         text += &format!("namespace 1 blocks {} shared\n", self.blocks);
         for it in &self.paths {

@@ -4,6 +4,7 @@ use crate::hosts::checker::{check, BLOCK};
 use crate::replay::{commands_of, replay, values_of};
 use crate::scenario::Scenario;
 use crate::shadow::os::unix::net::UnixStream;
+use crate::tools;
 use crate::world::disk::Kind;
 use crate::world::{self, with, Outcome, World, MILLISECOND, SECOND};
 use std::ffi::OsString;
@@ -15,7 +16,7 @@ pub type Act = fn(Vec<OsString>) -> Outcome;
 
 pub const DEVICE: &str = "/dev/shared";
 pub const IMAGE: &str = "/image";
-const CONFIG: &str = "/etc/config";
+pub const CONFIG: &str = "/etc/config";
 /// The place of the first block of a volume.
 const BLOCKS_AT: usize = 2 << 20;
 /// How long a target may take to start, with a lease to wait out, and to end in order.
@@ -31,8 +32,9 @@ pub struct Running {
     pub process: usize,
     pub machine: usize,
     script: String,
-    control: String,
+    pub control: String,
     pub address: SocketAddr,
+    pub second: Option<SocketAddr>,
     /// How often the world's disk had failed before.
     faults: u64,
     /// The machine was stopped, or another target was started.
@@ -40,15 +42,15 @@ pub struct Running {
 }
 
 pub struct Supervisor {
-    scenario: Scenario,
-    act: Act,
+    pub scenario: Scenario,
+    pub act: Act,
     pub running: Vec<Running>,
     starts: usize,
     pub replayed: usize,
     pub ends: usize,
 }
 
-fn words(list: &[&str]) -> Vec<OsString> {
+pub fn words(list: &[&str]) -> Vec<OsString> {
     list.iter().map(OsString::from).collect()
 }
 
@@ -76,8 +78,12 @@ pub fn crash(process: usize, loses_power: bool) {
     }
 }
 
+fn recording_of(script: &str) -> String {
+    format!("{script}.recording")
+}
+
 /// Whether a process has ended or was killed.
-fn has_ended(process: usize) -> bool {
+pub fn has_ended(process: usize) -> bool {
     with(|it| !it.processes[process].is_alive || it.processes[process].outcome.is_some())
 }
 
@@ -102,6 +108,7 @@ impl Supervisor {
     /// Makes what is served.
     pub fn prepare(&mut self) {
         let (config, is_volume) = (self.scenario.config(), self.scenario.is_volume);
+        let is_memory = self.scenario.manner.is_memory;
         let size = self.scenario.blocks * BLOCK;
         with(|world| {
             let inode = world.disks.create(Path::new(CONFIG), Kind::File);
@@ -109,7 +116,7 @@ impl Supervisor {
             let (path, kind) = if is_volume { (DEVICE, Kind::BlockDevice) } else { (IMAGE, Kind::File) };
             let inode = world.disks.create(Path::new(path), kind);
             world.disks.inodes[inode].set_length(if is_volume { BLOCKS_AT + size } else { size });
-            world.disks.served = Some(inode);
+            world.disks.served = Some(inode).filter(|_| !is_memory);
             let written = world.disks.find(Path::new(CONFIG)).unwrap_or(0);
             let until = world.disks.inodes[written].written();
             world.disks.inodes[written].sync(until);
@@ -128,16 +135,30 @@ impl Supervisor {
         }
     }
 
-    fn command_line(&self, listen: &str, script: &str, control: &str) -> Vec<OsString> {
-        let mut list = vec!["--listen", listen, "--control", control, "--cache", "4M", "--wait"];
-        if self.scenario.keeps_run {
-            list.extend(["--script", script]);
+    fn command_line(&self, machine: usize, listen: &str, script: &str, control: &str) -> Vec<OsString> {
+        let (manner, recording) = (&self.scenario.manner, recording_of(script));
+        let mut list = vec!["--listen", listen, "--control", control, "--wait"];
+        match self.scenario.keeps_run {
+            true if manner.records => list.extend(["--record", &recording]),
+            true => list.extend(["--script", script]),
+            false => (),
+        }
+        list.extend(manner.is_read_only.then_some("--read-only"));
+        let more: Vec<String> = manner.words.iter().map(|it| it.replace(":99", [":99", ":89"][machine.min(1)])).collect();
+        list.extend(more.iter().map(String::as_str));
+        list.extend(manner.name.into_iter().flat_map(|it| ["--name", it]));
+        list.extend(manner.advertised.into_iter().flat_map(|it| ["--advertise", it]));
+        let allowed: Vec<String> = if manner.binds { self.scenario.allowed() } else { Vec::new() };
+        list.extend(allowed.iter().flat_map(|it| ["--allow", it.as_str()]));
+        if !manner.is_memory {
+            list.extend(["--cache", "4M"]);
         }
         if self.scenario.is_volume {
             list.push(DEVICE);
         } else {
             list.extend(self.scenario.options.iter());
-            list.extend(["--image", IMAGE, "--state", "/state", CONFIG]);
+            list.extend(if manner.is_memory { &[][..] } else { &["--image", IMAGE] });
+            list.extend(["--state", "/state", CONFIG]);
         }
         words(&list)
     }
@@ -147,13 +168,18 @@ impl Supervisor {
         self.starts += 1;
         let (script, control) = (format!("/run/{}.nvme", self.starts), format!("/run/{}.control", self.starts));
         let address = SocketAddr::from(([127, 0, 0, 1], 4420 + machine as u16));
-        let (act, given) = (self.act, self.command_line(&address.to_string(), &script, &control));
+        let (act, mut given) = (self.act, self.command_line(machine, &address.to_string(), &script, &control));
+        let second = self.scenario.manner.has_second.then(|| SocketAddr::from(([127, 0, 0, 1], 5420 + machine as u16)));
+        given.splice(0..0, second.into_iter().flat_map(|it| words(&["--listen", &it.to_string()])));
         with(|it| it.note(&format!("target {} starts on machine {machine}", self.starts)));
         let process = world::start_process(machine, "target", move || act(given));
         let may_lose_lease = !self.running.is_empty();
         self.running.iter_mut().for_each(|it| it.may_lose_lease = true);
         let faults = with(|it| faults(it));
-        self.running.push(Running { process, machine, script, control, address, faults, may_lose_lease });
+        self.running.push(Running { process, machine, script, control, address, second, faults, may_lose_lease });
+        if self.scenario.manner.is_memory {
+            check(|it| it.begin_memory(process));
+        }
         let loss = check(|it| it.lose_reservations());
         let end = with(|it| it.now) + LONGEST;
         loop {
@@ -254,6 +280,9 @@ impl Supervisor {
         if !self.scenario.keeps_run {
             return;
         }
+        if self.scenario.manner.records {
+            tools::expand(self.act, &recording_of(&it.script), &it.script, is_over);
+        }
         let (script, transcript, served, is_alone, now) = with(|world| {
             let content = |path: &str| world.disks.content(path);
             let transcript = content(&format!("{}.out", it.script));
@@ -267,6 +296,7 @@ impl Supervisor {
         }
         let from = if self.scenario.is_volume { BLOCKS_AT } else { 0 };
         let mut blocks = match served {
+            Some(_) if is_alone && self.scenario.manner.is_memory => vec![0; self.scenario.blocks * BLOCK],
             Some(served) if is_alone => served[from..].to_vec(),
             _ => return,
         };
@@ -275,7 +305,7 @@ impl Supervisor {
             Err(text) => return check(|it| it.violate(format!("replay: {text}"))),
         }
         let now = now.map_or(Vec::new(), |it| it[from..].to_vec());
-        if is_over && now != blocks {
+        if is_over && !self.scenario.manner.is_memory && now != blocks {
             let at = now.iter().zip(&blocks).position(|(one, other)| one != other).unwrap_or(0) / BLOCK;
             check(|it| it.violate(format!("replay: block {at} of the disk is not what the program has at the end")));
         }

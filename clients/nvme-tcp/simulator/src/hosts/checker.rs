@@ -43,6 +43,10 @@ pub enum Act {
     /// It also releases the reservation.
     Unregister,
     Report,
+    /// It changes nothing, and has one of these statuses unless something else denies it.
+    Wrong {
+        wanted: Vec<u16>,
+    },
 }
 
 /// A command that was sent.
@@ -107,6 +111,8 @@ pub struct Checker {
     pub cuts: BTreeSet<i32>,
     pub cycled: u64,
     pub protection: Protection,
+    /// The target in whose memory the blocks are, if they are in memory.
+    pub memory: Option<usize>,
     /// What never changes, by its name.
     pub same: BTreeMap<&'static str, Vec<u8>>,
 }
@@ -144,6 +150,7 @@ pub fn begin(blocks: usize, writes_through: bool, persists: bool) {
         cuts: BTreeSet::new(),
         cycled: 0,
         protection: Protection::default(),
+        memory: None,
         same: BTreeMap::new(),
     };
     CHECKER.with(|it| *it.borrow_mut() = Some(checker));
@@ -202,7 +209,7 @@ impl Checker {
     /// A command is sent: its number.
     pub fn begin(&mut self, sent: Sent) -> u64 {
         self.next += 1;
-        if let Act::Write { slba, values } = &sent.act {
+        if let (Act::Write { slba, values }, false) = (&sent.act, self.is_void(&sent)) {
             for (block, value) in (*slba..).zip(values) {
                 self.blocks[block].begin(self.next, *value, sent.begun);
             }
@@ -267,6 +274,7 @@ impl Checker {
             *commands.entry((sent.cntlid, completion.cid)).or_default() += 1;
         }
         match &sent.act {
+            Act::Write { .. } | Act::Read { .. } | Act::Compare { .. } | Act::Flush if self.is_void(sent) => (),
             Act::Write { .. } if sent.is_spoiled && is_done => {
                 self.violate(format!("a write succeeds whose digest is wrong: {sent:?}"))
             }
@@ -282,6 +290,7 @@ impl Checker {
                 self.note_change(completion.status);
             }
             Act::Report if is_done => self.reported(sent, &completion.data),
+            Act::Wrong { wanted } => self.judge_wrong(sent, wanted, completion),
             _ => (),
         }
     }
@@ -353,7 +362,7 @@ impl Checker {
             self.fenced += u64::from(status == CONFLICT);
             end = end.min(fence.since);
         }
-        if status == 0 && self.protection.since.map_or(false, |since| sent.begun > since) {
+        if status == 0 && self.protection.covers(sent.begun) {
             self.violate(format!("a write succeeds after the write protection was answered: {sent:?}"));
         }
         let state = match status {

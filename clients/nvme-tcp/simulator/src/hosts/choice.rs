@@ -6,14 +6,14 @@ use super::{below, once_in, Path, READ};
 
 /// Opcodes.
 const FLUSH: u8 = 0x00;
-const WRITE: u8 = 0x01;
-const COMPARE: u8 = 0x05;
-const WRITE_ZEROES: u8 = 0x08;
-const DATASET_MANAGEMENT: u8 = 0x09;
-const REGISTER: u8 = 0x0d;
+pub const WRITE: u8 = 0x01;
+pub const COMPARE: u8 = 0x05;
+pub const WRITE_ZEROES: u8 = 0x08;
+pub const DATASET_MANAGEMENT: u8 = 0x09;
+pub const REGISTER: u8 = 0x0d;
 const REPORT: u8 = 0x0e;
-const ACQUIRE: u8 = 0x11;
-const RELEASE: u8 = 0x15;
+pub const ACQUIRE: u8 = 0x11;
+pub const RELEASE: u8 = 0x15;
 /// Force Unit Access.
 const FORCED: u32 = 1 << 30;
 /// CPTPL: reservations persist through power loss, or do not. IEKEY.
@@ -42,7 +42,7 @@ fn report() -> (Command, Act) {
 
 impl Path {
     /// Blocks of a command: few regions are used more than others.
-    fn extent(&self) -> (usize, usize) {
+    pub fn extent(&self) -> (usize, usize) {
         let count = if below(4) < self.long { 1 + below(self.longest) } else { 1 + below(self.longest.min(8)) };
         self.extent_of(count.min(self.blocks))
     }

@@ -1,7 +1,13 @@
 //! Since when the namespace is write protected for sure.
 
-use super::checker::Checker;
+use super::checker::{Checker, Sent};
+use super::history::Block;
+use super::queue::Completion;
 use crate::world::with;
+
+/// Statuses that any command of I/O may have: aborted, not attached, aborted by preemption, write protected,
+/// Transient Transport Error, Reservation Conflict, and inaccessible.
+const DENIALS: [u16; 7] = [0x07, 0x0b, 0x1b, 0x20, 0x22, 0x83, 0x302];
 
 /// Commands that change the write protection.
 #[derive(Default)]
@@ -11,6 +17,14 @@ pub struct Protection {
     open: Vec<(u64, u16)>,
     /// When the last was answered that protects, if no other may be executed after it.
     pub since: Option<u64>,
+    pub is_read_only: bool,
+}
+
+impl Protection {
+    /// Whether no write that began at a time may succeed.
+    pub fn covers(&self, begun: u64) -> bool {
+        self.is_read_only || self.since.map_or(false, |since| begun > since)
+    }
 }
 
 impl Checker {
@@ -31,9 +45,31 @@ impl Checker {
         }
     }
 
+    /// A target has begun whose blocks are in memory: they are zeros.
+    pub fn begin_memory(&mut self, process: usize) {
+        self.memory = Some(process);
+        self.blocks.iter_mut().for_each(|it| *it = Block::new());
+    }
+
+    /// Whether a command was sent to a target whose memory is gone.
+    pub fn is_void(&self, sent: &Sent) -> bool {
+        self.memory.map_or(false, |it| it != sent.process)
+    }
+
     /// Nothing that a controller was sent before is executed from now on; nor is anything, without one.
     pub fn bound_protection(&mut self, cntlid: Option<u16>) {
         self.protection.open.retain(|(_, it)| cntlid.map_or(false, |cntlid| *it != cntlid));
+    }
+
+    /// A command that is wrong was answered.
+    pub fn judge_wrong(&mut self, sent: &Sent, wanted: &[u16], completion: &Completion) {
+        let status = completion.status;
+        if !wanted.contains(&status) && !DENIALS.contains(&status) {
+            self.violate(format!("a command has status {status:x}: {sent:?}"));
+        }
+        if status != 0 && !completion.data.is_empty() {
+            self.violate(format!("a command that is refused has {} bytes: {sent:?}", completion.data.len()));
+        }
     }
 
     /// Whether bytes of this name are the same as each time before.

@@ -58,6 +58,21 @@ pub struct Command {
     /// An identifier that is in use, and a pointer that does not fit its data.
     pub cid: Option<u16>,
     pub pointer: Option<Pointer>,
+    /// What is wrong with the PDUs of its data, if they are.
+    pub breach: Breach,
+}
+
+/// A rule of H2CData that a host breaks.
+#[derive(Clone, Copy, Debug, Default, PartialEq, Eq)]
+pub enum Breach {
+    #[default]
+    None,
+    Command,
+    Tag,
+    Offset,
+    TooMany,
+    EarlyLast,
+    NoLast,
 }
 
 /// PSDT, and a descriptor of an SGL.
@@ -74,27 +89,43 @@ pub struct Queue {
     come: Vec<u8>,
     data: BTreeMap<u16, Vec<u8>>,
     /// Data that the target asks for, and whether some change on the way.
-    going: BTreeMap<u16, (Vec<u8>, bool)>,
+    going: BTreeMap<u16, (Vec<u8>, bool, Breach)>,
     next: u16,
     digests: Digests,
     /// Asynchronous Event Requests that have no answer, and the answers of others.
     pub requests: BTreeSet<u16>,
     pub events: Vec<Completion>,
+    /// The Fatal Error Status with which the target has ended the connection.
+    pub terminated: Option<u16>,
+    /// Whether completions have SQHD: there is flow control of the submission queue.
+    pub has_flow: bool,
 }
 
-/// ATTRIB of a property: CAP, ASQ and ACQ have eight bytes.
-fn size_of_property(offset: u32) -> Vec<u8> {
-    vec![u8::from(matches!(offset, 0x00 | 0x28 | 0x30)), 0, 0, 0]
+/// H2CData.
+fn host_data(
+    (cid, tag): (u16, u16),
+    at: usize,
+    piece: &[u8],
+    is_last: bool,
+    breach: Breach,
+    digests: Digests,
+) -> Vec<u8> {
+    let is = |other| breach == other;
+    let (cid, tag) = (cid ^ u16::from(is(Breach::Command)) << 14, tag + u16::from(is(Breach::Tag)));
+    let offset = at as u32 + if is(Breach::Offset) { 4 } else { 0 };
+    let data = if is(Breach::TooMany) { [piece, &[0; 131_072][..piece.len()]].concat() } else { piece.to_vec() };
+    let mut header = [cid.to_le_bytes(), tag.to_le_bytes()].concat();
+    header.extend(offset.to_le_bytes());
+    header.extend((data.len() as u32).to_le_bytes());
+    header.extend([0; 4]);
+    let has_last = (is_last || is(Breach::EarlyLast)) && !is(Breach::NoLast);
+    pdu(HOST_DATA, if has_last { LAST } else { 0 }, &header, &data, digests)
 }
 
 impl Queue {
     /// Connects, and exchanges ICReq and ICResp.
     pub fn open(address: SocketAddr, digests: Digests) -> Result<Queue, Lost> {
-        let stream = TcpStream::connect(address)?;
-        stream.set_nonblocking(true)?;
-        let (come, data, going) = (Vec::new(), BTreeMap::new(), BTreeMap::new());
-        let (requests, events) = (BTreeSet::new(), Vec::new());
-        let mut queue = Queue { stream, come, data, going, next: 0, digests: Digests::default(), requests, events };
+        let mut queue = Queue::begin(address)?;
         let mut request = vec![0; 120];
         request[3] = digests.field();
         queue.send_bytes(&pdu(IC_REQUEST, 0, &request, &[], Digests::default()))?;
@@ -104,6 +135,24 @@ impl Queue {
         }
         queue.digests = digests;
         Ok(queue)
+    }
+
+    /// Connects, and sends nothing.
+    pub fn begin(address: SocketAddr) -> Result<Queue, Lost> {
+        let stream = TcpStream::connect(address)?;
+        stream.set_nonblocking(true)?;
+        Ok(Queue {
+            stream,
+            come: Vec::new(),
+            data: BTreeMap::new(),
+            going: BTreeMap::new(),
+            next: 0,
+            digests: Digests::default(),
+            requests: BTreeSet::new(),
+            events: Vec::new(),
+            terminated: None,
+            has_flow: true,
+        })
     }
 
     pub fn name(&self) -> i32 {
@@ -153,7 +202,11 @@ impl Queue {
             if self.come.len() >= 8 && self.come.len() >= length {
                 let rest = self.come.split_off(length);
                 let unit = std::mem::replace(&mut self.come, rest);
-                return if unit[0] == TERMINATION { Err(Lost::Ended) } else { Ok(unit) };
+                if unit[0] == TERMINATION {
+                    self.terminated = unit.get(8..10).map(|it| u16_at(it, 0));
+                    return Err(Lost::Ended);
+                }
+                return Ok(unit);
             }
             self.take_bytes(end)?;
         }
@@ -192,7 +245,7 @@ impl Queue {
         }
         entry[40..40 + words.len()].copy_from_slice(words);
         if !data.is_empty() && !is_inside {
-            self.going.insert(cid, (data.clone(), *is_spoiled));
+            self.going.insert(cid, (data.clone(), *is_spoiled, command.breach));
         }
         let mut unit = pdu(CAPSULE, 0, &entry, if is_inside { data } else { &[] }, self.digests);
         if is_inside && *is_spoiled {
@@ -220,6 +273,9 @@ impl Queue {
                     let cid = u16_at(&unit, 20);
                     let value = u64::from(u32_at(&unit, 8)) | u64::from(u32_at(&unit, 12)) << 32;
                     let data = self.data.remove(&cid).unwrap_or_default();
+                    if !self.has_flow && u16_at(&unit, 16) != 0xffff {
+                        return Err(Lost::Broken("a completion has SQHD without flow control".to_owned()));
+                    }
                     return Ok(Completion { cid, status: u16_at(&unit, 22) >> 1 & 0x7ff, value, data });
                 }
                 CONTROLLER_DATA => {
@@ -239,7 +295,7 @@ impl Queue {
     fn send_data(&mut self, unit: &[u8]) -> Result<(), Lost> {
         let (cid, tag) = (u16_at(unit, 8), u16_at(unit, 10));
         let (start, count) = (u32_at(unit, 12) as usize, u32_at(unit, 16) as usize);
-        let (data, is_spoiled) = self.going.get(&cid).cloned().unwrap_or_default();
+        let (data, is_spoiled, breach) = self.going.get(&cid).cloned().unwrap_or_default();
         if start + count > data.len() {
             return Err(Lost::Broken("R2T for data that there are not".to_owned()));
         }
@@ -248,11 +304,7 @@ impl Queue {
         for at in (start..start + count).step_by(part) {
             let piece = &data[at..(at + part).min(start + count)];
             let is_last = at + piece.len() == start + count;
-            let mut header = [cid.to_le_bytes(), tag.to_le_bytes()].concat();
-            header.extend((at as u32).to_le_bytes());
-            header.extend((piece.len() as u32).to_le_bytes());
-            header.extend([0; 4]);
-            let mut unit = pdu(HOST_DATA, if is_last { LAST } else { 0 }, &header, piece, self.digests);
+            let mut unit = host_data((cid, tag), at, piece, is_last, breach, self.digests);
             if (at - start) / part == spoiled {
                 pdu::spoil(&mut unit);
             }
@@ -276,39 +328,5 @@ impl Queue {
             }
             self.events.push(completion);
         }
-    }
-
-    /// The Connect of Fabrics.
-    pub fn connect(&mut self, qid: u16, host: u128, cntlid: u16, keep_alive_ms: u32) -> Result<Completion, Lost> {
-        let mut data = host.to_le_bytes().to_vec();
-        data.extend(cntlid.to_le_bytes());
-        data.resize(256, 0);
-        let names = ["nqn.2024-01.example:suvmileh".to_owned(), format!("nqn.2024-01.example:{host:x}")];
-        for (at, name) in names.iter().enumerate() {
-            data.extend(name.as_bytes());
-            data.resize(512 + 256 * at, 0);
-        }
-        data.resize(1024, 0);
-        let mut words = [0u16, qid, 31].map(u16::to_le_bytes).concat();
-        words.extend([0, 0]);
-        words.extend(keep_alive_ms.to_le_bytes());
-        self.call(&Command { opcode: 0x7f, form: 1, words, data, in_capsule: true, ..Command::default() })
-    }
-
-    pub fn set_property(&mut self, offset: u32, value: u64) -> Result<Completion, Lost> {
-        let mut words = size_of_property(offset);
-        words.extend(offset.to_le_bytes());
-        words.extend(value.to_le_bytes());
-        self.call(&Command { opcode: 0x7f, form: 0, words, ..Command::default() })
-    }
-
-    pub fn disconnect(&mut self) -> Result<u16, Lost> {
-        self.send(&Command { opcode: 0x7f, form: 8, ..Command::default() })
-    }
-
-    pub fn property(&mut self, offset: u32) -> Result<Completion, Lost> {
-        let mut words = size_of_property(offset);
-        words.extend(offset.to_le_bytes());
-        self.call(&Command { opcode: 0x7f, form: 4, words, ..Command::default() })
     }
 }

@@ -30,7 +30,7 @@ impl Session<'_> {
     fn open_queue(&mut self) -> Result<(Queue, u16), Lost> {
         let mut io = Queue::open(self.address, self.path.digests)?;
         self.names.push(io.name());
-        let status = io.connect(1, self.path.host_id(), self.path.cntlid, 0)?.status;
+        let status = io.connect(&self.path.connect_of(1, 0))?.status;
         Ok((io, status))
     }
 

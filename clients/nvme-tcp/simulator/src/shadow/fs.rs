@@ -342,8 +342,7 @@ impl OpenOptions {
         let path = path.as_ref();
         with(|world| {
             let by = (world.machine(), world.process());
-            let boots = world.boots.get(&by.0).copied().unwrap_or(1);
-            let text = made_up(path, by.0, boots);
+            let text = made_up(world, path, by.0);
             let inode = match world.disks.find(path) {
                 _ if text.is_some() => 0,
                 Some(_) if self.create_new => return Err(ErrorKind::AlreadyExists.into()),
@@ -361,15 +360,17 @@ impl OpenOptions {
     }
 }
 
-/// Files of /proc.
-fn made_up(path: &Path, machine: usize, boots: u64) -> Option<Vec<u8>> {
-    match path.to_str()? {
-        "/proc/sys/kernel/random/boot_id" => {
-            Some(format!("{:08x}-0000-4000-8000-{:012x}\n", machine + 1, boots).into_bytes())
-        }
-        "/proc/sys/kernel/hostname" => Some(format!("machine{machine}\n").into_bytes()),
-        _ => None,
-    }
+/// Files of /proc, of a machine.
+fn made_up(world: &world::World, path: &Path, machine: usize) -> Option<Vec<u8>> {
+    let boots = world.boots.get(&machine).copied().unwrap_or(1);
+    let text = match path.to_str()? {
+        "/proc/sys/kernel/random/boot_id" => format!("{:08x}-0000-4000-8000-{:012x}\n", machine + 1, boots),
+        "/proc/sys/kernel/hostname" => format!("machine{machine}\n"),
+        "/proc/locks" => world.disks.locks(machine),
+        it if it.starts_with("/proc/") && it.ends_with("/comm") => "nvmetcp\n".to_owned(),
+        _ => return None,
+    };
+    Some(text.into_bytes())
 }
 
 #[derive(Clone, Debug)]

@@ -20,7 +20,7 @@ impl Write for Said {
             }
             if !self.is_error && world.processes[process].served.is_none() {
                 let bytes = world.disks.served.map(|it| world.disks.inodes[it].data.clone());
-                world.processes[process].served = bytes;
+                world.processes[process].served = Some(bytes.unwrap_or_default());
             }
         });
         Ok(bytes.len())

@@ -190,6 +190,16 @@ impl Disks {
         true
     }
 
+    /// The lines of /proc/locks of a machine.
+    pub fn locks(&self, machine: usize) -> String {
+        let held = self.held.iter().filter(|it| it.machine == machine);
+        let line = |(number, it): (usize, &Held)| {
+            let (kind, process) = (if it.is_shared { "READ " } else { "WRITE" }, it.process + 100);
+            format!("{number}: FLOCK  ADVISORY  {kind} {process} fe:00:{} 0 EOF\n", it.inode + 1)
+        };
+        (1..).zip(held).map(line).collect()
+    }
+
     pub fn unlock(&mut self, open: u64) {
         self.held.retain(|it| it.open != open);
     }
