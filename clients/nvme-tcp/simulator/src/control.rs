@@ -115,7 +115,9 @@ impl Operator {
                 "hosts" => answer.starts_with('[') && answer.ends_with(']'),
                 "counts" => self.is_count(asked, answer),
                 "metrics" => answer.starts_with("# HELP nvmetcp_build_info") && answers.any(|it| it == "# EOF"),
-                "held" | "ana" if !line.contains("99") && !line.contains("somehow") => answer.starts_with(line.as_str()),
+                "held" | "ana" if !line.contains("99") && !line.contains("somehow") => {
+                    answer.starts_with(line.as_str())
+                }
                 "?nothing" | "nothing" | "" | "hold" | "go" | "ana" => answer.starts_with('!'),
                 "?blocks" if !self.is_memory => !answer.is_empty(),
                 "?reservation" if line.ends_with("77") => !answer.is_empty(),

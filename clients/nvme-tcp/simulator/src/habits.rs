@@ -4,8 +4,7 @@
 use crate::chance::Random;
 
 /// The kinds.
-pub const HABITS: [&str; 9] =
-    ["admin", "attach", "protect", "visit", "err", "operator", "option", "memory", "tool"];
+pub const HABITS: [&str; 9] = ["admin", "attach", "protect", "visit", "err", "operator", "option", "memory", "tool"];
 
 #[derive(Clone, Copy, Debug, Default)]
 pub struct Habits {

@@ -18,8 +18,8 @@ pub mod reservations;
 pub mod visits;
 mod wrong;
 
+use crate::ending::crash;
 use crate::habits::Habits;
-use crate::supervisor::crash;
 use crate::world::{self, with, MILLISECOND, SECOND};
 use admin::Known;
 use checker::{check, Act, Sent};

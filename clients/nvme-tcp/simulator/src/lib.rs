@@ -12,6 +12,7 @@ pub use ::std::*;
 mod chance;
 mod command;
 mod control;
+mod ending;
 #[allow(unsafe_code)]
 mod fiber;
 mod habits;
@@ -25,6 +26,7 @@ mod run;
 mod scenario;
 mod shadow;
 mod shrinking;
+mod superblock;
 mod supervisor;
 mod tools;
 mod world;

@@ -47,7 +47,7 @@ struct Shared {
 /// Runs a scenario. `variant` is for other random choices than those of the scenario.
 pub fn run(scenario: &Scenario, variant: u64, act: Act, is_logged: bool) -> Report {
     world::begin(scenario.seed ^ variant << 40, scenario.chances.clone(), is_logged);
-    with(|it| it.net.slow = scenario.slow);
+    with(|it| (it.net.slow, it.net.window) = (scenario.slow, scenario.window));
     checker::begin(scenario.blocks, scenario.writes_through, scenario.persists);
     checker::check(|it| it.protection.is_read_only = scenario.manner.is_read_only);
     let shared = Rc::new(Shared::default());
@@ -105,6 +105,7 @@ fn supervise(scenario: Scenario, act: Act, shared: &Rc<Shared>) {
     while checker::check(|it| it.sent < commands && it.violations.is_empty()) {
         let time = with(|it| it.random.within(100 * MICROSECOND, peace));
         supervisor.rest(time);
+        supervisor.wait_for_answers();
         supervisor.trouble();
         keep_running(&mut supervisor, shared);
     }

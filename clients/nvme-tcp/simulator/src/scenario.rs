@@ -2,8 +2,8 @@
 
 use crate::chance::Random;
 use crate::habits::{Habits, Manner};
-use crate::hosts::visits::HOST_OF_ELSEWHERE;
 use crate::hosts::pdu::Digests;
+use crate::hosts::visits::HOST_OF_ELSEWHERE;
 use crate::hosts::Path;
 use crate::world::{Chances, MICROSECOND, MILLISECOND};
 
@@ -22,6 +22,25 @@ pub const NAME: &str = "nqn.2024-01.example:suvmileh";
 const MOST_IN_MEMORY: usize = 1_024;
 const MOST_CONTROLLERS: usize = 16;
 
+/// What a seed is about: the others meet it too seldom.
+#[derive(Clone, Copy, Debug, PartialEq, Eq)]
+enum Theme {
+    Any,
+    /// More frames than the cache has. Few commands, most of them long, fill it at once.
+    Heavy,
+    /// Many hosts that zero many blocks.
+    Zeroes,
+    /// Targets that take a volume from each other.
+    Owners,
+    /// A disk that fails, under hosts that flush.
+    Failing,
+    /// Nothing that ends a connection: what waits for ever shows. The network takes few bytes.
+    Calm,
+}
+
+/// The troubles that end connections or stop targets.
+const ENDS: [&str; 6] = ["kill", "power", "stop", "takeover", "cut", "end"];
+
 #[derive(Clone, Debug)]
 pub struct Scenario {
     pub seed: u64,
@@ -37,7 +56,9 @@ pub struct Scenario {
     pub blocks: usize,
     pub paths: Vec<Path>,
     pub chances: Chances,
+    /// How long the network takes for a segment, in nanoseconds, and how many bytes it has room for.
     pub slow: (u64, u64),
+    pub window: usize,
     /// Which troubles there are.
     pub kinds: Vec<&'static str>,
     /// Between two troubles, in nanoseconds at most.
@@ -45,53 +66,124 @@ pub struct Scenario {
     pub manner: Manner,
 }
 
+impl Theme {
+    fn of(number: u64) -> Theme {
+        match number {
+            0..=1 => Theme::Heavy,
+            2 => Theme::Zeroes,
+            3..=4 => Theme::Owners,
+            5 => Theme::Failing,
+            6 => Theme::Calm,
+            _ => Theme::Any,
+        }
+    }
+
+    /// Whether a kind of trouble is a part of it, unless chance decides.
+    fn has(self, kind: &str) -> Option<bool> {
+        let ends = ENDS.contains(&kind);
+        match self {
+            Theme::Owners => Some(matches!(kind, "stop" | "takeover" | "late")),
+            Theme::Failing if matches!(kind, "power" | "disk") => Some(true),
+            Theme::Failing | Theme::Calm | Theme::Zeroes if ends => Some(false),
+            _ => None,
+        }
+    }
+
+    fn blocks(self, random: &mut Random) -> usize {
+        match self {
+            Theme::Heavy => 24_576,
+            Theme::Zeroes => 9_216,
+            Theme::Owners => [40, 160][random.index(2)],
+            _ => [40, 40, 160, 1_024, 9_216][random.index(5)],
+        }
+    }
+
+    fn hosts(self, random: &mut Random) -> usize {
+        let (least, most) = match self {
+            Theme::Zeroes => (8, 16),
+            Theme::Heavy => (2, 6),
+            _ if random.once_in(8) => (5, 16),
+            _ => (1, 4),
+        };
+        random.within(least, most) as usize
+    }
+
+    /// Long commands take more time.
+    fn most_commands(self) -> u64 {
+        match self {
+            Theme::Heavy | Theme::Zeroes => 400,
+            _ => u64::MAX,
+        }
+    }
+
+    fn adapt(self, random: &mut Random, paths: &mut [Path], chances: &mut Chances) {
+        for (number, it) in paths.iter_mut().enumerate() {
+            match self {
+                Theme::Heavy => (it.depth, it.long, it.longest, it.mix) = (31, 4, 256, MIXES[3]),
+                Theme::Zeroes => {
+                    (it.depth, it.mix, it.restless) = (if number % 2 == 0 { 31 } else { 1 }, [15, 15, 0, 60, 5], 30);
+                }
+                Theme::Owners => (it.depth, it.long, it.mix) = (16, 2, [45, 50, 0, 2, 0]),
+                Theme::Failing => (it.crashes, it.mix, it.cuts_power) = (60, MIXES[4], true),
+                Theme::Calm => (it.long, it.restless) = (2, 0),
+                Theme::Any => (),
+            }
+        }
+        match self {
+            Theme::Owners => chances.short = 3,
+            Theme::Failing => (chances.failed_sync, chances.failed_write) = (20, [0, 100][random.index(2)]),
+            _ => (),
+        }
+    }
+}
+
 impl Scenario {
     pub fn new(seed: u64, commands: u64, without: &[String]) -> Scenario {
         let mut random = Random::new(seed.wrapping_mul(0x1234_5678_9abc_def1));
-        let is_volume = random.once_in(2);
+        let theme = Theme::of(random.below(24));
+        let is_volume = theme == Theme::Owners || random.once_in(2) && theme != Theme::Failing;
         let options = match random.below(3) {
-            0 => vec!["--write-through"],
+            0 if theme != Theme::Failing => vec!["--write-through"],
             1 => vec!["--direct"],
             _ => Vec::new(),
         };
         let writes_through = is_volume || options.contains(&"--write-through");
-        // The last two have more frames than the cache. Few commands, most of them long, fill it at once.
-        let is_heavy = random.once_in(12);
-        let blocks = if is_heavy { 24_576 } else { [40, 40, 160, 1_024, 9_216][random.index(5)] };
-        let commands = if is_heavy { commands.min(400) } else { commands };
+        let blocks = theme.blocks(&mut random);
         let kinds = KINDS.iter().copied().filter(|it| !without.iter().any(|out| out == it));
-        let kinds: Vec<&str> = kinds.filter(|_| !random.once_in(3)).collect();
+        let kinds: Vec<&str> = kinds.filter(|it| theme.has(it).unwrap_or_else(|| !random.once_in(3))).collect();
         let has = |kind: &str| kinds.contains(&kind);
-        let chances = Scenario::chances(&mut random, &has);
+        let mut chances = Scenario::chances(&mut random, &has);
         let slow = [(MICROSECOND, 5 * MICROSECOND), (20 * MICROSECOND, MILLISECOND / 2), (0, 20 * MILLISECOND)];
         let (slow, peace) = (slow[random.index(3)], [100, 400, 1_500][random.index(3)] * MILLISECOND);
         let (keeps_run, persists) = (!random.once_in(4), !random.once_in(3));
-        let mut paths = Scenario::paths(&mut random, blocks, persists, &has);
-        let (habits, mut manner) = (Habits::new(seed, without), Manner::new(seed, without));
+        let mut paths = Scenario::paths(&mut random, theme, (blocks, persists), &has);
+        // The other themes are met the more often without further options and habits.
+        let (habits, mut manner) = match theme {
+            Theme::Any => (Habits::new(seed, without), Manner::new(seed, without)),
+            _ => (Habits { has_flow: true, ..Habits::default() }, Manner::default()),
+        };
         manner.is_memory &= !is_volume && blocks <= MOST_IN_MEMORY;
         manner.binds &= paths.len() < MOST_CONTROLLERS;
         for path in &mut paths {
             (path.habits, path.advertised) = (habits, manner.advertised);
             path.name = manner.name.unwrap_or(NAME);
         }
-        if is_heavy {
-            let most = |it: &mut Path| (it.depth, it.long, it.longest, it.mix) = (31, 4, 256, MIXES[3]);
-            paths.iter_mut().for_each(most);
-        }
+        theme.adapt(&mut random, &mut paths, &mut chances);
         let options = if is_volume || manner.is_memory { Vec::new() } else { options };
         let writes_through = writes_through || manner.is_memory;
         Scenario {
             seed,
-            commands,
+            commands: commands.min(theme.most_commands()),
             is_volume,
             options,
             writes_through,
-            keeps_run,
+            keeps_run: keeps_run && theme != Theme::Failing,
             persists,
             blocks,
             paths,
             chances,
             slow,
+            window: if theme == Theme::Calm { 4096 << random.below(4) } else { 256 << 10 },
             kinds,
             peace,
             manner,
@@ -110,8 +202,13 @@ impl Scenario {
         }
     }
 
-    fn paths(random: &mut Random, blocks: usize, persists: bool, has: &dyn Fn(&str) -> bool) -> Vec<Path> {
-        let hosts = if random.once_in(8) { random.within(5, 16) } else { random.within(1, 4) } as usize;
+    fn paths(
+        random: &mut Random,
+        theme: Theme,
+        (blocks, persists): (usize, bool),
+        has: &dyn Fn(&str) -> bool,
+    ) -> Vec<Path> {
+        let hosts = theme.hosts(random);
         let reserves = [0, 20, 200, 500][random.index(4)];
         let per_host = if hosts > 8 { 1 } else { 1 + random.index(2) };
         let all: Vec<usize> = (0..hosts * per_host).map(|it| it / per_host).collect();

@@ -1,9 +1,11 @@
 //! Starts targets, troubles them, and judges how they end.
 
+use crate::ending::{fail_power, has_ended, stop_in_write};
 use crate::hosts::checker::{check, BLOCK};
 use crate::replay::{commands_of, replay, values_of};
 use crate::scenario::Scenario;
 use crate::shadow::os::unix::net::UnixStream;
+use crate::superblock;
 use crate::tools;
 use crate::world::disk::Kind;
 use crate::world::{self, with, Outcome, World, MILLISECOND, SECOND};
@@ -22,10 +24,10 @@ const BLOCKS_AT: usize = 2 << 20;
 /// How long a target may take to start, with a lease to wait out, and to end in order.
 const LONGEST: u64 = 60 * SECOND;
 
-/// The most crashes of a seed after answers, and the ends after which targets are left alone: what was killed keeps its
-/// memory, and a seed should be short.
-const MOST_CRASHES: u64 = 12;
+/// The ends after which targets are left alone: what was killed keeps its memory, and a seed should be short.
 const MOST_ENDS: usize = 30;
+/// The most answers that are awaited before the next trouble.
+const MOST_ANSWERS: u64 = 100;
 
 /// A target that was started.
 pub struct Running {
@@ -48,51 +50,16 @@ pub struct Supervisor {
     starts: usize,
     pub replayed: usize,
     pub ends: usize,
+    /// The epoch of the last target that has served a volume.
+    epoch: u64,
 }
 
 pub fn words(list: &[&str]) -> Vec<OsString> {
     list.iter().map(OsString::from).collect()
 }
 
-/// A host has got an answer, and at once its target is killed, or the power of all machines and disks fails.
-pub fn crash(process: usize, loses_power: bool) {
-    let count = with(|it| *it.injected.entry("crash").and_modify(|it| *it += 1).or_insert(1));
-    if has_ended(process) || count > MOST_CRASHES {
-        return;
-    }
-    with(|world| {
-        world.note(if loses_power { "power fails after an answer" } else { "a target is killed after an answer" });
-        *world.injected.entry(if loses_power { "power" } else { "kill" }).or_default() += 1;
-        for it in 1..world.processes.len() {
-            let other = &world.processes[it];
-            if (loses_power || it == process) && other.is_alive && other.outcome.is_none() {
-                world.kill(it);
-                let World { net, random, now, .. } = world;
-                net.drop_all(it, *now, if loses_power { 4 * SECOND } else { 0 }, random);
-                check(|check| check.crashes.insert(it, loses_power));
-            }
-        }
-    });
-    if loses_power {
-        fail_power();
-    }
-}
-
 fn recording_of(script: &str) -> String {
     format!("{script}.recording")
-}
-
-/// Whether a process has ended or was killed.
-pub fn has_ended(process: usize) -> bool {
-    with(|it| !it.processes[process].is_alive || it.processes[process].outcome.is_some())
-}
-
-fn fail_power() {
-    with(|world| {
-        world.cut_power();
-        world.boots.values_mut().for_each(|it| *it += 1);
-    });
-    check(|it| it.lose_power());
 }
 
 /// The injected faults that may end a target.
@@ -102,7 +69,7 @@ fn faults(world: &World) -> u64 {
 
 impl Supervisor {
     pub fn new(scenario: Scenario, act: Act) -> Supervisor {
-        Supervisor { scenario, act, running: Vec::new(), starts: 0, replayed: 0, ends: 0 }
+        Supervisor { scenario, act, running: Vec::new(), starts: 0, replayed: 0, ends: 0, epoch: 0 }
     }
 
     /// Makes what is served.
@@ -132,7 +99,14 @@ impl Supervisor {
             if let Some(Err((_, text))) = outcome {
                 check(|it| it.violate(format!("format fails: {text}")));
             }
+            if self.has("power") && with(|it| it.random.once_in(4)) {
+                fail_power();
+            }
         }
+    }
+
+    fn has(&self, kind: &str) -> bool {
+        self.scenario.kinds.contains(&kind)
     }
 
     fn command_line(&self, machine: usize, listen: &str, script: &str, control: &str) -> Vec<OsString> {
@@ -144,7 +118,8 @@ impl Supervisor {
             false => (),
         }
         list.extend(manner.is_read_only.then_some("--read-only"));
-        let more: Vec<String> = manner.words.iter().map(|it| it.replace(":99", [":99", ":89"][machine.min(1)])).collect();
+        let more: Vec<String> =
+            manner.words.iter().map(|it| it.replace(":99", [":99", ":89"][machine.min(1)])).collect();
         list.extend(more.iter().map(String::as_str));
         list.extend(manner.name.into_iter().flat_map(|it| ["--name", it]));
         list.extend(manner.advertised.into_iter().flat_map(|it| ["--advertise", it]));
@@ -181,26 +156,46 @@ impl Supervisor {
             check(|it| it.begin_memory(process));
         }
         let loss = check(|it| it.lose_reservations());
-        let end = with(|it| it.now) + LONGEST;
-        loop {
-            let (serves, now) = with(|it| (it.processes[process].served.is_some(), it.now));
-            if serves || has_ended(process) {
-                break;
-            }
-            if now > end {
-                check(|it| it.violate("a target neither serves nor ends".to_owned()));
-                break;
-            }
-            world::pause(5 * MILLISECOND);
-        }
+        self.wait_until_it_serves(process);
         let serves = with(|it| it.processes[process].served.is_some());
         check(|it| it.has_lost_reservations(loss, serves));
+        if serves && self.scenario.is_volume {
+            self.judge_epoch();
+        }
         if self.running.len() == 1 {
             check(|it| it.bound(None));
         } else {
             // Some hosts go to the other target at once.
             (0..4).for_each(|_| self.cut());
         }
+    }
+
+    /// Waits until a target serves or ends. The power may fail meanwhile.
+    fn wait_until_it_serves(&mut self, process: usize) {
+        let (now, cuts) = with(|it| (it.now, self.has("power") && it.random.once_in(10)));
+        let cut = if cuts { now + with(|it| it.random.below(SECOND / 3)) } else { u64::MAX };
+        loop {
+            let (serves, time) = with(|it| (it.processes[process].served.is_some(), it.now));
+            if serves || has_ended(process) {
+                return;
+            }
+            if time > now + LONGEST {
+                return check(|it| it.violate("a target neither serves nor ends".to_owned()));
+            }
+            if time > cut {
+                return self.cut_power();
+            }
+            world::pause(5 * MILLISECOND);
+        }
+    }
+
+    /// Each target that serves a volume has raised the epoch in its superblock.
+    fn judge_epoch(&mut self) {
+        let epoch = with(|it| it.disks.served.map_or(0, |at| superblock::epoch(&it.disks.inodes[at].data)));
+        if epoch <= self.epoch {
+            check(|it| it.violate(format!("a target serves in epoch {epoch}, and another did in {}", self.epoch)));
+        }
+        self.epoch = epoch;
     }
 
     /// Starts a target after all have ended, on a machine that may have had it.
@@ -344,6 +339,15 @@ impl Supervisor {
         }
     }
 
+    /// Waits until hosts have got some more answers, so that trouble meets them at work, but not for long.
+    pub fn wait_for_answers(&self) {
+        let (count, end) = with(|it| (it.random.below(MOST_ANSWERS), it.now + 3 * SECOND));
+        let until = check(|it| it.answered) + count;
+        while with(|it| it.now) < end && check(|it| it.answered < until && it.crashes.is_empty()) {
+            world::pause(MILLISECOND);
+        }
+    }
+
     /// Asks a target to end, and waits for that.
     pub fn end(&mut self, at: usize) {
         let process = self.running[at].process;
@@ -359,7 +363,7 @@ impl Supervisor {
             world::pause(5 * MILLISECOND);
         }
         self.collect();
-        if self.running.is_empty() && self.scenario.kinds.contains(&"power") && with(|it| it.random.once_in(3)) {
+        if self.running.is_empty() && self.has("power") && with(|it| it.random.once_in(3)) {
             fail_power();
         }
     }
@@ -419,13 +423,21 @@ impl Supervisor {
     /// Stops a process for a time, in which another may take its volume over.
     fn stop(&mut self, at: usize) {
         let process = self.running[at].process;
-        let (time, takes) = with(|it| (it.random.within(MILLISECOND, 9 * SECOND), it.random.once_in(2)));
+        let takes = with(|it| it.random.once_in(2))
+            && self.scenario.is_volume
+            && self.running.len() == 1
+            && self.has("takeover");
+        // The other waits for a lease before it serves.
+        let least = if takes { 5 * SECOND } else { MILLISECOND };
+        let (time, in_write) = with(|it| (it.random.within(least, 9 * SECOND), it.random.once_in(2)));
         self.running[at].may_lose_lease |= self.scenario.is_volume;
-        with(|it| {
-            it.note(&format!("target is stopped for {} ms", time / MILLISECOND));
-            it.processes[process].stopped_until = it.now + time;
-        });
-        if takes && self.scenario.is_volume && self.running.len() == 1 && self.scenario.kinds.contains(&"takeover") {
+        if !in_write || !stop_in_write(process, time) {
+            with(|it| {
+                it.note(&format!("target is stopped for {} ms", time / MILLISECOND));
+                it.processes[process].stopped_until = it.now + time;
+            });
+        }
+        if takes {
             self.start(1 - self.running[at].machine.min(1));
         }
     }

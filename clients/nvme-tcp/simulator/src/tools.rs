@@ -1,8 +1,9 @@
 //! Command lines of the target that serve nothing, or are refused: each ends with its exit status.
 
+use crate::ending::has_ended;
 use crate::hosts::checker::check;
 use crate::hosts::pdu::digest;
-use crate::supervisor::{has_ended, words, Act, Supervisor, CONFIG, DEVICE, IMAGE};
+use crate::supervisor::{words, Act, Supervisor, CONFIG, DEVICE, IMAGE};
 use crate::world::disk::Kind;
 use crate::world::{self, with, Chances, Outcome, World, MILLISECOND, SECOND};
 use std::path::Path;

@@ -69,6 +69,8 @@ pub struct Process {
     pub is_alive: bool,
     /// It was stopped, as by SIGSTOP.
     pub stopped_until: u64,
+    /// It will be stopped in its next write to a medium, for this time.
+    pub stops_in_write: Option<u64>,
     pub is_asked_to_end: bool,
     pub outcome: Option<Outcome>,
     /// What it wrote to standard error.
@@ -180,6 +182,7 @@ impl Process {
             machine,
             is_alive: true,
             stopped_until: 0,
+            stops_in_write: None,
             is_asked_to_end: false,
             outcome: None,
             said: String::new(),
@@ -207,6 +210,17 @@ impl World {
     /// The process whose fiber runs.
     pub fn process(&self) -> usize {
         self.threads.get(self.current).map_or(HOSTS, |it| it.process)
+    }
+
+    /// Stops the process that runs in its write to a medium, if it is to be; whether it is.
+    pub fn stop_in_write(&mut self) -> bool {
+        let process = self.process();
+        let time = self.processes[process].stops_in_write.take();
+        if let Some(time) = time {
+            self.note(&format!("target is stopped in a write for {} ms", time / MILLISECOND));
+            self.processes[process].stopped_until = self.now + time;
+        }
+        time.is_some()
     }
 
     pub fn machine(&self) -> usize {

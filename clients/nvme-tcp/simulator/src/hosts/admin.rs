@@ -158,7 +158,9 @@ impl Session<'_> {
             with(|world| *world.injected.entry("event").or_default() += 1);
             match EVENTS.iter().find(|(value, _)| *value == it.value) {
                 Some((_, page)) => self.read_page_of_event(*page)?,
-                None => self.complain(&format!("an event has status {:x} and double word 0 {:#x}", it.status, it.value)),
+                None => {
+                    self.complain(&format!("an event has status {:x} and double word 0 {:#x}", it.status, it.value))
+                }
             }
         }
         Ok(())

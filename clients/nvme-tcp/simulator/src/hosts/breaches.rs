@@ -71,7 +71,10 @@ fn breach(digests: Digests) -> (Vec<u8>, Vec<u16>) {
             (unit, vec![HEADER_DIGEST])
         }
         1..=2 => (data(512, one_of(&[0, 3, 9, 0xffff])), vec![OUT_OF_RANGE]),
-        3 => (pdu(HOST_TERMINATION, 0, &[2, 0, 0, 0, 0, 0, 0, 0, 0, 0, 0, 0, 0, 0, 0, 0], &[], Digests::default()), vec![]),
+        3 => (
+            pdu(HOST_TERMINATION, 0, &[2, 0, 0, 0, 0, 0, 0, 0, 0, 0, 0, 0, 0, 0, 0, 0], &[], Digests::default()),
+            vec![],
+        ),
         _ => wrong_capsule(digests),
     }
 }
@@ -90,7 +93,9 @@ impl Path {
         match queue.terminated {
             Some(given) if !wanted.contains(&given) => {
                 let begin = &unit[..unit.len().min(24)];
-                Err(Lost::Broken(format!("a connection is ended with status {given}, not one of {wanted:?}, after {begin:x?}")))
+                Err(Lost::Broken(format!(
+                    "a connection is ended with status {given}, not one of {wanted:?}, after {begin:x?}"
+                )))
             }
             _ => Ok(()),
         }

@@ -15,8 +15,15 @@ const EFFECTS: u8 = 0x05;
 const ACCESS: u8 = 0x0c;
 const NOTICES: u8 = 0x80;
 const PAGES: [(u8, u64); 9] = [
-    (0x00, 1024), (ERRORS, 4096), (HEALTH, 512), (0x03, 512), (CHANGED, 4096), (EFFECTS, 4096), (ACCESS, 48),
-    (0x12, 1024), (NOTICES, 64),
+    (0x00, 1024),
+    (ERRORS, 4096),
+    (HEALTH, 512),
+    (0x03, 512),
+    (CHANGED, 4096),
+    (EFFECTS, 4096),
+    (ACCESS, 48),
+    (0x12, 1024),
+    (NOTICES, 64),
 ];
 /// Retain Asynchronous Event.
 const RETAIN: u32 = 1 << 15;

@@ -105,11 +105,8 @@ impl Path {
     fn choose_many_ranges(&self) -> (Command, Act) {
         let (slba, count) = self.extent();
         let first = below(count + 1);
-        let ranges = [
-            range(slba as u64, first as u32),
-            range(0, 0),
-            range((slba + first) as u64, (count - first) as u32),
-        ];
+        let ranges =
+            [range(slba as u64, first as u32), range(0, 0), range((slba + first) as u64, (count - first) as u32)];
         (deallocation(&ranges, DEALLOCATE), Act::Write { slba, values: vec![0; count] })
     }
 

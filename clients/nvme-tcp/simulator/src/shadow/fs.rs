@@ -134,7 +134,9 @@ impl Open {
             if is_medium && world.happens("failed write", fails) {
                 return Err(failed());
             }
-            let is_short = bytes.len() > PAGE && world.happens("short write", short);
+            // One in which the process is stopped may have written a part.
+            let is_stopped = is_medium && bytes.len() > PAGE && world.stop_in_write();
+            let is_short = is_stopped || bytes.len() > PAGE && world.happens("short write", short);
             Ok(if is_short { PAGE * (1 + world.random.index(bytes.len() / PAGE)) } else { bytes.len() })
         })?;
         // The kernel copies page by page, and notices a kill in between.

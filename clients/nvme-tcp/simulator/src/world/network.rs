@@ -6,9 +6,6 @@ use std::cmp::Reverse;
 use std::collections::{BTreeMap, BinaryHeap, VecDeque};
 use std::net::SocketAddr;
 
-/// The most bytes that are on the way or wait to be read, in each direction.
-const WINDOW: usize = 256 << 10;
-
 #[derive(Debug)]
 enum Segment {
     Bytes(Vec<u8>),
@@ -68,6 +65,8 @@ pub struct Network {
     next_port: u16,
     /// How long a segment takes, in nanoseconds.
     pub slow: (u64, u64),
+    /// The most bytes that are on the way or wait to be read, in each direction.
+    pub window: usize,
 }
 
 impl Network {
@@ -180,8 +179,8 @@ impl Network {
             None => return 0,
         };
         match self.sides.get(&side.peer) {
-            Some(peer) => WINDOW.saturating_sub(peer.come.len() + peer.coming_bytes),
-            None => WINDOW,
+            Some(peer) => self.window.saturating_sub(peer.come.len() + peer.coming_bytes),
+            None => self.window,
         }
     }
 
