@@ -172,7 +172,7 @@ fn use_outputs(act: Act) {
         (&["--record", "/run/there", CONFIG], FAILED),
         (&["--script", "/run/halved", CONFIG], FAILED),
         (&["--record", "/etc", CONFIG], FAILED),
-        (&["--record", "/state/records", "--state", "/state", CONFIG], FAILED),
+        (&["--record", "/state/journal", "--state", "/state", CONFIG], FAILED),
         (&["--control", "/run/there", CONFIG], FAILED),
     ];
     for (list, status) in lines {
