@@ -13,6 +13,7 @@ pub mod restoring;
 pub mod state;
 
 use crate::admin::identity::Identity;
+use crate::bytes::u16_at;
 use crate::fault::{Fault, Outcome};
 use crate::files::watched::changed;
 use crate::journal::record::{newest, push_command, push_cycle, Current, Record};
@@ -31,6 +32,8 @@ use std::thread::{self, JoinHandle};
 
 /// Features: Reservation Notification Mask, Reservation Persistence and Namespace Write Protection.
 const LASTING_FEATURES: std::ops::RangeInclusive<u8> = RESERVATION_NOTIFICATION..=WRITE_PROTECTION;
+/// The bytes of two reservation keys.
+const KEYS: usize = 16;
 /// Memory for records that wait for the thread.
 const ROOM: usize = 256 << 10;
 /// Replaces the number of synced records after a failure.
@@ -159,7 +162,7 @@ impl Journal {
     /// Appends a command that has succeeded, if it changes what is to last.
     pub fn follow(&mut self, cntlid: u16, qid: u16, entry: &SubmissionEntry, data: Data<'_>) {
         if lasts(qid, entry) {
-            let data = if let Data::ToController(bytes) = data { bytes } else { &[] };
+            let data = if let Data::ToController(bytes) = data { read_of(qid, bytes) } else { &[] };
             let epoch = self.epoch;
             self.give(|records| push_command(records, epoch, (cntlid, qid), entry, data));
         }
@@ -227,6 +230,13 @@ fn lasts(qid: u16, entry: &SubmissionEntry) -> bool {
     }
 }
 
+/// What a command that lasts reads of its data: keys, or a controller list. A record has no more of them, since a host
+/// could make the rest look like another record, or a page of them like another batch of a volume.
+fn read_of(qid: u16, data: &[u8]) -> &[u8] {
+    let length = if qid == 0 && data.len() > 1 { 2 + 2 * usize::from(u16_at(data, 0)) } else { KEYS };
+    &data[..data.len().min(length)]
+}
+
 #[cfg(test)]
 mod tests {
     use super::*;
@@ -244,6 +254,16 @@ mod tests {
         ] {
             assert_eq!(lasts(qid, &SubmissionEntry::new(opcode, 0, 1).with(dw10, 0)), wanted);
         }
+    }
+
+    #[test]
+    fn records_have_what_commands_read() {
+        let data: Vec<u8> = [3, 0].into_iter().chain(2..64).collect();
+        assert_eq!((read_of(1, &data), read_of(0, &data)), (&data[..16], &data[..8]));
+        assert_eq!(
+            (read_of(1, &data[..8]), read_of(0, &data[..4]), read_of(0, &data[..1])),
+            (&data[..8], &data[..4], &data[..1])
+        );
     }
 
     /// A log whose appends wait until they are allowed, and pass on what they got.

@@ -239,6 +239,21 @@ class Refusals(VolumeTest):
         self.assertIn("incomplete records that were never answered", self.errors(target))
         self.assertEqual(self.host(target).write(7, bytes(BLOCK)), 0)
 
+    def test_what_a_host_sends_is_no_batch(self) -> None:
+        """A page of a host's data looks like a batch of a newer segment, alone in a batch that is whole or torn."""
+        page = b"nvmetcpj" + bytes(8) + struct.pack("<QQ", 1 << 60, 1)
+        page = page[:8] + digest_of(page.ljust(PAGE, b"\0")) + page[12:]
+        for is_torn in (False, True):
+            target = self.target()
+            # A record's data begin 121 bytes after its batch.
+            controllers = struct.pack("<HH", 1, 2).ljust(PAGE - 121, b"\0") + page.ljust(121, b"\0")
+            detach = struct.pack("<I", 1 - is_torn)
+            self.assertEqual(self.host(target, 0xb2).admin.call(0x15, 1, detach, controllers).status, 0)
+            target.kill()
+            if is_torn:
+                self.flip(self.pages()[-1] + 100)
+            self.passes("check", self.volume)
+
     def test_a_damaged_journal(self) -> None:
         checkpoint, second, first, *_ = self.pages()
         self.flip(first + 100)

@@ -99,7 +99,12 @@ impl Replay<'_, '_> {
         if self.is_read_only && is_on_protection {
             return Ok(true);
         }
-        self.succeeds(usize::from(cntlid).wrapping_sub(1), qid, entry, data)
+        let mut data = data.clone();
+        if (qid, entry.opcode()) == (0, NAMESPACE_ATTACHMENT) {
+            // A record ends with the last controller of the list.
+            data.resize(data.len().max(PAGE as usize), 0);
+        }
+        self.succeeds(usize::from(cntlid).wrapping_sub(1), qid, entry, &data)
     }
 
     /// Executes a command of a controller, if it is there; whether it has succeeded.

@@ -74,6 +74,17 @@ fn batch_of(pages: &[u8]) -> Option<Batch<'_>> {
     })
 }
 
+/// All batches among these pages that are whole. The pages of one are not looked at again: they have what hosts sent.
+fn batches_of(pages: &[u8]) -> Vec<Batch<'_>> {
+    let (mut batches, mut page) = (Vec::new(), 0);
+    while let Some(rest) = pages.get(page * PAGE..).filter(|it| !it.is_empty()) {
+        let batch = batch_of(rest);
+        page += batch.as_ref().map_or(1, |it| pages_of(it.records.len()));
+        batches.extend(batch);
+    }
+    batches
+}
+
 /// The digest of a batch's pages, in which its own place is zeros.
 fn crc32c_without(bytes: &[u8]) -> u32 {
     let mut without = bytes.to_vec();
@@ -99,7 +110,7 @@ pub fn read(area: &[u8]) -> Result<Kept, Refusal> {
     let heads = area.chunks_exact(SEGMENT).enumerate().filter_map(|(place, it)| Some((head_of(it)?, place)));
     let newest = heads.max_by_key(|(head, _)| head.segment);
     let (head, place) = newest.ok_or_else(|| damaged("no segment has a checkpoint".to_owned()))?;
-    let newer = area.chunks_exact(PAGE).find_map(|it| batch_of(it).filter(|it| it.segment > head.segment));
+    let newer = area.chunks_exact(SEGMENT).flat_map(batches_of).find(|it| it.segment > head.segment);
     if let Some(batch) = newer {
         return Err(damaged(format!("segment {} has no checkpoint", batch.segment)));
     }
@@ -116,7 +127,7 @@ pub fn read(area: &[u8]) -> Result<Kept, Refusal> {
     }
     let is_of_it = |it: &[u8]| it.starts_with(MAGIC) && u64_at(it, SEGMENT_AT) == head.segment;
     let rest = pages.get(page * PAGE..).unwrap_or_default();
-    if (1..rest.len() / PAGE).any(|it| batch_of(&rest[it * PAGE..]).map_or(false, |it| it.segment == head.segment)) {
+    if batches_of(rest).iter().any(|it| it.segment == head.segment) {
         return Err(damaged(format!("batch {number} of segment {} is damaged, and others follow it", head.segment)));
     }
     let torn = if is_of_it(rest) { (u32_at(rest, LENGTH_AT) as usize).min(rest.len()) } else { 0 };
@@ -211,6 +222,18 @@ mod tests {
             pages.iter().for_each(|it| damaged[it * PAGE + 40] ^= 1);
             assert_eq!(read(&damaged).map(|it| it.records.len()).map_err(|_| ()), wanted, "{pages:?}");
         }
+    }
+
+    #[test]
+    fn what_a_host_sent_is_no_batch() {
+        let command = |data| record(Event::Command { cntlid: 1, qid: 0, entry: [0; 64].into(), data });
+        let mut sent = vec![0; PAGE - HEAD - command(Vec::new()).len()];
+        [6, 7, 8].iter().for_each(|segment| sent.extend_from_slice(&batch(*segment, 9, &[])));
+        let pages = batch(7, 2, &command(sent));
+        assert!(pages.len() == 4 * PAGE && pages[3 * PAGE..].starts_with(MAGIC));
+        let mut used = area(&[1]);
+        put(&mut used, SEGMENT + (FIRST_PAGE + 1) * PAGE, &pages);
+        assert_eq!(read(&used).unwrap().records.len(), 3);
     }
 
     #[test]
