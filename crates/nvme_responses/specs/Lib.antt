@@ -1,0 +1,5 @@
+pub mod States
+pub mod Entries
+pub mod Responses
+pub mod Runs
+pub mod Laws
