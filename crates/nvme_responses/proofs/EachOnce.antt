@@ -55,15 +55,12 @@ use Rattle.nvme_responses.specs.Laws.{tally, EachOnce}
 use Rattle.nvme_responses.proofs.Tallies.{tally-append, tally-without}
 use Rattle.nvme_responses.proofs.Steps.{Answered, Nothing, Gives, answers, taken_out}
 
-accept-weight : (w : ℕ → ℕ) (s : State) (cid : ℕ) (r : Result Bool Refused)
+pub accept-weight : (w : ℕ → ℕ) (s : State) (cid : ℕ) (r : Result Bool Refused)
     → tally w (with_command r s cid).outstanding ≡ tally w s.outstanding + tally w (accepted_if r cid)
 accept-weight w s cid (Ok b) = tally-append w s.outstanding (cid ∷ [])
 accept-weight w s cid (Err e) = omega arith
 
-abbrev weight_of : (ℕ → ℕ) → Response → ℕ
-weight_of w e = w e.cid
-
-respond-weight : (w : ℕ → ℕ) (s : State) (r : Reply) → tally w s.outstanding
+pub respond-weight : (w : ℕ → ℕ) (s : State) (r : Reply) → tally w s.outstanding
     ≡ tally (λ (e : Response). w e.cid) (response_if (response s r)) + tally w (after_respond s r).outstanding
 respond-weight w s r = by (response s r) (after_respond s r) (answers s r) where
   by : (o : Option Response) (t : State) → Answered s r o t
@@ -77,7 +74,7 @@ respond-weight w s r = by (response s r) (after_respond s r) (answers s r) where
       ap (λ (t : State). tally w t.outstanding) ti in
       omega (arith, a, b, d)
 
-forget-weight : (w : ℕ → ℕ) (xs : List ℕ) (cid : ℕ) (o : Option ℕ) → place xs cid ≡ o
+pub forget-weight : (w : ℕ → ℕ) (xs : List ℕ) (cid : ℕ) (o : Option ℕ) → place xs cid ≡ o
     → tally w xs ≡ tally w (dropped_if o cid) + tally w (without o xs)
 forget-weight w xs cid None found = omega arith
 forget-weight w xs cid (Some i) found = let a = tally-without w xs cid i found in omega (arith, a)
@@ -103,7 +100,6 @@ each-once (call ∷ run) w = by call (each-once run w) where
       let e = tally-append w (dropped run) [] in
       omega (arith, a, b, d, e, h)
   by (Forgets cid) h =
-      let o : Option ℕ = place (state_after run).outstanding cid in
       let a = forget-weight w (state_after run).outstanding cid (place (state_after run).outstanding cid) refl in
       let b = tally-append w (commands run) [] in
       let d = tally-append (λ (e : Response). w e.cid) (responses run) [] in

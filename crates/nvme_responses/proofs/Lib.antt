@@ -2,6 +2,8 @@ mod Taking
 mod Tallies
 mod Steps
 mod EachOnce
+mod Stages
 mod Waiting
 mod Heads
 mod Ending
+mod Fields

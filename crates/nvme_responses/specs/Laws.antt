@@ -19,18 +19,19 @@ use Rattle.std.specs.Prelude.{
   ◌∷◌,
   ◌++◌,
   length,
+  Contains,
   Some,
   None,
   Ok,
   Err,
 }
-use Rattle.nvme_wire.specs.Entry.{word_at, dword_at}
+use Rattle.nvme_wire.specs.Entry.{word_at, dword_at, bits}
 use Rattle.nvme_wire.specs.declared.status.Status.{Status}
 use Rattle.nvme_responses.specs.declared.refused.Refused.{Refused}
 use Rattle.nvme_responses.specs.declared.refused.Refused.TheVariants as refused
 use Rattle.nvme_responses.specs.declared.reply.Reply.{Reply}
 use Rattle.nvme_responses.specs.declared.reply.Response.{Response}
-use Rattle.nvme_responses.specs.Entries.{entry, has_do_not_retry, status_field}
+use Rattle.nvme_responses.specs.Entries.{entry, without_do_not_retry, has_do_not_retry, status_field}
 use Rattle.nvme_responses.specs.States.{State}
 use Rattle.nvme_responses.specs.Responses.{
   accepted,
@@ -214,3 +215,19 @@ pub record IsReadBack (e : Response) : Type 0 where
 
 abbrev pub EntriesAreReadBack : Type 0
 EntriesAreReadBack = (e : Response) → Fits e → IsReadBack e
+
+-- The fields of a status: the phase tag in bit 0, SC in bits 8:1, SCT in bits 11:9, then CRD and More, and Do Not Retry.
+pub record IsStatus (s : Status) (field : ℕ) : Type 0 where
+  pub fits : field < 2 ^ 16
+  pub phase : bits field 0 0 ≡ 0
+  pub sc : bits field 8 1 ≡ s.sc
+  pub sct : bits field 11 9 ≡ s.sct
+  pub retry : bits field 14 12 ≡ 0
+  pub do_not_retry : bits field 15 15 ≡ (if has_do_not_retry s then 1 else 0)
+
+abbrev pub StatusesAreReadBack : Type 0
+StatusesAreReadBack = (s : Status) → s.sct < 2 ^ 3 → s.sc < 2 ^ 8 → IsStatus s (status_field s)
+
+-- A status without Do Not Retry is Success, or one after which the same command may succeed.
+abbrev pub FewMayRetry : Type 0
+FewMayRetry = (s : Status) → has_do_not_retry s ≡ false → Contains without_do_not_retry s
