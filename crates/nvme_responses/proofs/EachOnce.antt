@@ -1,40 +1,10 @@
 -- Each command has one response, has none yet, or was dropped.
-use Rattle.std.proofs.Common.{
-  ◌≡◌,
-  ℕ,
-  ◌+◌,
-  Bool,
-  List,
-  [],
-  ◌∷◌,
-  ◌++◌,
-  Option,
-  None,
-  Some,
-  Result,
-  Ok,
-  Err,
-  arith,
-  refl,
-  sym,
-  ap,
-  subst,
-  ◌∙◌,
-}
+use Rattle.std.proofs.Common.{◌≡◌, ℕ, ◌+◌, Bool, List, [], ◌∷◌, Option, None, Some, Result, Ok, Err, arith, refl, ap}
 use Rattle.nvme_responses.specs.declared.refused.Refused.{Refused}
 use Rattle.nvme_responses.specs.declared.reply.Reply.{Reply}
 use Rattle.nvme_responses.specs.declared.reply.Response.{Response}
 use Rattle.nvme_responses.specs.States.{State}
-use Rattle.nvme_responses.specs.Responses.{
-  accepted,
-  with_command,
-  place,
-  without,
-  response_of,
-  response,
-  after_respond,
-  after_forget,
-}
+use Rattle.nvme_responses.specs.Responses.{accepted, with_command, place, without, response, after_respond}
 use Rattle.nvme_responses.specs.Runs.{
   Call,
   Accepts,

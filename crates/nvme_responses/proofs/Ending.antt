@@ -1,30 +1,6 @@
 -- Refusals change nothing, and nothing comes after the end.
-use Rattle.std.proofs.Common.{
-  ◌≡◌,
-  ℕ,
-  Bool,
-  true,
-  false,
-  List,
-  [],
-  ◌∷◌,
-  ◌++◌,
-  Option,
-  None,
-  Some,
-  Result,
-  Ok,
-  Err,
-  refl,
-  sym,
-  ap,
-  subst,
-  ◌∙◌,
-}
+use Rattle.std.proofs.Common.{◌≡◌, ℕ, false, List, [], ◌∷◌, ◌++◌, Option, None, Some, refl, sym, ap, subst, ◌∙◌}
 use Rattle.std.proofs.lemmas.List.{append-nil}
-use Rattle.nvme_responses.specs.declared.refused.Refused.{Refused}
-use Rattle.nvme_responses.specs.declared.reply.Reply.{Reply}
-use Rattle.nvme_responses.specs.declared.reply.Response.{Response}
 use Rattle.nvme_responses.specs.declared.stage.Stage.{Stage}
 use Rattle.nvme_responses.specs.declared.stage.Stage.TheVariants as stage
 use Rattle.nvme_responses.specs.States.{State}
@@ -57,14 +33,7 @@ use Rattle.nvme_responses.specs.Runs.{
   responds,
   responses,
 }
-use Rattle.nvme_responses.specs.Laws.{
-  RefusedKeeps,
-  NoAnswerKeeps,
-  NothingDroppedKeeps,
-  EndIsFinal,
-  IsOver,
-  StopIsFinal,
-}
+use Rattle.nvme_responses.specs.Laws.{RefusedKeeps, NoAnswerKeeps, NothingDroppedKeeps, EndIsFinal, StopIsFinal}
 use Rattle.nvme_responses.proofs.Stages.{accept-stage, respond-stage}
 
 pub refused-keeps : RefusedKeeps

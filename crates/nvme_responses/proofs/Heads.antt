@@ -1,33 +1,5 @@
 -- SQHD counts the commands since Connect.
-use Rattle.std.proofs.Common.{
-  ◌≡◌,
-  ℕ,
-  zero,
-  suc,
-  ◌+◌,
-  ◌%◌,
-  ◌<◌,
-  ◌≤◌,
-  Bool,
-  true,
-  false,
-  cond,
-  List,
-  [],
-  ◌∷◌,
-  Option,
-  None,
-  Some,
-  Result,
-  Ok,
-  Err,
-  arith,
-  refl,
-  sym,
-  ap,
-  subst,
-  ◌∙◌,
-}
+use Rattle.std.proofs.Common.{◌≡◌, ℕ, suc, ◌+◌, ◌%◌, ◌<◌, Bool, true, false, cond, List, [], ◌∷◌, Option, Some, Result, Ok, Err, arith, refl, sym, ap, ◌∙◌}
 use Rattle.std.specs.Prelude.{nat_lt}
 use Rattle.std.proofs.lemmas.Bool.{ltb-true, ltb-false}
 use Rattle.std.proofs.lemmas.Option.{same_Some}
@@ -59,7 +31,7 @@ use Rattle.nvme_responses.specs.Runs.{
   one_if,
   counted,
 }
-use Rattle.nvme_responses.specs.Laws.{IsCounted, HeadIsCounted}
+use Rattle.nvme_responses.specs.Laws.{HeadIsCounted}
 use Rattle.nvme_responses.proofs.Stages.{sizes, disabled-is, respond-keeps}
 use Rattle.nvme_responses.proofs.Steps.{Answered, Nothing, Gives, answers}
 

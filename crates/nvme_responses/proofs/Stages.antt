@@ -1,5 +1,5 @@
 -- What a run has left of stage, size and flow control.
-use Rattle.std.proofs.Common.{◌≡◌, ℕ, Bool, List, [], ◌∷◌, Option, None, Some, Result, Ok, Err, refl, sym, ap, subst, ◌∙◌}
+use Rattle.std.proofs.Common.{◌≡◌, ℕ, Bool, List, [], ◌∷◌, Option, None, Some, Result, Ok, Err, refl, sym, subst, ◌∙◌}
 use Rattle.nvme_responses.specs.declared.refused.Refused.{Refused}
 use Rattle.nvme_responses.specs.declared.reply.Response.{Response}
 use Rattle.nvme_responses.specs.declared.stage.Stage.{Stage}

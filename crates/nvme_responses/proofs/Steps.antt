@@ -1,27 +1,5 @@
 -- What each call does, by cases.
-use Rattle.std.proofs.Common.{
-  ◌≡◌,
-  ◌⊎◌,
-  inl,
-  inr,
-  ℕ,
-  Bool,
-  true,
-  false,
-  cond,
-  List,
-  [],
-  ◌∷◌,
-  ◌++◌,
-  Option,
-  None,
-  Some,
-  Result,
-  Ok,
-  Err,
-  refl,
-  ap,
-}
+use Rattle.std.proofs.Common.{◌≡◌, ℕ, Bool, true, false, cond, Option, None, Some, Result, Ok, Err, refl, ap}
 use Rattle.nvme_responses.specs.declared.refused.Refused.{Refused}
 use Rattle.nvme_responses.specs.declared.refused.Refused.TheVariants as refused
 use Rattle.nvme_responses.specs.declared.reply.Reply.{Reply}
@@ -29,23 +7,7 @@ use Rattle.nvme_responses.specs.declared.reply.Response.{Response}
 use Rattle.nvme_responses.specs.declared.stage.Stage.{Stage}
 use Rattle.nvme_responses.specs.declared.stage.Stage.TheVariants as stage
 use Rattle.nvme_responses.specs.States.{State}
-use Rattle.nvme_responses.specs.Responses.{
-  following,
-  has,
-  is_full,
-  accepted,
-  accepted_by,
-  with_command,
-  after_accept,
-  place,
-  without,
-  is_there,
-  response_of,
-  response_by,
-  response,
-  without_if,
-  after_respond,
-}
+use Rattle.nvme_responses.specs.Responses.{has, is_full, accepted, accepted_by, with_command, after_accept, place, without, is_there, response_of, response_by, response, without_if, after_respond}
 
 -- a command comes: it is refused, or accepted on an open connection whose queue is not full
 pub data Came (s : State) (cid : ℕ) (r : Result Bool Refused) (t : State) : Type 0 where

@@ -1,35 +1,5 @@
 -- Which commands wait, and that they are answered.
-use Rattle.std.proofs.Common.{
-  ◌≡◌,
-  ◌⊎◌,
-  inl,
-  inr,
-  ℕ,
-  ◌+◌,
-  ◌<◌,
-  ◌≤◌,
-  Bool,
-  true,
-  false,
-  cond,
-  List,
-  [],
-  ◌∷◌,
-  ◌++◌,
-  length,
-  Option,
-  None,
-  Some,
-  Result,
-  Ok,
-  Err,
-  arith,
-  refl,
-  sym,
-  ap,
-  subst,
-  ◌∙◌,
-}
+use Rattle.std.proofs.Common.{◌≡◌, ◌⊎◌, inl, inr, ℕ, ◌+◌, ◌<◌, ◌≤◌, Bool, true, false, cond, List, [], ◌∷◌, length, Option, None, Some, Result, Ok, Err, arith, refl, sym, ap, ◌∙◌}
 use Rattle.std.specs.Prelude.{◌||◌, nat_le, nat_lt}
 use Rattle.std.proofs.lemmas.Bool.{leb-true, leb-false, ltb-true, ltb-false}
 use Rattle.std.proofs.lemmas.Option.{same_Some}
@@ -53,20 +23,7 @@ use Rattle.nvme_responses.specs.Responses.{
   response,
   after_respond,
 }
-use Rattle.nvme_responses.specs.Runs.{
-  Call,
-  Accepts,
-  Responds,
-  Forgets,
-  Connects,
-  Ends,
-  Stops,
-  state_after,
-  commands,
-  responses,
-  dropped,
-  sqsize_after,
-}
+use Rattle.nvme_responses.specs.Runs.{Call, Accepts, Responds, Forgets, Connects, Ends, Stops, state_after, commands, responses, dropped}
 use Rattle.nvme_responses.specs.Laws.{
   tally,
   is,
@@ -113,17 +70,17 @@ waits-counted run cid h = let a = each-once run (is cid) in omega (arith, a, h)
 pub own-responses : OwnResponses
 own-responses run r e h = by (response (state_after run) r) (after_respond (state_after run) r)
     (answers (state_after run) r) h where
-  by : (o : Option Response) (t : State) → Answered (state_after run) r o t → o ≡ Some e → IsOwn run r e
-  by o t (Nothing oi ti) h = absurd (cc)
-  by o t (Gives i found oi ti) h =
-      let same : response_of (state_after run) r ≡ e = same_Some _ _ (sym oi ∙ h) in
-      record {
-        waits = counted-waits run r.cid (found-counts (state_after run).outstanding r.cid i found);
-        cid = sym (ap (λ (e : Response). e.cid) same);
-        dw0 = sym (ap (λ (e : Response). e.dw0) same);
-        dw1 = sym (ap (λ (e : Response). e.dw1) same);
-        status = sym (ap (λ (e : Response). e.status) same);
-      }
+      by : (o : Option Response) (t : State) → Answered (state_after run) r o t → o ≡ Some e → IsOwn run r e
+      by o t (Nothing oi ti) h = absurd (cc)
+      by o t (Gives i found oi ti) h =
+          let same : response_of (state_after run) r ≡ e = same_Some _ _ (sym oi ∙ h) in
+          record {
+            waits = counted-waits run r.cid (found-counts (state_after run).outstanding r.cid i found);
+            cid = sym (ap (λ (e : Response). e.cid) same);
+            dw0 = sym (ap (λ (e : Response). e.dw0) same);
+            dw1 = sym (ap (λ (e : Response). e.dw1) same);
+            status = sym (ap (λ (e : Response). e.status) same);
+          }
 
 given : (g : Stage) (s : State) (r : Reply) (i : ℕ) → Talks g → place s.outstanding r.cid ≡ Some i
     → (e : Response) × (response_by g s r ≡ Some e)
@@ -174,21 +131,22 @@ room-is-given run cid listens room =
     let s : State = state_after run in
     let n = lengths run in
     let size = sizes run in
-    let free = not-full (state_after run) (omega (arith, n, room.in_list)) (omega (arith, n, size, room.in_queue)) in
-    (has (state_after run).outstanding cid,
-    ap (λ g. accepted_by g (state_after run) cid) (opens run listens)
-    ∙ ap (λ b. cond b (Err refused.Full) (Ok (has (state_after run).outstanding cid))) free)
+    let free = not-full (state_after run) (omega (arith, n, room.in_list)) (omega (arith, n, size, room.in_queue)) in (
+      has (state_after run).outstanding cid,
+      ap (λ g. accepted_by g (state_after run) cid) (opens run listens)
+          ∙ ap (λ b. cond b (Err refused.Full) (Ok (has (state_after run).outstanding cid))) free,
+    )
 
 pub none-beyond : NoneBeyond
 none-beyond run cid is_conflict h = by (accepted (state_after run) cid) (after_accept (state_after run) cid)
     (comes (state_after run) cid) h where
-  by : (r : Result Bool Refused) (t : State) → Came (state_after run) cid r t → r ≡ Ok is_conflict → HasRoom run
-  by r t (Refuses e ri ti) h = absurd (cc)
-  by r t (Takes is-open free ri ti) h =
-      let p = room-of (state_after run) free in
-      let n = lengths run in
-      let size = sizes run in
-      record { in_queue = omega (arith, n, size, p.1); in_list = omega (arith, n, p.0) }
+      by : (r : Result Bool Refused) (t : State) → Came (state_after run) cid r t → r ≡ Ok is_conflict → HasRoom run
+      by r t (Refuses e ri ti) h = absurd (cc)
+      by r t (Takes is-open free ri ti) h =
+          let p = room-of (state_after run) free in
+          let n = lengths run in
+          let size = sizes run in
+          record { in_queue = omega (arith, n, size, p.1); in_list = omega (arith, n, p.0) }
 
 few : (run : List Call) → tally (λ c. 1) (state_after run).outstanding ≤ 64
 few [] = omega arith
@@ -233,18 +191,18 @@ same-ok r a b h k = ap conflict (sym h ∙ k)
 pub conflicts-are-found : ConflictsAreFound
 conflicts-are-found run cid is_conflict h = by (accepted (state_after run) cid) (after_accept (state_after run) cid)
     (comes (state_after run) cid) h where
-  by-has : (b : Bool) → has (state_after run).outstanding cid ≡ b → is_conflict ≡ b
-      → ((is_conflict ≡ true) × Waits run cid) ⊎ ((is_conflict ≡ false) × (came run cid ≡ done run cid))
-  by-has true e same =
-      inl (same, counted-waits run cid (has-counts (state_after run).outstanding cid e))
-  by-has false e same =
-      let a = each-once run (is cid) in
-      let b = hasnt-counts (state_after run).outstanding cid e in
-      inr (same, omega (arith, a, b))
+      by-has : (b : Bool) → has (state_after run).outstanding cid ≡ b → is_conflict ≡ b
+          → ((is_conflict ≡ true) × Waits run cid) ⊎ ((is_conflict ≡ false) × (came run cid ≡ done run cid))
+      by-has true e same =
+          inl (same, counted-waits run cid (has-counts (state_after run).outstanding cid e))
+      by-has false e same =
+          let a = each-once run (is cid) in
+          let b = hasnt-counts (state_after run).outstanding cid e in
+          inr (same, omega (arith, a, b))
 
-  by : (r : Result Bool Refused) (t : State) → Came (state_after run) cid r t → r ≡ Ok is_conflict
-      → ((is_conflict ≡ true) × Waits run cid) ⊎ ((is_conflict ≡ false) × (came run cid ≡ done run cid))
-  by r t (Refuses e ri ti) h = absurd (cc)
-  by r t (Takes is-open free ri ti) h =
-      by-has (has (state_after run).outstanding cid) refl
-      (same-ok r is_conflict (has (state_after run).outstanding cid) h ri)
+      by : (r : Result Bool Refused) (t : State) → Came (state_after run) cid r t → r ≡ Ok is_conflict
+          → ((is_conflict ≡ true) × Waits run cid) ⊎ ((is_conflict ≡ false) × (came run cid ≡ done run cid))
+      by r t (Refuses e ri ti) h = absurd (cc)
+      by r t (Takes is-open free ri ti) h =
+          by-has (has (state_after run).outstanding cid) refl
+          (same-ok r is_conflict (has (state_after run).outstanding cid) h ri)

@@ -1,34 +1,8 @@
 -- Laws over any run of calls: each command gets at most one response, its own.
-use Rattle.std.specs.Prelude.{
-  ◌≡◌,
-  ◌⊎◌,
-  ℕ,
-  ◌+◌,
-  ◌*◌,
-  ◌%◌,
-  ◌^◌,
-  ◌<◌,
-  ◌≤◌,
-  Bool,
-  true,
-  false,
-  ◌==◌,
-  if◌then◌else◌,
-  List,
-  [],
-  ◌∷◌,
-  ◌++◌,
-  length,
-  Contains,
-  Some,
-  None,
-  Ok,
-  Err,
-}
+use Rattle.std.specs.Prelude.{◌≡◌, ◌⊎◌, ℕ, ◌+◌, ◌%◌, ◌^◌, ◌<◌, ◌≤◌, Bool, true, false, ◌==◌, if◌then◌else◌, List, [], ◌∷◌, ◌++◌, length, Contains, Some, None, Ok, Err}
 use Rattle.nvme_wire.specs.Entry.{word_at, dword_at, bits}
 use Rattle.nvme_wire.specs.declared.status.Status.{Status}
 use Rattle.nvme_responses.specs.declared.refused.Refused.{Refused}
-use Rattle.nvme_responses.specs.declared.refused.Refused.TheVariants as refused
 use Rattle.nvme_responses.specs.declared.reply.Reply.{Reply}
 use Rattle.nvme_responses.specs.declared.reply.Response.{Response}
 use Rattle.nvme_responses.specs.Entries.{entry, without_do_not_retry, has_do_not_retry, status_field}

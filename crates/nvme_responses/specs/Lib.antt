@@ -3,3 +3,4 @@ pub mod Entries
 pub mod Responses
 pub mod Runs
 pub mod Laws
+pub mod Examples

@@ -1,4 +1,4 @@
-use Rattle.std.proofs.Common.{◌≡◌, ◌-◌, length, take, Some, slice_index_or, slice_set, sym, ap, subst, ◌∙◌, rules}
+use Rattle.std.proofs.Common.{◌≡◌, length, take, Some, sym, ap, ◌∙◌, rules}
 use Rattle.nvme_responses.specs.Responses as def
 use Rattle.nvme_responses.proofs.Taking.{taken-out}
 use Rattle.nvme_responses.proofs.responses.Responses.take_out.Goals as goal
