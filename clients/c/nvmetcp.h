@@ -10,7 +10,8 @@
  *  2. If the stage is NVMESIM_STAGE_WHOLE, compute the digests that the layout has, and call nvmesim_connection_judge.
  *  3. If the PDU is complete, do what it says, or call nvmesim_connection_refuse. Then continue with the bytes that
  *     were not taken. At BAD_PDU send C2HTermReq (nvmesim_pdu_termination), which repeats `kept`, and close the connection.
- * For each command of a connection, nvmesim_fabrics_live returns what the connection is. For Connect:
+ * For each command of a connection call nvmesim_responses_accept, and once it is done nvmesim_responses_respond; send
+ * what that has written. nvmesim_fabrics_live returns what the connection is. For Connect:
  *  1. nvmesim_fabrics_admitted. If it is for an I/O queue, and hosts have no keys, create the queues.
  *  2. nvmesim_fabrics_connect, with the status of that.
  *  3. If the session is authenticating, and once the host is authentic: nvmesim_fabrics_admits, create the queues, and
@@ -91,6 +92,39 @@ typedef struct nvmesim_verdict {
     nvmesim_pdu_layout layout; /* OK, and the PDU is complete; BAD_PDU, and the connection has ended; or NO_PDU */
     bool is_sound;             /* whether its data are as the host sent them */
 } nvmesim_verdict;
+
+/* Answers of the calls on responses. */
+enum {
+    NVMESIM_CONFLICT = 47,    /* a command is accepted, and another without a response has its identifier */
+    NVMESIM_QUEUE_FULL = 48,  /* as many commands have no response as the queue has entries */
+    NVMESIM_QUEUE_ENDED = 49, /* the queue takes no more commands */
+    NVMESIM_NO_COMMAND = 50   /* no such command is without a response, or the queue has ended */
+};
+
+/* How far a queue is. */
+enum {
+    NVMESIM_QUEUE_STAGE_OPEN = 0,   /* it takes commands */
+    NVMESIM_QUEUE_STAGE_ENDING = 1, /* it takes no more, and those without a response may still get one */
+    NVMESIM_QUEUE_STAGE_ENDED = 2   /* it has ended */
+};
+
+/* The commands of a connection without a response. Zeros are a connection that has not connected; then only the calls
+ * below write it. */
+typedef struct nvmesim_responses {
+    uint16_t sqsize;               /* SQSIZE: the number of entries of the submission queue, less one */
+    uint16_t head;                 /* the commands accepted since Connect, modulo that number */
+    uint16_t count;                /* how many commands have no response: at most 64 */
+    uint8_t stage;                 /* NVMESIM_QUEUE_STAGE_OPEN .. */
+    bool is_flow_control_disabled; /* whether SQHD is FFFFh */
+    uint16_t outstanding[64];      /* their identifiers, and then anything */
+} nvmesim_responses;
+
+/* The outcome of a command. */
+typedef struct nvmesim_reply {
+    uint32_t dw0, dw1; /* double words 0 and 1 */
+    uint16_t cid;
+    uint8_t sct, sc;   /* the status */
+} nvmesim_reply;
 
 /* The associations of a subsystem, or none. */
 typedef struct nvmesim_fabrics {
@@ -226,6 +260,26 @@ nvmesim_verdict nvmesim_connection_refuse(nvmesim_connection *connection, uint16
  * wants: up to the eighth, then all that it lacks. */
 nvmesim_pdu_layout nvmesim_connection_layout(const nvmesim_connection *connection);
 size_t nvmesim_connection_wanted(const nvmesim_connection *connection);
+
+/* Counts a command that came: OK; CONFLICT, and its response has to be Command ID Conflict; QUEUE_FULL, and the host has
+ * broken the rules of the transport; or QUEUE_ENDED. After the last two nothing has changed. */
+uint32_t nvmesim_responses_accept(nvmesim_responses *responses, uint16_t cid);
+
+/* Writes the response to a command (16 bytes): OK; or NO_COMMAND, nothing has changed, and nothing may be sent. */
+uint32_t nvmesim_responses_respond(nvmesim_responses *responses, const nvmesim_reply *reply, uint8_t *entry);
+
+/* A command will have no response, since a reset of the controller has dropped it: OK; or NO_COMMAND. */
+uint32_t nvmesim_responses_forget(nvmesim_responses *responses, uint16_t cid);
+
+/* Connect, which the call before has accepted, succeeds: SQSIZE, and whether it disables flow control. */
+void nvmesim_responses_connected(nvmesim_responses *responses, uint16_t sqsize, bool is_flow_control_disabled);
+
+/* No more commands are accepted; those without a response may still get one. After a stop none gets one. */
+void nvmesim_responses_end(nvmesim_responses *responses);
+void nvmesim_responses_stop(nvmesim_responses *responses);
+
+/* The last word of an entry with this status: its phase tag, which is 0, and the status field. */
+uint16_t nvmesim_responses_status(uint8_t sct, uint8_t sc);
 
 /* Begins a subsystem without associations, whose controllers have these hosts, by rising CNTLID from 1; with has_keys
  * hosts have to authenticate themselves. OK; or ALREADY_OPEN, TOO_MANY, NO_MEMORY, and nothing has changed. The close

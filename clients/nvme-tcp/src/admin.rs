@@ -93,11 +93,6 @@ impl Target<'_> {
             }
         }
     }
-
-    /// Whether a command of this identifier waits on the admin queue of a controller.
-    pub fn waits(&self, index: usize, cid: u16) -> bool {
-        self.associations[index].as_ref().map_or(false, |it| it.events.has(cid))
-    }
 }
 
 /// The entry of an Asynchronous Event Request.

@@ -5,10 +5,9 @@ pub mod entry;
 pub mod names;
 pub mod status;
 
-/// The size of a block, of a submission queue entry, and of a completion queue entry.
+/// The size of a block, and of a submission queue entry.
 pub const BLOCK: u64 = 512;
 pub const ENTRY: usize = 64;
-pub const COMPLETION: usize = 16;
 
 /// The highest namespace identifier, and the most blocks of a namespace.
 pub const MOST_NAMESPACES: u32 = 8;

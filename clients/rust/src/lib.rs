@@ -100,6 +100,7 @@ mod notices;
 pub mod pdu;
 #[allow(unsafe_code)]
 mod raw;
+pub mod responses;
 
 use layout::Answer;
 use layout::{Blocks, Disk};

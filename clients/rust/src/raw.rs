@@ -10,6 +10,7 @@ use crate::layout::{
     QueueConnection, Read, Registered, Request, Session, Sim, Taken, Verdict, Written,
 };
 use crate::pdu::Agreed;
+use crate::responses::{Raw, Reply};
 use crate::{Attachment, Brought, Controller, Namespace};
 #[cfg(target_arch = "x86_64")]
 use std::arch::x86_64::{_mm_prefetch, _MM_HINT_T0};
@@ -228,6 +229,13 @@ pdu_calls! {
     connection_refuse = nvmesim_connection_refuse(at: &mut Connection, status: u16, field: u32) -> Verdict;
     connection_layout = nvmesim_connection_layout(at: &Connection) -> PduLayout;
     connection_wanted = nvmesim_connection_wanted(at: &Connection) -> usize;
+    responses_accept = nvmesim_responses_accept(at: &mut Raw, cid: u16) -> u32;
+    responses_respond = nvmesim_responses_respond(at: &mut Raw, reply: &Reply, entry: &mut [u8; 16]) -> u32;
+    responses_forget = nvmesim_responses_forget(at: &mut Raw, cid: u16) -> u32;
+    responses_connected = nvmesim_responses_connected(at: &mut Raw, sqsize: u16, disabled: bool) -> ();
+    responses_end = nvmesim_responses_end(at: &mut Raw) -> ();
+    responses_stop = nvmesim_responses_stop(at: &mut Raw) -> ();
+    responses_status = nvmesim_responses_status(sct: u8, sc: u8) -> u16;
 }
 
 /// Associations that are open.

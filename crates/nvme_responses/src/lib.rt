@@ -14,3 +14,4 @@ pub use refused::Refused;
 pub use reply::{Reply, Response};
 pub use responses::Responses;
 pub use stage::Stage;
+pub use status::status_field;

@@ -31,7 +31,7 @@ pub(crate) fn has_do_not_retry(status: Status) -> bool
 
 /// The last word of an entry: its phase tag, which is 0, and the status.
 #[inline(always)]
-pub(crate) fn status_field(status: Status) -> u16
+pub fn status_field(status: Status) -> u16
     ensures { result ≡ def.status_field status }
 {
     let known = known(status);

@@ -5,4 +5,5 @@ pub mod Fabrics
 pub mod Holding
 pub mod Laws
 pub mod Pdus
+pub mod Responses
 pub mod Sessions

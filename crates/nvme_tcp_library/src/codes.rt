@@ -19,6 +19,15 @@ pub const BAD_PDU: u32 = 40;
 /// The connection has no PDU that the call is about.
 pub const NO_PDU: u32 = 41;
 
+/// A command is accepted, and another without a response has its identifier.
+pub const CONFLICT: u32 = 47;
+/// As many commands have no response as the queue has entries.
+pub const QUEUE_FULL: u32 = 48;
+/// The queue takes no more commands.
+pub const QUEUE_ENDED: u32 = 49;
+/// No such command is without a response, or the queue has ended.
+pub const NO_COMMAND: u32 = 50;
+
 /// A connection takes the bytes of a PDU.
 pub const STAGE_TAKING: u8 = 0;
 /// A PDU is whole.
@@ -27,6 +36,13 @@ pub const STAGE_WHOLE: u8 = 1;
 pub const STAGE_COMPLETE: u8 = 2;
 /// A connection has ended.
 pub const STAGE_ENDED: u8 = 3;
+
+/// A queue takes commands.
+pub const QUEUE_STAGE_OPEN: u8 = 0;
+/// It takes no more, and those without a response may still get one.
+pub const QUEUE_STAGE_ENDING: u8 = 1;
+/// It has ended.
+pub const QUEUE_STAGE_ENDED: u8 = 2;
 
 /// A connection has not connected.
 pub const SESSION_NOT_CONNECTED: u32 = 0;

@@ -13,6 +13,7 @@ mod handle;
 mod laws;
 pub mod opening;
 pub mod pdus;
+pub mod responses;
 mod sessions;
 mod slot;
 
@@ -21,4 +22,5 @@ pub use connections::{Taken, Verdict};
 pub use handle::FabricsHandle;
 pub use opening::HostId;
 pub use pdus::{LayoutSeen, PduFields};
+pub use responses::RawReply;
 pub use sessions::{RawJudged, RawRequest, RawSession};

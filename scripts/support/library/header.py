@@ -25,6 +25,7 @@ TYPES = {
     "&mut [u8; 128]": ["uint8_t *"], "&[u8; 1024]": ["const uint8_t *"], "[u8; 128]": ["uint8_t[128]"],
     "[u8; 256]": ["uint8_t[256]"], "[u32; 16]": ["uint32_t[16]"], "&[HostId]": ["const nvmesim_host_id *", "size_t"],
     "&RawConnection": ["const nvmesim_connection *"], "&mut RawConnection": ["nvmesim_connection *"],
+    "&mut Responses": ["nvmesim_responses *"], "&RawReply": ["const nvmesim_reply *"], "[u16; 64]": ["uint16_t[64]"],
     "Taken": ["nvmesim_taken"], "Verdict": ["nvmesim_verdict"], "&mut FabricsHandle": ["nvmesim_fabrics *"],
     "&RawSession": ["const nvmesim_session *"], "&mut RawSession": ["nvmesim_session *"],
     "RawRequest": ["nvmesim_request"], "&RawRequest": ["const nvmesim_request *"],
@@ -40,13 +41,14 @@ STRUCTS = {"Answer": "nvmesim_answer", "Controller": "nvmesim_controller", "Name
            "Change": "nvmesim_change", "Disk": "nvmesim_disk", "ExecutedOver": "nvmesim_executed_over", "Notice": "nvmesim_notice", "RawNotices": "nvmesim_notices",
            "Agreed": "nvmesim_pdu_agreed", "LayoutSeen": "nvmesim_pdu_layout", "PduFields": "nvmesim_pdu_fields",
            "RawConnection": "nvmesim_connection", "Taken": "nvmesim_taken", "Verdict": "nvmesim_verdict",
+           "Responses": "nvmesim_responses", "RawReply": "nvmesim_reply",
            "HostId": "nvmesim_host_id", "RawRequest": "nvmesim_request", "RawSession": "nvmesim_session",
            "RawJudged": "nvmesim_judged", "FabricsAnswer": "nvmesim_fabrics_answer", "Admitted": "nvmesim_admitted",
            "Executed": "nvmesim_executed", "LiveSession": "nvmesim_live_session",
            "QueueConnection": "nvmesim_queue_connection"}
 # Structs of another crate that C holds.
 OTHERS = ("nvme_brought/src/disk.rt", "nvme_notices/src/notice.rt", "nvme_notices/src/raw.rt",
-          "nvme_pdu/src/agreed.rt", "nvme_connection/src/raw.rt")
+          "nvme_pdu/src/agreed.rt", "nvme_connection/src/raw.rt", "nvme_responses/src/responses.rt")
 EXPORT = re.compile(r'#\[unsafe\(no_mangle\)\]\s*pub extern "C" fn (\w+)\(([^)]*)\)(?: -> (\w+))?')
 NUMBER = re.compile(r"^pub const (\w+): u(?:32|8) = (\d+);", re.M)
 

@@ -33,6 +33,7 @@ VALUES = {"Global": "alloc", "&mut Handle": "&mut sim", "u8": "n as u8", "u16": 
           "&[u8; 24]": "&header", "&[u8; 128]": "&request", "&mut [u8; 24]": "&mut header",
           "&mut [u8; 128]": "&mut request", "&[u8; 1024]": "&data", "&[HostId]": "&hosts",
           "&RawConnection": "&connection", "&mut RawConnection": "&mut connection",
+          "&mut Responses": "&mut responses", "&RawReply": "&reply",
           "&mut FabricsHandle": "&mut fabrics", "&RawSession": "&session", "&mut RawSession": "&mut session",
           "&RawRequest": "&asked", "&RawJudged": "&judged",
           "LentBytes": "LentBytes { at: ptr::null_mut(), len: n }",
@@ -43,6 +44,8 @@ use nvme_connection::RawConnection;
 use nvme_lent::LentBytes;
 use nvme_notices::{{Notice, RawNotices}};
 use nvme_pdu::Agreed;
+use nvme_responses::Responses;
+use nvme_tcp_library::RawReply;
 use nvme_tcp_library::{{FabricsHandle, HostId, RawJudged, RawRequest, RawSession}};
 use std::process::ExitCode;
 use std::rt::Env;
@@ -69,6 +72,9 @@ fn main(rt: HostRuntime) -> io::Result<ExitCode> {{
     let mut connection = RawConnection {{ count: n, length: n as u32, data_offset: n as u32, data_length: n as u32,
         kind: n as u8, header: n as u8, stage: n as u8, is_last: n == 3, header_digest: n == 4, data_digest: n == 5,
         is_open: n == 6, agreed, kept: [n as u8; 128] }};
+    let mut responses = Responses {{ sqsize: n as u16, head: n as u16, count: n as u16, stage: n as u8,
+        is_flow_control_disabled: n == 3, outstanding: [n as u16; 64] }};
+    let reply = RawReply {{ dw0: n as u32, dw1: n as u32, cid: n as u16, sct: n as u8, sc: n as u8 }};
     let mut fabrics = FabricsHandle::closed(alloc);
     let asked = RawRequest {{ host_low: n as u64, host_high: n as u64, host_nqn: [n as u8; 256], cntlid: n as u16,
         qid: n as u16, entries: n as u16 }};
@@ -202,7 +208,7 @@ def archive(top: Path) -> Path:
             kit.is_free.set()
             for name, folder in copies(top, room).items():
                 kit.crates[name].folder = str(folder)
-            kit.crates[CRATE].deps += [kit.crates[it] for it in (TCP, "nvme_pdu", "nvme_connection")]
+            kit.crates[CRATE].deps += [kit.crates[it] for it in (TCP, "nvme_pdu", "nvme_connection", "nvme_responses")]
             unproved.kept_module(kit, CRATE, room)
         except (unproved.NotBuilt, unproved.toolchain.NoToolchain) as error:
             raise NotBuilt(str(error)) from error

@@ -53,9 +53,9 @@ impl Events {
         has_room
     }
 
-    /// Whether a request has this identifier.
-    pub fn has(&self, cid: u16) -> bool {
-        self.requests.contains(&cid)
+    /// The identifiers of the requests that are held.
+    pub fn requests(&self) -> Vec<u16> {
+        self.requests.iter().copied().collect()
     }
 
     /// A namespace was attached or detached.

@@ -66,13 +66,6 @@ pub struct Proof {
     life: Arc<()>,
 }
 
-impl Proof {
-    /// Whether a command with this identifier waits.
-    pub fn waits(&self, cid: u16) -> bool {
-        self.waiting.map_or(false, |(waiting, _)| waiting == cid)
-    }
-}
-
 /// Whether a command is executed before authentication.
 pub fn goes_before_proof(entry: &SubmissionEntry) -> bool {
     entry.opcode() == FABRICS

@@ -48,6 +48,8 @@ pub enum Closing {
     Association,
     /// The target ends.
     Shutdown,
+    /// The target has an answer that nobody waits for, which is a fault of its own.
+    Fault,
 }
 
 impl Closing {
@@ -60,17 +62,19 @@ impl Closing {
             Closing::Crowded => "there were too many connections without a controller",
             Closing::Association => "the association has ended",
             Closing::Shutdown => "the target ends",
+            Closing::Fault => "the target has an answer that nobody waits for",
         }
     }
 }
 
-pub const CLOSINGS: [(Closing, &str); 6] = [
+pub const CLOSINGS: [(Closing, &str); 7] = [
     (Closing::ByHost, "host"),
     (Closing::Protocol, "protocol"),
     (Closing::Late, "timeout"),
     (Closing::Crowded, "crowded"),
     (Closing::Association, "association"),
     (Closing::Shutdown, "shutdown"),
+    (Closing::Fault, "fault"),
 ];
 
 /// The counters.

@@ -6,6 +6,7 @@ use crate::authentication::proving::Proof;
 use crate::bytes::text_of;
 use crate::fabrics::discovery::Discovery;
 use nvmesim::fabrics::{Request, Session};
+use nvmesim::responses::Responses;
 use std::net::SocketAddr;
 use std::time::{Duration, Instant};
 
@@ -21,10 +22,8 @@ pub struct HostQueue {
     pub(super) local: SocketAddr,
     /// Its discovery controller, if it is the queue of one.
     pub(super) discovery: Discovery,
-    /// How many entries it has, and how many of them were taken, modulo that.
-    pub entries: u16,
-    head: u16,
-    has_flow_control: bool,
+    /// Its commands without a response, which only the library changes.
+    pub responses: Responses,
     /// How its host proves who it is, if hosts have to.
     pub proof: Option<Box<Proof>>,
     /// Whether Disconnect has ended it.
@@ -34,34 +33,12 @@ pub struct HostQueue {
 impl HostQueue {
     /// A connection that has sent nothing.
     pub fn new(connection: ConnectionId, peer: SocketAddr, local: SocketAddr) -> HostQueue {
-        let (session, discovery, entries, head) = (Session::new(connection), Discovery::default(), 1, 0);
-        let (has_flow_control, proof, is_over) = (true, None, false);
-        HostQueue { session, peer, local, discovery, entries, head, has_flow_control, proof, is_over }
+        let (session, discovery, responses) = (Session::new(connection), Discovery::default(), Responses::new());
+        HostQueue { session, peer, local, discovery, responses, proof: None, is_over: false }
     }
 
     pub fn connection(&self) -> ConnectionId {
         self.session.connection()
-    }
-
-    /// Takes a command.
-    pub fn advance(&mut self) {
-        self.head = (self.head + 1) % self.entries;
-    }
-
-    /// What Connect has said.
-    pub fn connect(&mut self, entries: u16, has_flow_control: bool) {
-        self.entries = entries;
-        self.head = 1 % entries;
-        self.has_flow_control = has_flow_control;
-    }
-
-    /// SQHD of a completion.
-    pub fn sqhd(&self) -> u16 {
-        if self.has_flow_control {
-            self.head
-        } else {
-            0xffff
-        }
     }
 }
 

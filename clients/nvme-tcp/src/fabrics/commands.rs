@@ -86,7 +86,7 @@ impl Target<'_> {
             (Command::Disconnect, live) => self.disconnect(queue, live)?,
             (Command::GetProperty, Live::Queue { index, .. }) => of_property(self.register(index.into(), offset)?),
             (Command::GetProperty, _) => of_property(queue.discovery.property(offset)),
-            (Command::SetProperty, Live::Queue { index, .. }) => self.configure(index.into(), value, io)?,
+            (Command::SetProperty, Live::Queue { index, .. }) => self.configure(queue, index.into(), value, io)?,
             (Command::SetProperty, _) => {
                 queue.discovery.configuration = value;
                 Answer::of(SUCCESS)
@@ -114,7 +114,8 @@ impl Target<'_> {
         }
         let answer = self.fabrics.connect(&mut queue.session, entry.bytes(), bytes, &judged);
         if answer.is_success() {
-            queue.connect(entries, entry.connect_attributes() & NO_FLOW_CONTROL == 0);
+            let is_flow_control_disabled = entry.connect_attributes() & NO_FLOW_CONTROL != 0;
+            queue.responses.connected(entries - 1, is_flow_control_disabled);
             match queue.session.last() {
                 Live::Discovery => queue.discovery = Discovery::new(answer.dw0 as u16),
                 Live::Authenticating(index) => queue.proof = self.proof_of(data, index.into()).map(Box::new),
@@ -192,13 +193,22 @@ impl Target<'_> {
     }
 
     /// Property Set of CC. The queues of a controller end when it is reset.
-    fn configure(&mut self, index: usize, value: u32, io: IoConnections) -> Outcome<Answer> {
-        let entries = match &self.associations[index] {
-            Some(association) => association.admin_entries,
+    fn configure(
+        &mut self,
+        queue: &mut HostQueue,
+        index: usize,
+        value: u32,
+        io: IoConnections,
+    ) -> Outcome<Answer> {
+        let (entries, requests) = match &self.associations[index] {
+            Some(association) => (association.admin_entries, association.events.requests()),
             None => return Ok(Answer::of(COMMAND_SEQUENCE)),
         };
         self.say(format_args!("controller {}: CC {value:#x}", index + 1));
         if value & ENABLE == 0 {
+            requests.into_iter().for_each(|cid| {
+                queue.responses.forget(cid);
+            });
             self.forget_commands(index);
             self.effects.extend(io.into_iter().flatten().map(Effect::Close));
         }

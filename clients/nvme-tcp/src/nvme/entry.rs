@@ -1,7 +1,7 @@
-//! Queue entries, whose fields have the names of NVM Express Base, Submission Queue Entry and Completion Queue Entry.
+//! Queue entries, whose fields have the names of NVM Express Base, Submission Queue Entry.
 
 use crate::bytes::{put, u16_at, u32_at, u64_at};
-use crate::nvme::{COMPLETION, ENTRY};
+use crate::nvme::ENTRY;
 
 /// Offsets of fields. SGL 1 is where PRP 1 and PRP 2 are.
 const COMMAND_ID: usize = 2;
@@ -201,30 +201,6 @@ impl From<[u8; ENTRY]> for SubmissionEntry {
     }
 }
 
-/// The answer to a command, as a completion queue or a capsule has it. Fabrics has no phase tag.
-#[derive(Clone, Copy, Debug, PartialEq, Eq)]
-#[repr(transparent)]
-pub struct CompletionEntry([u8; COMPLETION]);
-
-impl CompletionEntry {
-    /// `sqhd` is the head of the submission queue, and `status` the status field.
-    #[inline]
-    pub fn new((dw0, dw1): (u32, u32), sqhd: u16, command_id: u16, status: u16) -> CompletionEntry {
-        let mut bytes = [0; COMPLETION];
-        put(&mut bytes, 0, &dw0.to_le_bytes());
-        put(&mut bytes, 4, &dw1.to_le_bytes());
-        put(&mut bytes, 8, &sqhd.to_le_bytes());
-        put(&mut bytes, 12, &command_id.to_le_bytes());
-        put(&mut bytes, 14, &status.to_le_bytes());
-        CompletionEntry(bytes)
-    }
-
-    #[inline]
-    pub fn bytes(&self) -> &[u8; COMPLETION] {
-        &self.0
-    }
-}
-
 #[cfg(test)]
 mod tests {
     use super::*;
@@ -263,11 +239,5 @@ mod tests {
         let mut it = SubmissionEntry::from([0xff; ENTRY]);
         it.use_prps();
         assert_eq!((it.psdt(), it.bytes()[1]), (0, 0x3f));
-    }
-
-    #[test]
-    fn completions() {
-        let it = CompletionEntry::new((0x0403_0201, 0x0807_0605), 0x0a09, 0x0e0d, 0x100f);
-        assert_eq!(*it.bytes(), [1, 2, 3, 4, 5, 6, 7, 8, 9, 10, 0, 0, 13, 14, 15, 16]);
     }
 }

@@ -1,5 +1,6 @@
-//! The statuses of completions, and which of them have Do Not Retry.
+//! The statuses of completions.
 
+use nvmesim::responses::status_field;
 use std::fmt;
 
 /// A Status Code Type and a Status Code.
@@ -61,21 +62,11 @@ impl fmt::Display for Status {
 }
 
 impl Status {
-    /// The field of a completion queue entry, its phase tag 0.
+    /// The field of a completion queue entry, its phase tag 0. All statuses have Do Not Retry unless the same command may
+    /// succeed later: Linux repeats a command without it five times, and a write that a preemption has aborted would then
+    /// be executed once its host has registered again.
     pub fn field(self) -> u16 {
-        let code = u16::from(self.sct) << 9 | u16::from(self.sc) << 1;
-        if self == SUCCESS || self.a_repeat_can_help() {
-            code
-        } else {
-            code | 1 << 15
-        }
-    }
-
-    /// Whether the same command may succeed later or by another path, before its host has done anything else. All
-    /// others have Do Not Retry: Linux repeats a command without it five times, and a write that a preemption has
-    /// aborted would then be executed once its host has registered again.
-    fn a_repeat_can_help(self) -> bool {
-        matches!(self, COMMAND_SEQUENCE | TRANSIENT_TRANSPORT | CONTROLLER_BUSY | INACCESSIBLE)
+        status_field(self.sct, self.sc)
     }
 }
 

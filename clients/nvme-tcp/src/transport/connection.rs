@@ -4,10 +4,11 @@ use crate::authentication::proving::goes_before_proof;
 use crate::authentication::Done;
 use crate::bytes::first;
 use crate::control::counters::Closing;
+use crate::control::log::warn;
 use crate::fabrics::association::HostQueue;
 use crate::fabrics::commands;
 use crate::fault::{Fault, Outcome};
-use crate::nvme::entry::{CompletionEntry, SubmissionEntry};
+use crate::nvme::entry::SubmissionEntry;
 use crate::nvme::status::{
     Status, AUTHENTICATION_REQUIRED, COMMAND_ID_CONFLICT, COMMAND_SEQUENCE, SUCCESS, TRANSIENT_TRANSPORT,
 };
@@ -22,6 +23,7 @@ use crate::transport::pointer::Pointer;
 use crate::transport::transfers::{Part, Transfers};
 use nvmesim::connection::{Connection as Framing, Stage, Verdict};
 use nvmesim::fabrics::Live;
+use nvmesim::responses::Reply;
 use std::io::{self, Read, Write};
 use std::mem;
 use std::net::{Shutdown, TcpStream};
@@ -248,11 +250,9 @@ impl Connection {
     /// A command. It is executed as soon as it has its data.
     fn capsule(&mut self, target: &mut Target<'_>, layout: &Layout, is_sound: bool, unit: &[u8]) -> Result<(), Stop> {
         let entry = SubmissionEntry::from(*first(&unit[COMMON..]));
-        self.queue.advance();
-        if self.transfers.count() >= usize::from(self.queue.entries) {
-            return Err(pdu::OUT_OF_SEQUENCE.into());
-        }
-        if let Some(status) = self.refusal(target, &entry, is_sound) {
+        let accepted = self.queue.responses.accept(entry.command_id());
+        let is_conflict = accepted.map_err(|_| pdu::OUT_OF_SEQUENCE)?;
+        if let Some(status) = self.refusal(&entry, is_sound, is_conflict) {
             return Ok(self.answer(target, &entry, Answer::of(status))?);
         }
         let data = pdu::data_in(layout, unit);
@@ -272,20 +272,13 @@ impl Connection {
     }
 
     /// Why a command is not looked at, if it is not.
-    fn refusal(&self, target: &Target<'_>, entry: &SubmissionEntry, is_sound: bool) -> Option<Status> {
-        let cid = entry.command_id();
-        let waits = match self.queue.session.last() {
-            Live::NotConnected if !commands::is_connect(entry) => return Some(COMMAND_SEQUENCE),
-            Live::Authenticating(_) if !goes_before_proof(entry) => return Some(AUTHENTICATION_REQUIRED),
-            Live::Queue { index, qid: 0 } => target.waits(index.into(), cid),
-            _ => false,
-        };
-        if !is_sound {
-            Some(TRANSIENT_TRANSPORT)
-        } else if waits || self.transfers.has(cid) || self.queue.proof.as_ref().map_or(false, |it| it.waits(cid)) {
-            Some(COMMAND_ID_CONFLICT)
-        } else {
-            None
+    fn refusal(&self, entry: &SubmissionEntry, is_sound: bool, is_conflict: bool) -> Option<Status> {
+        match self.queue.session.last() {
+            Live::NotConnected if !commands::is_connect(entry) => Some(COMMAND_SEQUENCE),
+            Live::Authenticating(_) if !goes_before_proof(entry) => Some(AUTHENTICATION_REQUIRED),
+            _ if !is_sound => Some(TRANSIENT_TRANSPORT),
+            _ if is_conflict => Some(COMMAND_ID_CONFLICT),
+            _ => None,
         }
     }
 
@@ -359,6 +352,10 @@ impl Connection {
     /// Answers a command: its data, and then its completion.
     pub fn answer(&mut self, target: &mut Target<'_>, entry: &SubmissionEntry, answer: Answer) -> Outcome<()> {
         let cid = entry.command_id();
+        let completion = match self.completion(cid, &answer) {
+            Some(completion) => completion,
+            None => return Ok(()),
+        };
         target.count(&self.queue, entry, answer.status);
         if answer.status != SUCCESS {
             target.say(format_args!("command {cid} has status {}", answer.status));
@@ -375,9 +372,21 @@ impl Connection {
                 pdu::controller_data(out, agreed, cid, length, |room| target.machine.load(cntlid, address, room))?;
             }
         }
-        let completion = CompletionEntry::new((answer.dw0, answer.dw1), self.queue.sqhd(), cid, answer.status.field());
-        pdu::response(&mut self.output, agreed, completion.bytes());
+        pdu::response(&mut self.output, agreed, &completion);
         Ok(())
+    }
+
+    /// The completion queue entry of an answer. There is none after a termination request; or if no such command waits:
+    /// that is a fault of the target, which ends the connection, since its host could take the answer for another's.
+    fn completion(&mut self, cid: u16, answer: &Answer) -> Option<[u8; 16]> {
+        let Status { sct, sc } = answer.status;
+        let completion = self.queue.responses.respond(&Reply { dw0: answer.dw0, dw1: answer.dw1, cid, sct, sc });
+        if completion.is_none() && self.closing != Some(Closing::Protocol) {
+            warn(format_args!("an answer to command {cid}, which does not wait for one, ends its connection"));
+            self.closing = Some(Closing::Fault);
+            self.end();
+        }
+        completion
     }
 
     /// Sends the termination request, which repeats the beginning of the PDU at fault, and ends.
@@ -386,6 +395,7 @@ impl Connection {
         self.closing = Some(Closing::Protocol);
         // Answers to commands precede it, and may be partly sent.
         pdu::termination(&mut self.output, fatal, self.framing.kept());
+        self.queue.responses.stop();
         self.end();
     }
 
@@ -393,6 +403,7 @@ impl Connection {
     /// target closed it while bytes of the host are in flight, its last answers would be lost.
     pub fn end(&mut self) {
         self.is_ending = true;
+        self.queue.responses.end();
         self.deadline = Some(Instant::now() + BEFORE_CLOSE);
     }
 

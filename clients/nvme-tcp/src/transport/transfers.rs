@@ -57,17 +57,6 @@ pub struct Transfers {
 }
 
 impl Transfers {
-    /// How many commands there are.
-    pub fn count(&self) -> usize {
-        self.active.iter().flatten().count() + self.waiting.len()
-    }
-
-    /// Whether one of them has this identifier.
-    pub fn has(&self, cid: u16) -> bool {
-        let waiting = self.waiting.iter().map(|(entry, _)| entry);
-        self.active.iter().flatten().map(|it| &it.entry).chain(waiting).any(|entry| u16_at(entry, 2) == cid)
-    }
-
     /// Takes a command that expects `length` bytes.
     pub fn begin(&mut self, entry: [u8; ENTRY], length: usize) {
         self.waiting.push_back((entry, length));
@@ -156,6 +145,6 @@ mod tests {
         assert_eq!(std::iter::from_fn(|| transfers.next_request()).count(), MOST_ACTIVE);
         assert!(transfers.take(&part(3, 0, &[0; 4], true)).unwrap().is_some());
         assert_eq!(transfers.next_request().map(|it| it.tag), Some(3));
-        assert_eq!(transfers.count(), 19);
+        assert_eq!(transfers.waiting.len(), 11);
     }
 }
