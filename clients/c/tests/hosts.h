@@ -48,5 +48,6 @@ void brought(void);
 /* Tests PDUs of NVMe/TCP. */
 void pdus(void);
 void connections(void);
+void responses(void);
 
 #endif

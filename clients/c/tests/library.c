@@ -443,6 +443,7 @@ int main(int count, char **words) {
     brought();
     pdus();
     connections();
+    responses();
     reservations();
     names();
     texts();

@@ -34,7 +34,7 @@ class Trial:
         self.prefix = room / "installed"
         self.archive = self.prefix / "lib" / "libnvmesim.a"
         self.sources = [self.clients / "tests" / f"{it}.c"
-                        for it in ("library", "needs", "brought", "pdus", "connections", "hosts")]
+                        for it in ("library", "needs", "brought", "pdus", "connections", "responses", "hosts")]
 
     def check(self, what, problem):
         if problem:
