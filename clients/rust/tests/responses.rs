@@ -41,8 +41,10 @@ fn heads_count_commands() {
 
 #[test]
 fn few_statuses_may_be_retried() {
-    let without: Vec<(u8, u8)> =
-        (0..8).flat_map(|sct| (0..=255).map(move |sc| (sct, sc))).filter(|it| status_field(it.0, it.1) < 0x8000).collect();
+    let without: Vec<(u8, u8)> = (0..8)
+        .flat_map(|sct| (0..=255).map(move |sc| (sct, sc)))
+        .filter(|it| status_field(it.0, it.1) < 0x8000)
+        .collect();
     assert_eq!(without, [(0, 0), (0, 0x0c), (0, 0x22), (1, 0x81), (3, 0x02)]);
     assert_eq!((status_field(0, 0x83), status_field(3, 0x02)), (0x8106, 0x0604));
 }

@@ -193,13 +193,7 @@ impl Target<'_> {
     }
 
     /// Property Set of CC. The queues of a controller end when it is reset.
-    fn configure(
-        &mut self,
-        queue: &mut HostQueue,
-        index: usize,
-        value: u32,
-        io: IoConnections,
-    ) -> Outcome<Answer> {
+    fn configure(&mut self, queue: &mut HostQueue, index: usize, value: u32, io: IoConnections) -> Outcome<Answer> {
         let (entries, requests) = match &self.associations[index] {
             Some(association) => (association.admin_entries, association.events.requests()),
             None => return Ok(Answer::of(COMMAND_SEQUENCE)),
