@@ -6,7 +6,7 @@ import socket
 import subprocess
 import time
 from pathlib import Path
-from typing import Sequence
+from typing import Optional, Sequence
 
 # The address at which a guest reaches the machine that it runs on.
 ADDRESS = "10.0.2.2"
@@ -20,10 +20,11 @@ class Guest:
     """One machine of one host, named by the first byte of its HOSTID. `run` types a line and waits for the prompt.
 
     `more` is for the kernel's command line, `archive` follows the initramfs, and `devices` are further words for QEMU.
+    From the state that is `saved` in a file it does not boot: its monitor continues it.
     """
 
     def __init__(self, built: Path, folder: Path, host: str, cpus: int = 1, more: str = "", archive: str = "",
-                 devices: Sequence[str] = ()) -> None:
+                 devices: Sequence[str] = (), saved: Optional[Path] = None) -> None:
         self.host = host
         self.console = open(folder / f"console-{host}.txt", "ab")
         initramfs = built / "initramfs.gz"
@@ -36,9 +37,12 @@ class Guest:
                  # no_timer_check: on a loaded machine the timer fails that check, and the kernel panics.
                  "console=ttyS0 panic=-1 quiet loglevel=7 mitigations=off random.trust_cpu=on no_timer_check "
                  f"suvmileh={host} {more}"]
+        words += ["-S", "-incoming", f"exec:cat {saved}"] if saved else []
         begun = time.monotonic()
         self.process = subprocess.Popen(words, stdin=subprocess.PIPE, stdout=subprocess.PIPE, bufsize=0)
         self.come = b""
+        if saved:
+            return
         booted = self.wait(BOOT)
         kernel = re.search(r"guest \w+ is up, (.*), ", booted)
         say(f"guest {host} is up, {kernel.group(1) if kernel else '?'}, after {time.monotonic() - begun:.0f} s")
@@ -96,8 +100,8 @@ class Guest:
         self.console.close()
 
 
-def ask_monitor(path: Path, lines: str, answer: bytes) -> None:
-    """Sends lines to a QEMU monitor, and waits for an answer to the last one."""
+def ask_monitor(path: Path, lines: str, answer: bytes) -> bytes:
+    """Sends lines to a QEMU monitor, and waits for an answer to the last one. Returns all that it has said."""
     with socket.socket(socket.AF_UNIX) as monitor:
         monitor.settimeout(LINE)
         monitor.connect(str(path))
@@ -106,6 +110,7 @@ def ask_monitor(path: Path, lines: str, answer: bytes) -> None:
         # QEMU drops the commands of a connection that is closed before they are executed.
         while answer not in come:
             come += monitor.recv(4096)
+        return come
 
 
 def say(text: str) -> None:

@@ -5,12 +5,13 @@ import threading
 import time
 from typing import Dict, List, Optional, Sequence, Tuple
 
+from linux.machines import SLOWER
 from tests.host import BLOCK, Ended, Host, Place, Queue
 
 # Reservation Conflict, and Command Aborted due to Preempt and Abort, both with Do Not Retry.
 CONFLICTS = (0x4083, 0x401b)
 # Seconds until a host gives a connection or a command up, and those between its commands.
-GIVE_UP, PAUSE = 1.0, 0.05
+GIVE_UP, PAUSE = 1.0 * SLOWER, 0.05
 
 
 class Expected:
@@ -87,15 +88,24 @@ class Writer(threading.Thread):
         """Whether a command that was sent after a moment has an answer."""
         return any(sent > begun for sent, _ in self.answers[-1:])
 
-    def longest(self, begun: float) -> float:
-        """The longest time between two answers, of which the second is after a moment."""
-        times = [answered for _, answered in list(self.answers)]
-        return max((later - earlier for earlier, later in zip(times, times[1:]) if later > begun), default=0.0)
+    def outage(self, begun: float) -> float:
+        """Seconds from a moment to the end of the longest time without an answer after it."""
+        times = [begun, *(answered for _, answered in list(self.answers) if answered > begun)]
+        return max(zip(times, times[1:]), key=lambda it: it[1] - it[0], default=(begun, begun))[1] - begun
 
     def close(self) -> None:
         self.is_closed = True
         self.join()
         self.drop()
+
+
+def is_served(place: Place) -> bool:
+    """Whether a target answers there."""
+    try:
+        Queue(place, timeout=GIVE_UP).close()
+        return True
+    except (Ended, OSError, AssertionError):
+        return False
 
 
 class Watch(threading.Thread):
@@ -111,12 +121,12 @@ class Watch(threading.Thread):
         while not self.is_closed:
             for name, place in self.places.items():
                 begun = time.monotonic()
-                try:
-                    Queue(place, timeout=GIVE_UP).close()
+                if is_served(place):
                     self.seen.append((begun, time.monotonic(), name))
-                except (Ended, OSError, AssertionError):
-                    pass
             time.sleep(PAUSE)
+
+    def has_seen(self, name: str) -> bool:
+        return any(it == name for _, _, it in list(self.seen))
 
     def close(self) -> None:
         self.is_closed = True

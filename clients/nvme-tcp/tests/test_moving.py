@@ -82,11 +82,14 @@ class Writers(TargetTest):
         self.assertFalse(writer.is_answered(time.monotonic()))
         self.wait_for(lambda: writer.is_answered(begun))
         writer.close()
-        gaps = [later - earlier for (_, earlier), (_, later) in zip(writer.answers, writer.answers[1:])]
-        self.assertEqual(writer.longest(0), max(gaps))
-        self.assertEqual(writer.longest(time.monotonic()), 0)
         self.assertEqual((writer.faults, writer.expected.faults(self.target.image.read_bytes())), ([], []))
         self.assertGreater(len(writer.expected.may), 1)
+
+    def test_an_outage(self) -> None:
+        """It ends after the longest time without an answer, and begins at the given moment."""
+        writer = Writer(self.target.port, 0xa1, range(8))
+        writer.answers = [(0, 1), (2, 3), (8, 9), (9, 9.5)]
+        self.assertEqual([writer.outage(it) for it in (0, 3.5, 9.25, 20)], [9, 5.5, 0.25, 0])
 
     def test_a_fenced_host(self) -> None:
         """Each answer must be a conflict: one that is not is a fault, and so is a conflict of one that is not fenced."""
@@ -111,4 +114,5 @@ class Writers(TargetTest):
         self.wait_for(lambda: len(watch.seen) > 3)
         watch.close()
         self.assertEqual(turns(watch.seen), ["t1"])
+        self.assertEqual((watch.has_seen("t1"), watch.has_seen("t2")), (True, False))
 
