@@ -14,6 +14,7 @@ import unittest
 from pathlib import Path
 from typing import Dict, List, Optional, Sequence, Tuple
 
+from examples.killed_worker import scene
 from nvmesim.explore import Explored, Limits, Plan, explore
 from nvmesim.explore.dask import DaskMissing, WorkerLacks, WorkersDied, explore_on_dask
 from nvmesim.explore.medium import MediumError
@@ -32,26 +33,6 @@ def python_with_dask() -> Optional[str]:
             if subprocess.run([python, "-c", "import distributed"], stderr=subprocess.DEVNULL).returncode == 0:
                 return python
     return None
-
-
-def scene(hosts: int, number: int) -> str:
-    """A scene whose hosts preempt each other and write, in a few seconds: the number distinguishes its data."""
-    numbers = range(1, hosts + 1)
-    lines = [*(f"controller {it} host 0xa{it}" for it in numbers), "namespace 1 blocks 64 shared",
-             *(f"attached {it} 1" for it in numbers), "start", *(f"up {it}" for it in numbers)]
-
-    def carry(it: int, line: str) -> None:
-        lines.extend([line, f"ring {it}", f"fetch {it} 1", f"execute {it} 0", f"poll {it}"])
-
-    for it in numbers:
-        carry(it, f"register {it} 1 0 0 0 0 0x1{it}")
-    carry(1, "acquire 1 1 0 1 0x11 0")
-    for it in numbers:
-        lines.append(f"# host h{it}")
-        requests = (f"write {it} 1 0 1 hex:{number}{it}", f"acquire {it} 1 2 1 0x1{it} 0x1{(it - 2) % hosts + 1}")
-        for line in requests if it % 2 else reversed(requests):
-            carry(it, line)
-    return "".join(f"{it}\n" for it in lines)
 
 
 class Future:
@@ -199,6 +180,13 @@ class RealClusterTest(FolderCase):
     def test_a_worker_that_dies_costs_only_its_task(self) -> None:
         alone, found = self.killed_one()
         self.assertEqual(found[:2], alone[:2], found[2])
+
+    def test_the_example(self) -> None:
+        """It shows the killed worker, and each scene's report."""
+        words = [str(python_with_dask()), str(RACE.parent / "killed_worker.py"), "4", "2", "2"]
+        ran = subprocess.run(words, env=self.environment, stdout=subprocess.PIPE, text=True, timeout=300)
+        self.assertEqual(ran.returncode, 0, ran.stdout)
+        self.assertEqual([ran.stdout.count(it) for it in ("$ kill -KILL $w0\n", " outcomes\n", "# status 0, ")], [1, 2, 1])
 
     def test_a_task_whose_workers_died_is_named(self) -> None:
         """It may be another task's too that waits for that worker."""
