@@ -4,7 +4,8 @@
 use crate::chance::Random;
 
 /// The kinds.
-pub const HABITS: [&str; 9] = ["admin", "attach", "protect", "visit", "err", "operator", "option", "memory", "tool"];
+pub const HABITS: [&str; 11] =
+    ["admin", "attach", "protect", "visit", "err", "type", "operator", "option", "memory", "tool", "fail"];
 
 #[derive(Clone, Copy, Debug, Default)]
 pub struct Habits {
@@ -18,6 +19,8 @@ pub struct Habits {
     pub errs: u64,
     /// Whether completions have SQHD.
     pub has_flow: bool,
+    /// The type of reservations.
+    pub reservation: u32,
 }
 
 /// How targets are started, besides their source.
@@ -39,6 +42,8 @@ pub struct Manner {
     pub words: Vec<&'static str>,
     /// Operators ask control lines.
     pub is_asked: bool,
+    /// The disk fails often, and the files of the kept run and connections now and then.
+    pub fails: bool,
     /// At the end command lines are run that serve nothing.
     pub uses_tools: bool,
 }
@@ -71,6 +76,7 @@ impl Manner {
             name: has("option", 2).then_some("nqn.2024-01.example:another"),
             advertised: has("option", 3).then_some("10.1.2.3:4444"),
             is_asked: has("operator", 7),
+            fails: has("fail", 1),
             uses_tools: has("tool", 3),
         }
     }
@@ -81,7 +87,7 @@ impl Habits {
         let mut random = Random::new(seed.wrapping_mul(0x9e6c_63d0_876a_68e1));
         let mut has = |kind: &str, of_twelve: u64| chosen(&mut random, without, kind, of_twelve);
         let (has_admin, attaches, protects) = (has("admin", 9), has("attach", 4), has("protect", 3));
-        let (visits, errs) = (has("visit", 8), has("err", 8));
+        let (visits, errs, reserves) = (has("visit", 8), has("err", 8), has("type", 4));
         let often = [10, 40, 200][random.index(3)];
         Habits {
             admin: if has_admin { often } else { 0 },
@@ -90,6 +96,7 @@ impl Habits {
             visits: if visits { [1, 3][random.index(2)] } else { 0 },
             errs: if errs { [8, 60][random.index(2)] } else { 0 },
             has_flow: !random.once_in(3),
+            reservation: if reserves { random.within(2, 6) as u32 } else { 1 },
         }
     }
 }

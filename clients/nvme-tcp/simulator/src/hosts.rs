@@ -184,6 +184,9 @@ impl Path {
         }
         // Its association has ended, and with it all of its commands.
         check(|it| it.bound(Some(self.cntlid)));
+        if once_in(self.habits.admin) {
+            admin::be_early(&mut admin)?;
+        }
         admin.set_property(CC, ENABLE)?;
         if admin.property(CSTS)?.value & 1 == 0 {
             return Err(Lost::Ended);
@@ -346,6 +349,9 @@ impl Session<'_> {
     }
 
     fn issue(&mut self) -> Result<(), Lost> {
+        if self.path.lies && once_in(600 * self.path.habits.errs) {
+            return self.flood();
+        }
         if once_in(self.path.habits.errs) {
             let (command, act) = self.path.choose_wrong();
             self.may_end |= command.breach != Breach::None;
@@ -353,6 +359,16 @@ impl Session<'_> {
         }
         let (command, act) = self.path.choose();
         self.send(&command, act)
+    }
+
+    /// More commands whose data never come than the queue has entries: the target ends the connection.
+    fn flood(&mut self) -> Result<(), Lost> {
+        self.may_end = true;
+        for _ in 0..34 {
+            let (command, act) = self.path.unanswered();
+            self.send(&command, act)?;
+        }
+        Ok(())
     }
 
     fn send(&mut self, command: &Command, act: Act) -> Result<(), Lost> {

@@ -26,6 +26,7 @@ mod run;
 mod scenario;
 mod shadow;
 mod shrinking;
+mod starts;
 mod superblock;
 mod supervisor;
 mod tools;

@@ -94,7 +94,7 @@ fn name(told: &Told) -> String {
     };
     let value = told.value.filter(|_| io == "Write" || io == "Compare");
     let value = value.map_or(String::new(), |it| format!(", values from {it:#x} ({it})"));
-    format!("{io} of blocks {} to {}{value}", told.slba, told.slba + told.count.saturating_sub(1))
+    format!("{io} of blocks {} to {}{value}", told.slba, told.slba.saturating_add(told.count.saturating_sub(1)))
 }
 
 fn touches(told: &Told, block: u64) -> bool {

@@ -164,6 +164,7 @@ impl Scenario {
         };
         manner.is_memory &= !is_volume && blocks <= MOST_IN_MEMORY;
         manner.binds &= paths.len() < MOST_CONTROLLERS;
+        let keeps_run = if manner.fails { chances.fail(seed) } else { keeps_run };
         for path in &mut paths {
             (path.habits, path.advertised) = (habits, manner.advertised);
             path.name = manner.name.unwrap_or(NAME);
@@ -199,6 +200,7 @@ impl Scenario {
             failed_sync: disk(random, 1_000),
             short: [0, 3, 50][random.index(3)],
             yields: [0, 2, 10][random.index(3)],
+            ..Chances::default()
         }
     }
 

@@ -7,6 +7,7 @@ pub mod io;
 pub mod memory;
 pub mod net;
 pub mod os;
+pub mod proc;
 pub mod process;
 pub mod sync;
 pub mod system;

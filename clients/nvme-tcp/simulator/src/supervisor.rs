@@ -64,7 +64,7 @@ fn recording_of(script: &str) -> String {
 
 /// The injected faults that may end a target.
 fn faults(world: &World) -> u64 {
-    ["failed read", "failed write", "failed sync"].iter().filter_map(|it| world.injected.get(it)).sum()
+    ["failed read", "failed write", "failed sync", "failed output"].iter().filter_map(|it| world.injected.get(it)).sum()
 }
 
 impl Supervisor {
@@ -136,6 +136,12 @@ impl Supervisor {
             list.extend(["--state", "/state", CONFIG]);
         }
         words(&list)
+    }
+
+    /// The recording of the target that runs.
+    pub fn recording(&self) -> Option<String> {
+        let records = self.scenario.keeps_run && self.scenario.manner.records;
+        self.running.first().filter(|_| records).map(|it| recording_of(&it.script))
     }
 
     /// Starts a target on a machine, and waits until it serves or ends.

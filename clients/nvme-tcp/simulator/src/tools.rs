@@ -3,6 +3,7 @@
 use crate::ending::has_ended;
 use crate::hosts::checker::check;
 use crate::hosts::pdu::digest;
+use crate::starts::{self, Started};
 use crate::supervisor::{words, Act, Supervisor, CONFIG, DEVICE, IMAGE};
 use crate::world::disk::Kind;
 use crate::world::{self, with, Chances, Outcome, World, MILLISECOND, SECOND};
@@ -11,8 +12,8 @@ use std::path::Path;
 /// How long a command line may take.
 const LONGEST: u64 = 60 * SECOND;
 /// Exit statuses.
-const REFUSED: u8 = 1;
-const FAILED: u8 = 2;
+pub const REFUSED: u8 = 1;
+pub const FAILED: u8 = 2;
 const BAD: u8 = 3;
 /// The size of a superblock, and the places of its copies and of the journal in a volume.
 const PAGE: usize = 4096;
@@ -22,12 +23,12 @@ const JOURNAL: usize = 128 << 10;
 const VERSION_AT: usize = 16;
 const DIGEST_AT: usize = 20;
 
-fn complain(text: String) {
+pub fn complain(text: String) {
     check(|it| it.violate(text));
 }
 
 /// Runs a command line to its end, on a machine whose disks do not fail meanwhile: how it ended, and what it said.
-fn run(act: Act, machine: usize, list: &[&str]) -> Option<(Outcome, String)> {
+pub fn run(act: Act, machine: usize, list: &[&str]) -> Option<(Outcome, String)> {
     let (given, chances) = (words(list), with(|it| std::mem::take(&mut it.chances)));
     let process = world::start_process(machine, "tool", move || act(given));
     let end = with(|it| it.now) + LONGEST;
@@ -51,7 +52,7 @@ fn run(act: Act, machine: usize, list: &[&str]) -> Option<(Outcome, String)> {
 }
 
 /// A command line ends with this status.
-fn expect(act: Act, list: &[&str], status: u8) -> String {
+pub fn expect(act: Act, list: &[&str], status: u8) -> String {
     let (outcome, said) = match run(act, 0, list) {
         Some(ended) => ended,
         None => return String::new(),
@@ -83,7 +84,7 @@ pub fn expand(act: Act, recording: &str, script: &str, is_whole: bool) {
 }
 
 /// Writes a file.
-fn put(path: &str, kind: Kind, bytes: &[u8]) {
+pub fn put(path: &str, kind: Kind, bytes: &[u8]) {
     with(|world| {
         let inode = world.disks.create(Path::new(path), kind);
         world.disks.inodes[inode].set_length(bytes.len());
@@ -91,12 +92,12 @@ fn put(path: &str, kind: Kind, bytes: &[u8]) {
     });
 }
 
-fn content(path: &str) -> Vec<u8> {
+pub fn content(path: &str) -> Vec<u8> {
     with(|it| it.disks.content(path))
 }
 
 /// Changes bytes of a file.
-fn patch(path: &str, place: usize, bytes: &[u8]) {
+pub fn patch(path: &str, place: usize, bytes: &[u8]) {
     with(|world| {
         if let Some(inode) = world.disks.find(Path::new(path)) {
             world.disks.inodes[inode].write(place, bytes);
@@ -110,6 +111,7 @@ pub fn use_all(supervisor: &mut Supervisor) {
     let act = supervisor.act;
     put("/etc/wrong", Kind::File, b"controller 1 host x\n");
     put("/etc/uuid", Kind::File, b"controller 1 host a1000000-0000-0000-0000-000000000000\n");
+    put("/etc/strange", Kind::File, b"controller 1 host 0xa1\nbogus 1\n");
     put("/etc/large", Kind::File, b"controller 1 host 0xa1\nnamespace 1 blocks 1000000 shared\nattached 1 1\n");
     put("/some", Kind::File, &[7; PAGE]);
     use_options(act);
@@ -117,17 +119,22 @@ pub fn use_all(supervisor: &mut Supervisor) {
     use_volumes(act);
     damage_volumes(act);
     expand_wrong(act);
-    rivals(supervisor);
+    starts::use_all(act);
+    if check(|it| it.violations.is_empty()) {
+        rivals(supervisor);
+    }
 }
 
 /// Command lines that are wrong, or print something and end.
 fn use_options(act: Act) {
-    let lines: [(&[&str], u8); 33] = [
+    let lines: [(&[&str], u8); 35] = [
         (&["--help"], 0),
         (&["--version"], 0),
+        (&["--where"], 0),
         (&["--check", CONFIG], 0),
         (&["--check", "/etc/wrong"], REFUSED),
         (&["--check", "/etc/uuid"], REFUSED),
+        (&["--check", "/etc/strange"], REFUSED),
         (&["--check", "/etc/none"], FAILED),
         (&["--check"], BAD),
         (&[], BAD),
@@ -166,7 +173,7 @@ fn use_options(act: Act) {
 fn use_outputs(act: Act) {
     put("/run/there", Kind::File, b"x");
     put("/run/halved.out", Kind::File, b"x");
-    let lines: [(&[&str], u8); 7] = [
+    let lines: [(&[&str], u8); 6] = [
         (&["--script", CONFIG, CONFIG], FAILED),
         (&["--script", "/run/there", CONFIG], FAILED),
         (&["--record", "/run/there", CONFIG], FAILED),
@@ -268,10 +275,11 @@ fn expand_wrong(act: Act) {
     put("/run/newer", Kind::File, &[&head[..], b"2\n"].concat());
     put("/run/strange", Kind::File, &[&head[..], b"-1\n"].concat());
     put("/run/short", Kind::File, &[&head[..], b"1\n"].concat());
-    let lines: [(&[&str], u8); 8] = [
+    let lines: [(&[&str], u8); 9] = [
         (&["expand"], BAD),
         (&["expand", "--bogus", "/run/newer"], BAD),
         (&["expand", "/run/none"], FAILED),
+        (&["expand", "/etc"], FAILED),
         (&["expand", CONFIG], REFUSED),
         (&["expand", "/run/newer"], REFUSED),
         (&["expand", "/run/strange"], REFUSED),
@@ -318,5 +326,30 @@ fn rivals(supervisor: &mut Supervisor) {
     for (list, status) in lines {
         expect(act, list, status);
     }
+    expand_again(act, supervisor.recording());
+    let list = if scenario.is_volume { vec![DEVICE] } else { vec!["--state", "/state", CONFIG] };
+    let heir = Started::begin(act, 0, &[&["--listen", &address, "--wait"], &list[..]].concat());
+    world::pause(SECOND);
     supervisor.end(0);
+    if heir.serves() {
+        heir.end();
+    }
+}
+
+/// A recording is printed, and is refused if it is damaged or cut.
+fn expand_again(act: Act, recording: Option<String>) {
+    let recording = match recording {
+        Some(path) if !content(&path).is_empty() => path,
+        _ => return,
+    };
+    expect(act, &["expand", &recording, &recording], FAILED);
+    let bytes = content(&recording);
+    run(act, 0, &["expand", &recording]);
+    put("/run/cut", Kind::File, &bytes[..bytes.len() - 1]);
+    expect(act, &["expand", "/run/cut", "/run/cut.nvme"], REFUSED);
+    expect(act, &["expand", "/run/cut", "/run/cut.nvme", "--force"], REFUSED);
+    let mut damaged = bytes;
+    damaged[40] ^= 1;
+    put("/run/damaged", Kind::File, &damaged);
+    expect(act, &["expand", "--transcript", "/run/damaged", "/run/damaged.nvme"], REFUSED);
 }

@@ -87,8 +87,24 @@ pub struct Chances {
     pub failed_write: u64,
     pub failed_sync: u64,
     pub short: u64,
+    /// A write into a kept run, and a connection that is accepted.
+    pub failed_output: u64,
+    pub failed_accept: u64,
     /// A switch to another fiber when none is necessary.
     pub yields: u64,
+}
+
+impl Chances {
+    /// Failures are frequent: of the disk, or of the kept run. Whether there is one.
+    pub fn fail(&mut self, seed: u64) -> bool {
+        self.failed_accept = 20;
+        if seed % 3 == 0 {
+            self.failed_output = 500;
+            return true;
+        }
+        (self.failed_read, self.failed_write, self.failed_sync) = (60, 200, 200);
+        false
+    }
 }
 
 pub struct World {

@@ -1,7 +1,7 @@
 //! Admin commands of a session, and what their answers may be.
 
 use super::checker::check;
-use super::queue::{Command, Completion, Lost, Pointer};
+use super::queue::{Command, Completion, Lost, Pointer, Queue};
 use super::{below, Session, CC, CSTS, ENABLE, KEEP_ALIVE};
 use crate::world::{with, MILLISECOND};
 use std::collections::BTreeMap;
@@ -17,6 +17,7 @@ pub const INVALID_FIELD: u16 = 0x02;
 pub const ID_CONFLICT: u16 = 0x03;
 pub const DATA_TRANSFER: u16 = 0x04;
 pub const INVALID_NAMESPACE: u16 = 0x0b;
+pub const SEQUENCE: u16 = 0x0c;
 pub const SGL_LENGTH: u16 = 0x0f;
 pub const SGL_TYPE: u16 = 0x11;
 pub const SGL_OFFSET: u16 = 0x16;
@@ -229,6 +230,10 @@ impl Session<'_> {
         if self.path.habits.protects {
             self.unprotect()?;
         }
+        if self.path.habits.admin != 0 && below(2) == 0 {
+            self.await_events()?;
+            self.request_event()?;
+        }
         Ok(())
     }
 
@@ -261,6 +266,16 @@ impl Session<'_> {
         };
         self.expect(&command, &[wanted]).map(|_| ())
     }
+}
+
+/// A command before the controller is enabled.
+pub fn be_early(admin: &mut Queue) -> Result<(), Lost> {
+    let command = Command { opcode: 0x06, words: words(&[1]), length: 4096, ..Command::default() };
+    let given = admin.call(&command)?.status;
+    if given == SEQUENCE {
+        return Ok(());
+    }
+    Err(Lost::Broken(format!("Identify of a controller that is not enabled has status {given:x}")))
 }
 
 /// A command without its data, for a message.

@@ -112,18 +112,21 @@ impl Path {
 
     fn choose_reserve(&self) -> (Command, Act) {
         let (key, other) = (key_of(self.host), below(self.hosts));
+        // Types 1 and 2 let the holder alone write, the others all registrants.
+        let kind = self.habits.reservation;
+        let is_exclusive = kind <= 2;
         let (opcode, word, keys, act) = match below(14) {
             0..=3 => {
                 let persists = if self.persists { PERSISTS } else { IS_LOST };
                 (REGISTER, persists | ANY_KEY, vec![0, key], Act::Register)
             }
-            4..=5 => (ACQUIRE, 1 << 8, vec![key, 0], Act::Reserve { takes: true, from: None }),
+            4..=5 => (ACQUIRE, kind << 8, vec![key, 0], Act::Reserve { takes: is_exclusive, from: None }),
             // It takes the reservation only if the other has it.
             6..=7 => {
-                let takes = check(|it| it.holder()) == Some(other) && other != self.host;
-                (ACQUIRE, 1 | 1 << 8, vec![key, key_of(other)], Act::Reserve { takes, from: Some(other) })
+                let takes = is_exclusive && check(|it| it.holder()) == Some(other) && other != self.host;
+                (ACQUIRE, 1 | kind << 8, vec![key, key_of(other)], Act::Reserve { takes, from: Some(other) })
             }
-            8 => (RELEASE, 1 << 8, vec![key], Act::Reserve { takes: false, from: None }),
+            8 => (RELEASE, kind << 8, vec![key], Act::Reserve { takes: false, from: None }),
             9..=10 => (REGISTER, 1, vec![key, 0], Act::Unregister),
             _ => return report(),
         };

@@ -74,6 +74,13 @@ impl Session<'_> {
         }
     }
 
+    /// All notices are sent.
+    pub fn await_events(&mut self) -> Result<(), Lost> {
+        self.expect(&set(EVENTS, 0, 0x900), &[SUCCESS])?;
+        self.known.features.insert((EVENTS, 0), 0x900);
+        Ok(())
+    }
+
     /// Whether the target has a feature: no write cache if writes are written through.
     fn has(&self, fid: u8) -> bool {
         fid != CACHE || !check(|it| it.writes_through)

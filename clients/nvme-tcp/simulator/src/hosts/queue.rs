@@ -73,6 +73,8 @@ pub enum Breach {
     TooMany,
     EarlyLast,
     NoLast,
+    /// None is sent.
+    Silence,
 }
 
 /// PSDT, and a descriptor of an SGL.
@@ -296,6 +298,9 @@ impl Queue {
         let (cid, tag) = (u16_at(unit, 8), u16_at(unit, 10));
         let (start, count) = (u32_at(unit, 12) as usize, u32_at(unit, 16) as usize);
         let (data, is_spoiled, breach) = self.going.get(&cid).cloned().unwrap_or_default();
+        if breach == Breach::Silence {
+            return Ok(());
+        }
         if start + count > data.len() {
             return Err(Lost::Broken("R2T for data that there are not".to_owned()));
         }

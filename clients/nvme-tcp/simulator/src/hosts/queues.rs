@@ -1,10 +1,14 @@
 //! Queues of a session that end while it continues, or end it.
 
 use super::admin::Known;
-use super::checker::check;
+use super::checker::{check, Act};
 use super::queue::{Command, Lost, Queue};
-use super::{below, now, was_stopped, Session, CC, CSTS, ENABLE, KEEP_ALIVE, REFUSALS};
+use super::{below, now, was_stopped, Session, CC, CSTS, ENABLE, KEEP_ALIVE, READ, REFUSALS};
 use crate::world::{self, MILLISECOND, SECOND};
+
+/// CC with a normal shutdown, and the status of a command that comes out of turn.
+const SHUTDOWN: u64 = 1 << 14;
+const SEQUENCE: u16 = 0x0c;
 
 impl Session<'_> {
     /// Ends a queue in one of several ways; whether the session continues.
@@ -14,10 +18,11 @@ impl Session<'_> {
                 self.receive()?;
             }
         }
-        match below(4) {
+        match below(5) {
             0 => self.disconnect()?,
             1 => self.drop_queue()?,
             2 => self.reset()?,
+            3 => self.shut_down()?,
             _ => {
                 self.leave_admin()?;
                 return Ok(false);
@@ -96,6 +101,36 @@ impl Session<'_> {
         }
         drop(self.replace(io));
         Ok(())
+    }
+
+    /// Shuts the controller down, which takes no commands then, and resets it.
+    fn shut_down(&mut self) -> Result<(), Lost> {
+        while !self.open.is_empty() {
+            self.receive()?;
+        }
+        self.admin.set_property(CC, ENABLE | SHUTDOWN)?;
+        let state = self.admin.property(CSTS)?.value;
+        if state & 0xc != 8 {
+            self.complain(&format!("CSTS is {state:#x} after a shutdown"));
+        }
+        let identify = Command { opcode: 0x06, words: vec![1, 0, 0, 0], length: 4096, ..Command::default() };
+        for _ in 0..2 {
+            let read = Command { opcode: READ, nsid: 1, words: vec![0; 12], length: 512, ..Command::default() };
+            self.send(&read, Act::Wrong { wanted: vec![SEQUENCE] })?;
+            self.receive()?;
+            self.expect(&identify, &[SEQUENCE])?;
+        }
+        self.admin.set_property(CC, 0)?;
+        self.admin.requests.clear();
+        self.drain()?;
+        // No page of 4 KiB: a fatal status.
+        self.admin.set_property(CC, 1)?;
+        let state = self.admin.property(CSTS)?.value;
+        if state & 2 == 0 {
+            self.complain(&format!("CSTS is {state:#x} after CC that is refused"));
+        }
+        self.expect(&identify, &[SEQUENCE])?;
+        self.reset()
     }
 
     /// Closes the connection of the admin queue: that of the I/O queue ends too.

@@ -24,6 +24,7 @@ const INVALID_FIELD: u16 = 0x02;
 const SEQUENCE: u16 = 0x0c;
 const INVALID_PAGE: u16 = 0x109;
 const FORMAT: u16 = 0x180;
+const BUSY: u16 = 0x181;
 const PARAMETERS: u16 = 0x182;
 const HOST: u16 = 0x184;
 /// A host that no controller has, and one that may only come from elsewhere.
@@ -130,7 +131,7 @@ impl Path {
         }
         let good = self.connect_of(0, 0);
         let long = "n".repeat(256);
-        let (connect, wanted) = match below(14) {
+        let (connect, wanted) = match below(15) {
             0 => (Connect { host: one_of(&[UNKNOWN_HOST, 0]), ..good }, HOST),
             1 => (Connect { host: HOST_OF_ELSEWHERE, cntlid: 0xffff, ..good }, HOST),
             2 => (Connect { subsystem: format!("{}x", self.name), ..good }, PARAMETERS),
@@ -144,6 +145,7 @@ impl Path {
             10 => (Connect { qid: one_of(&[5, 0xffff]), ..good }, 0),
             11 => (Connect { qid: 2, cntlid: 77, ..good }, 0),
             12 => (Connect { qid: 1, subsystem: DISCOVERY.to_owned(), ..good }, 0),
+            13 => return self.take_another(&mut queue),
             _ => (Connect { attributes: 0xff, format: 7, ..good }, 0),
         };
         let given = queue.connect(&connect)?.status;
@@ -151,6 +153,16 @@ impl Path {
             return broken(&format!("{connect:?} has status {given:x}, not {wanted:x}"));
         }
         Ok(())
+    }
+
+    /// Connects to the neighbour of its controller, which may be of another host, or in use.
+    fn take_another(&self, queue: &mut Queue) -> Result<(), Lost> {
+        let cntlid = one_of(&[0xffff, (self.cntlid - 1 ^ 1) + 1]);
+        let given = queue.connect(&Connect { cntlid, ..self.connect_of(0, 0) })?.status;
+        if [SUCCESS, PARAMETERS, BUSY].contains(&given) {
+            return Ok(());
+        }
+        broken(&format!("Connect to controller {cntlid} has status {given:x}"))
     }
 
     /// More connections than a target keeps that are no queue: it closes the oldest, and serves the newest.

@@ -131,6 +131,12 @@ impl Path {
         (Command { opcode: 0x7f, form, words: list, ..Command::default() }, wanted)
     }
 
+    /// A Compare beyond the end, whose data never come.
+    pub fn unanswered(&self) -> (Command, Act) {
+        let command = Command { breach: Breach::Silence, data: vec![7; 20_480], ..self.on_blocks(COMPARE, self.blocks as u64, 40) };
+        (command, Act::Wrong { wanted: vec![OUT_OF_RANGE] })
+    }
+
     /// A Compare beyond the end, whose data break a rule of the transport. The connection ends.
     fn choose_breach(&self) -> (Command, Act) {
         let breach = one_of(&[Breach::Command, Breach::Tag, Breach::Offset, Breach::TooMany, Breach::EarlyLast]);

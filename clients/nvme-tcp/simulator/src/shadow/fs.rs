@@ -11,8 +11,11 @@ use ::std::sync::Arc;
 /// O_DIRECT, and the kernel's page.
 const DIRECT: i32 = 0o40_000;
 const PAGE: usize = 4096;
-/// EIO.
+/// O_EXCL of a block device; EIO, EBUSY and EISDIR.
+const ALONE: i32 = 0o200;
 const INPUT_OUTPUT: i32 = 5;
+const BUSY: i32 = 16;
+const IS_FOLDER: i32 = 21;
 
 /// An open file. Copies of it share it.
 struct Open {
@@ -108,6 +111,9 @@ impl Open {
         let _call = Call::begin(if is_medium { &MEDIUM } else { &CACHED });
         with(|world| {
             let (fails, short) = (world.chances.failed_read, world.chances.short);
+            if world.disks.inodes[self.inode].kind == Kind::Folder {
+                return Err(io::Error::from_raw_os_error(IS_FOLDER));
+            }
             if is_medium && world.happens("failed read", fails) {
                 return Err(failed());
             }
@@ -132,6 +138,10 @@ impl Open {
         let count = with(|world| {
             let (fails, short) = (world.chances.failed_write, world.chances.short);
             if is_medium && world.happens("failed write", fails) {
+                return Err(failed());
+            }
+            let fails = world.chances.failed_output;
+            if world.disks.inodes[self.inode].is_kept_run && world.happens("failed output", fails) {
                 return Err(failed());
             }
             // One in which the process is stopped may have written a part.
@@ -344,7 +354,7 @@ impl OpenOptions {
         let path = path.as_ref();
         with(|world| {
             let by = (world.machine(), world.process());
-            let text = made_up(world, path, by.0);
+            let text = super::proc::text_of(world, path, by.0);
             let inode = match world.disks.find(path) {
                 _ if text.is_some() => 0,
                 Some(_) if self.create_new => return Err(ErrorKind::AlreadyExists.into()),
@@ -352,6 +362,9 @@ impl OpenOptions {
                 None if self.create || self.create_new => world.disks.create(path, Kind::File),
                 None => return Err(not_found()),
             };
+            if self.flags & ALONE != 0 && world.disks.inodes[inode].is_mounted {
+                return Err(io::Error::from_raw_os_error(BUSY));
+            }
             if self.truncate {
                 world.disks.inodes[inode].set_length(0);
             }
@@ -360,19 +373,6 @@ impl OpenOptions {
             Ok(File(Arc::new(Shared(Open { inode, number: world.disks.open(), by, is_direct, appends, place, text }))))
         })
     }
-}
-
-/// Files of /proc, of a machine.
-fn made_up(world: &world::World, path: &Path, machine: usize) -> Option<Vec<u8>> {
-    let boots = world.boots.get(&machine).copied().unwrap_or(1);
-    let text = match path.to_str()? {
-        "/proc/sys/kernel/random/boot_id" => format!("{:08x}-0000-4000-8000-{:012x}\n", machine + 1, boots),
-        "/proc/sys/kernel/hostname" => format!("machine{machine}\n"),
-        "/proc/locks" => world.disks.locks(machine),
-        it if it.starts_with("/proc/") && it.ends_with("/comm") => "nvmetcp\n".to_owned(),
-        _ => return None,
-    };
-    Some(text.into_bytes())
 }
 
 #[derive(Clone, Debug)]
@@ -386,11 +386,11 @@ pub struct Metadata {
 pub struct FileType(pub(super) Kind);
 
 #[derive(Clone, Copy, Debug)]
-pub struct Permissions;
+pub struct Permissions(bool);
 
 impl Permissions {
     pub fn readonly(&self) -> bool {
-        false
+        self.0
     }
 }
 
@@ -421,7 +421,7 @@ impl Metadata {
     }
 
     pub fn permissions(&self) -> Permissions {
-        Permissions
+        Permissions(with(|it| it.disks.inodes[self.inode].is_fixed))
     }
 
     pub fn created(&self) -> io::Result<super::time::SystemTime> {

@@ -7,6 +7,9 @@ use ::std::collections::VecDeque;
 use ::std::io::{self, ErrorKind, Read, Write};
 pub use ::std::net::*;
 
+/// EMFILE.
+const TOO_MANY_FILES: i32 = 24;
+
 /// One side of a connection.
 #[derive(Debug)]
 pub(super) struct Socket {
@@ -230,8 +233,15 @@ impl Ear {
     }
 
     pub fn accept(&self) -> io::Result<Socket> {
-        let name = with(|it| it.net.listening.get_mut(&self.name).and_then(|it| it.waiting.pop_front()));
-        name.map(|name| Socket { name }).ok_or_else(|| ErrorKind::WouldBlock.into())
+        with(|world| {
+            let waits = world.net.listening.get(&self.name).map_or(false, |it| !it.waiting.is_empty());
+            let fails = world.chances.failed_accept;
+            if waits && world.happens("failed accept", fails) {
+                return Err(io::Error::from_raw_os_error(TOO_MANY_FILES));
+            }
+            let name = world.net.listening.get_mut(&self.name).and_then(|it| it.waiting.pop_front());
+            name.map(|name| Socket { name }).ok_or_else(|| ErrorKind::WouldBlock.into())
+        })
     }
 }
 

@@ -12,6 +12,7 @@ pub mod unix {
 
         use crate::shadow::fs::{DirBuilder, File, FileType, Metadata, OpenOptions};
         use crate::world::disk::Kind;
+        use crate::world::with;
         use ::std::io::{self, ErrorKind};
 
         pub trait FileExt {
@@ -93,7 +94,9 @@ pub mod unix {
             }
 
             fn mode(&self) -> u32 {
-                if self.kind == Kind::Folder {
+                if with(|it| it.disks.inodes[self.inode].is_open) {
+                    0o40_777
+                } else if self.kind == Kind::Folder {
                     0o40_700
                 } else {
                     0o100_600

@@ -28,7 +28,11 @@ pub struct Inode {
     next: u64,
     pub has_name: bool,
     /// It is never looked at after a power cut, so its writes are not kept.
-    is_kept_run: bool,
+    pub is_kept_run: bool,
+    /// It can't be written, a file system on it is mounted, and a folder is open to all.
+    pub is_fixed: bool,
+    pub is_mounted: bool,
+    pub is_open: bool,
 }
 
 impl Inode {
@@ -41,6 +45,9 @@ impl Inode {
             next: 0,
             has_name: true,
             is_kept_run: false,
+            is_fixed: false,
+            is_mounted: false,
+            is_open: false,
         }
     }
 
