@@ -36,7 +36,7 @@ const ENABLE: u64 = 0x46_0001;
 const CC: u32 = 0x14;
 const CSTS: u32 = 0x1c;
 /// Status of a command on a namespace that is detached.
-const DETACHED: u16 = 0x0b;
+const DETACHED: u16 = 0x02;
 /// How long a target may refuse a path whose last connections have ended.
 const REFUSALS: u64 = 20 * SECOND;
 /// After this time an end of a connection has a reason that others know too.

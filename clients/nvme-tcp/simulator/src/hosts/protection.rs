@@ -5,9 +5,9 @@ use super::history::Block;
 use super::queue::Completion;
 use crate::world::with;
 
-/// Statuses that any command of I/O may have: aborted, not attached, aborted by preemption, write protected,
-/// Transient Transport Error, Reservation Conflict, and inaccessible.
-const DENIALS: [u16; 7] = [0x07, 0x0b, 0x1b, 0x20, 0x22, 0x83, 0x302];
+/// Statuses that any command of I/O may have: not attached, aborted, aborted by preemption, write protected, Transient
+/// Transport Error, Reservation Conflict, and inaccessible.
+const DENIALS: [u16; 7] = [0x02, 0x07, 0x1b, 0x20, 0x22, 0x83, 0x302];
 
 /// Commands that change the write protection.
 #[derive(Default)]
