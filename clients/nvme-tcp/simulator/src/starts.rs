@@ -1,9 +1,10 @@
 //! Targets that are started beside those of the seed: with files that are damaged, or that another program changes
 //! while they serve.
 
+use crate::ending::has_ended;
 use crate::hosts::checker::check;
 use crate::hosts::pdu::digest;
-use crate::supervisor::{has_ended, words, Act, CONFIG};
+use crate::supervisor::{words, Act, CONFIG};
 use crate::tools::{complain, content, expect, patch, put, run, FAILED, REFUSED};
 use crate::world::disk::Kind;
 use crate::world::{self, with, Outcome, World, MILLISECOND, SECOND};

@@ -133,7 +133,11 @@ impl Path {
 
     /// A Compare beyond the end, whose data never come.
     pub fn unanswered(&self) -> (Command, Act) {
-        let command = Command { breach: Breach::Silence, data: vec![7; 20_480], ..self.on_blocks(COMPARE, self.blocks as u64, 40) };
+        let command = Command {
+            breach: Breach::Silence,
+            data: vec![7; 20_480],
+            ..self.on_blocks(COMPARE, self.blocks as u64, 40)
+        };
         (command, Act::Wrong { wanted: vec![OUT_OF_RANGE] })
     }
 
