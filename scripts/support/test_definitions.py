@@ -7,11 +7,13 @@ from types import SimpleNamespace
 from support.definitions.batches import Witnesses, batches_of, merged
 from support.definitions.book import Book, mutants_of
 from support.definitions.citing import Sources
+from support.definitions.code_copies import CodeCopy
 from support.definitions.copies import Copy, Seeing, texts_of, verdicts_on
+from support.definitions.places import declare
 from support.definitions.reading import definitions_of
 from support.definitions.refusals import Outcome, Reading
 from support.definitions.rules import wrong_definitions
-from support.definitions.trying import Asking, Trying
+from support.definitions.trying import Asking, Trying, is_definition, telling
 from support.trial import Said
 
 TEXT = """-- A module.
@@ -390,6 +392,133 @@ class Copies(OneCrate):
     def test_no_definition(self):
         error = "specs/C1OneLow.antt:4:1: error: `same`: expected type `ℕ`\nfn one::NAME::w: not proved\n"
         self.assertEqual(self.outcomes({"each#same wrong": error}, "same")[0], [("unread", "same")])
+
+
+CODE = """//! Parts.
+ghost use Rattle.one.specs.Low as def;
+ghost use Rattle.one.specs.Low.{low};
+
+use crate::other::Other;
+
+/// A part.
+pub struct Part {
+    pub n: u64,
+    ghost whole: { def.same n ≡ 3 },
+}
+
+impl Part {
+    /// Its first.
+    pub fn first(&self) -> u64
+        ensures { result ≡ def.side 0 }
+    {
+        own()
+    }
+
+    /// What its invariant speaks of too.
+    pub fn second(&self) -> u64
+        ensures { result ≡ def.same 0 }
+    {
+        self.n
+    }
+}
+
+/// A number.
+fn own() -> u64
+    ensures { result ≡ 2 }
+{
+    2
+}
+
+/// Has the name of what it sees.
+fn low() -> u64
+    ensures { result ≡ low 1 }
+{
+    1
+}
+
+/// Calls one that sees it.
+fn calls() -> u64
+    ensures { result ≡ low 0 }
+{
+    low()
+}
+
+/// Calls itself.
+fn again(n: u64) -> u64
+    ensures { result ≡ low n }
+{
+    again(n)
+}
+"""
+OPEN = "note: src/part/c1.rt:9:5: it is not proved that what it ensures holds (`returns`)\n"
+
+
+class CodeCopies(OneCrate):
+    def setUp(self):
+        super().setUp()
+        self.write({"src/part.rt": CODE})
+        self.read()
+
+    def copy(self, name, witness, is_wrong=True):
+        mutant = self.mutants[name]
+        item = next(it for it in self.sources.items if it.name == witness)
+        made = CodeCopy(self.sources, "one", item, mutant.item, mutant if is_wrong else None)
+        made.name = "c1"
+        return made if made.collect(Seeing(self.sources).of(mutant.item)) else None
+
+    def test_a_method(self):
+        copy = self.copy("side", "Part::first")
+        texts = copy.texts()
+        self.assertEqual(sorted(texts), ["specs/C1OneLow.antt", "src/part/c1.rt"])
+        self.assertIn("side n = 3", texts["specs/C1OneLow.antt"])
+        code = texts["src/part/c1.rt"]
+        for line in ("ghost use Rattle.one.specs.C1OneLow as copied_def;", "use crate::other::Other;",
+                     "use super::{Part, own};", "impl Part {\n    /// Its first.\n    pub fn c1_w(&self) -> u64",
+                     "ensures { result ≡ copied_def.side 0 }"):
+            self.assertIn(line, code)
+        self.assertEqual(copy.asked_as, "Part::c1_w")
+
+    def test_a_free_function(self):
+        copy = self.copy("low", "part::low")
+        self.assertIn("fn c1_w() -> u64\n    ensures { result ≡ low 1 }", copy.texts()["src/part/c1.rt"])
+        self.assertIn("ghost use Rattle.one.specs.C1OneLow.{low};", copy.texts()["src/part/c1.rt"])
+        self.assertEqual(copy.asked_as, "part::c1::c1_w")
+
+    def test_what_else_would_have_to_be_wrong(self):
+        self.assertIsNone(self.copy("low", "part::calls"))
+        self.assertIsNone(self.copy("low", "part::again"))
+        self.assertIsNone(self.copy("same", "Part::second"))
+
+    def test_its_module_is_declared(self):
+        declare(self.room.name, "src/part/c1.rt", False)
+        declare(self.room.name, "src/c2.rt", False)
+        for path, last in (("src/part.rt", "mod c1;"), ("src/lib.rt", "mod c2;")):
+            self.assertEqual(Path(self.room.name, path).read_text().split("\n")[-2], last)
+
+    def test_noticed(self):
+        copy = self.copy("side", "Part::first")
+        for verdict, text, kind in (("not proved", OPEN, "noticed"), ("proved", "", "proved")):
+            said = f"{text}fn one::part::c1::Part::c1_w: {verdict}\n".split("\n")
+            found = copy.outcome(said, verdicts_on([copy], said, set())[copy])
+            self.assertEqual((found.kind, found.item.name), (kind, "Part::first"))
+        self.assertIsNone(copy.outcome(["fn one::Part::c1_w: not proved"], "not proved"))
+
+
+class Choosing(OneCrate):
+    def test_what_says_nothing_that_can_be_refused(self):
+        self.write({"proofs/Shut.antt": "pub Is : ℕ → Type 0\nIs n = n ≡ 4\n\nrecord Is (n : ℕ) : Type 0 where\n  a : ℕ\n"
+                    "\nholds : (n : ℕ) → Is n → n ≡ 4\nholds n e = e\n"})
+        self.read()
+        found = {it.name: is_definition(it) for it in self.sources.items if it.path == "proofs/Shut.antt"}
+        self.assertEqual(found, {"Is": True, "holds": False})
+
+    def test_the_most_telling_first(self):
+        wrong = SimpleNamespace(item=self.mutants["shut"].item, label="Low shut: leaves place")
+        def order(name, body):
+            item = SimpleNamespace(head=name, body=body, shown={wrong.item}, inner=set(), opens=set())
+            return telling(SimpleNamespace(witness=item, is_lemma=True, files={}), wrong)
+        self.assertLess(order("a", "b = c.place"), order("a", "b = refl"))
+        self.assertLess(order("a", "b = refl"), order("a", "b = c.placed"))
 
 
 if __name__ == "__main__":

@@ -137,6 +137,10 @@ class Sources:
             head = re.sub(r"(?m)^#.*$", "", head)
         item.shown |= self.named(file, head) - {item}
         item.inner |= self.named(file, body) - {item}
+        if item.kind == "function":
+            # A function may have the name of a definition. What it is a method of, it does not name.
+            item.inner |= self.code(file.crate, {*re.findall(r"\w+", body), *(item.owner.names if item.owner else ())})
+            item.inner.discard(item)
         opened = [one or other for one, other in OPENED.findall(f"{head}\n{body}")]
         item.opens |= self.named(file, " ".join(opened))
 

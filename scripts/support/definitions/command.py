@@ -36,6 +36,8 @@ def words_of(given):
     parser.add_argument("--jobs", type=int, default=1, metavar="N", help="N checks at once")
     parser.add_argument("--quick", action="store_true", help="batches alone: what they don't settle stays unsettled")
     parser.add_argument("--copies", action="store_true", help="copies alone: what they don't settle stays unsettled")
+    parser.add_argument("--witnesses", type=int, default=6, metavar="N",
+                        help="copies of N witnesses of each kind are tried of each")
     parser.add_argument("--again", type=int, default=0, metavar="N",
                         help="N recorded ones alone, each by what noticed it, and no others")
     parser.add_argument("--list", action="store_true", help="print them, and try none")
@@ -55,7 +57,7 @@ class Run:
         above = [it for it in self.crates.values() if crate in it.below()]
         names = [crate.name if it == "own" else it for it in self.words.first.split(",")]
         first = [it for name in names for it in [crate, *above] if it.name == name]
-        trying = Trying(self.rt, self.sources, crate, mutants, above, self.words.jobs)
+        trying = Trying(self.rt, self.sources, crate, mutants, above, self.words.jobs, self.words.witnesses)
         try:
             for mutant, outcome in trying.settle(first, self.words.quick or self.words.copies, self.words.copies):
                 self.take(book, mutant, outcome)

@@ -13,7 +13,7 @@ from support.definitions.rules import with_words
 from support.trial import NOT_PROVED
 
 NAMED = re.compile(r"\b(\w+)::(specs|proofs)::([\w:]+)")
-VERDICT = re.compile(r"fn \w+::(c\d+)::w: (.*)")
+VERDICT = re.compile(r"fn \w+::(?:\w+::)*?(c\d+)(?:::|_)w: (.*)")
 CODE_USE = re.compile(r"^use [\w:]+.*;$", re.M)
 PUBLIC = re.compile(r"(?:\w+ )?pub ")
 # What asks for all lemmas: a file that imports them, line by line, and a function that needs it.
@@ -73,12 +73,14 @@ class Copy:
         self.left = {it for it in named - self.kept if (it.crate, it.path) in self.files}
         is_by_hand = any(it.kind == "proofs" and not is_text(it) for it in named)
         return self.definition in self.kept and not is_by_hand and all(
-            it is self.witness or is_text(it) for it in self.kept) and (
-            is_text(self.witness) or bool(re.search(r"\bfn\(\)", self.witness.body)))
+            it is self.witness or is_text(it) for it in self.kept) and self.can_stand_alone(seeing)
+
+    def can_stand_alone(self, _seeing):
+        return is_text(self.witness) or bool(re.search(r"\bfn\(\)", self.witness.body))
 
     def with_wrong(self, mutant):
         """The same copy with a wrong definition."""
-        made = Copy(self.sources, self.crate, self.witness, self.definition, mutant)
+        made = type(self)(self.sources, self.crate, self.witness, self.definition, mutant)
         made.kept, made.left, made.files = self.kept, self.left, self.files
         return made
 
@@ -89,6 +91,15 @@ class Copy:
     @property
     def is_lemma(self):
         return self.witness.kind == "proofs"
+
+    @property
+    def code_path(self):
+        return f"src/{self.name}.rt"
+
+    @property
+    def asked_as(self):
+        """Its function, as `--only` names it."""
+        return f"{self.name}::w"
 
     @property
     def import_line(self):
@@ -129,7 +140,7 @@ class Copy:
             file, new = self.copied(path if names is not None else [*path, ""])
             if names is None:
                 found.append(it[0].strip())
-                found += [f"{head}{'.'.join(new[:-1])} as copied-{it[3]}{end}"] if file else []
+                found += [f"{head}{'.'.join(new[:-1])} as copied_{it[3]}{end}"] if file else []
                 continue
             names = [one.strip() for one in names if one.strip()]
             own = [one for one in names if file and self.is_kept(file, one)]
@@ -143,12 +154,17 @@ class Copy:
         text = wrong_item(file.text, self.mutant) if is_wrong else text
         if item is self.witness:
             text = re.sub(rf"(?<![\w.-]){re.escape(item.name)}(?![\w-])", "witness", text)
-        text = text if PUBLIC.match(text) else re.sub(r"^((?:abbrev |unfoldable |opaque )?)", r"\1pub ", text, count=1)
+        is_shown = PUBLIC.match(text) or text.startswith("module _")
+        text = text if is_shown else re.sub(r"^((?:abbrev |unfoldable |opaque )?)", r"\1pub ", text, count=1)
+        return self.aliased(file, text)
+
+    def aliased(self, file, text):
+        """A text where what is copied, and is named by a module's other name, is that of the copy."""
         for alias, path in file.aliases.items():
             other = self.copied([*path, ""])[0]
             if other:
                 text = re.sub(rf"(?<![\w.-]){re.escape(alias)}\.([\w-]+)", lambda it: (
-                    f"copied-{it[0]}" if self.is_kept(other, it[1]) else it[0]), text)
+                    f"copied_{it[0]}" if self.is_kept(other, it[1]) else it[0]), text)
         return text
 
     def file_text(self, file):
@@ -177,14 +193,15 @@ class Copy:
         top = without_comments(file.text.split("\n")[function.first:function.body + 1])
         clause = dict(clauses_of(top))[self.witness.name.partition("#")[2]].rstrip().removesuffix("{}").rstrip()
         head = re.sub(rf"(?:pub )?\bfn {function.word}\b", "fn w", top[:top.index(" ensures")].rstrip(), count=1)
+        head = self.aliased(file, head)
         modules = [it for it in ADVICE.findall(file.text) if it.startswith("#!")]
         uses = [it if it.startswith("ghost") else f"ghost {it}" for it in self.uses(file.text)]
         return "\n".join(["//! A copy.", *map(self.advice, modules), *CODE_USE.findall(file.text), *uses, "",
-                          self.advice(head), clause, "{}", ""])
+                          self.advice(head), self.aliased(file, clause), "{}", ""])
 
     def texts(self):
         """All files of the copy."""
-        made = {} if self.is_lemma else {f"src/{self.name}.rt": self.code()}
+        made = {} if self.is_lemma else {self.code_path: self.code()}
         for (_, path), file in self.files.items():
             if not path.startswith("src/"):
                 made[self.path_of(file)] = self.file_text(file)
@@ -216,14 +233,16 @@ class Copy:
             if words and not any(it in self.sources.basis(item)[0] for it in errors if it is not item):
                 kind = "unread" if item.kind == "specs" else "noticed"
                 return Outcome(kind, item.crate, item, " ".join(words.split())[:160])
-        goals = [it for it in map(GOAL.match, said) if it and it["path"] == f"src/{self.name}.rt"]
+        goals = [it for it in map(GOAL.match, said) if it and it["path"] == self.code_path]
         if verdict == "proved" and not errors:
             return Outcome("proved", self.crate, self.witness, "")
         if goals and not errors and verdict.startswith(NOT_PROVED):
-            goal = "returns-clause-" + self.witness.name.partition("#")[2]
-            words = f"{goal.removesuffix('-clause-')}: {goals[0]['words']}"
+            words = f"{self.goal_of(goals[0])}: {goals[0]['words']}"
             return Outcome("noticed", self.crate, self.witness, " ".join(words.split())[:160])
         return None
+
+    def goal_of(self, _goal):
+        return f"returns-clause-{self.witness.name.partition('#')[2]}".removesuffix("-clause-")
 
 
 def verdicts_on(copies, said, saved):
@@ -238,4 +257,4 @@ def texts_of(copies):
     files = {path: text for it in copies for path, text in it.texts().items()}
     lines = [it.import_line for it in copies if it.is_lemma]
     files |= {"proofs/AllCopies.antt": "\n".join([*lines, ALL]), "src/all_copies.rt": ASKING}
-    return files, ["all_copies::w", *(f"{it.name}::w" for it in copies if not it.is_lemma)]
+    return files, ["all_copies::w", *(it.asked_as for it in copies if not it.is_lemma)]

@@ -35,6 +35,8 @@ class Item:
     shown: set = field(default_factory=set)
     inner: set = field(default_factory=set)
     opens: set = field(default_factory=set)
+    # Of a function in a block: the block.
+    owner: object = None
 
     def __repr__(self):
         return f"{self.crate} {self.path} {self.name}"
@@ -164,6 +166,7 @@ def read_code(file):
         above = None
     for it in functions:
         found = read_function(file, it, lines)
+        found[0].owner = owners[it.first] if lines[it.last].startswith(" ") else None
         file.items += found
         # What is known of a type or a trait is also what its methods promise.
         if owners[it.first] and it.is_of_trait:

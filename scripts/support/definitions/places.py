@@ -39,6 +39,16 @@ def limited(words, seconds):
     return ["sh", "-c", f'ulimit -t {seconds}; exec "$@"', "sh", *words]
 
 
+def declare(room, path, is_program):
+    """Declares a new file in the module above it."""
+    folder, words = Path(path).parent, "mod {};" if path.startswith("src/") else "pub mod {}"
+    roots = [f"src/{'main' if is_program else 'lib'}.rt"] if str(folder) == "src" else [f"{folder}/Lib.antt"]
+    roots = roots if folder.name in ("src", "specs", "proofs") else [f"{folder}.rt", f"{folder}/mod.rt"]
+    root = next((it for it in roots if Path(room, it).exists()), roots[0])
+    with Path(room, root).open("a") as above:
+        above.write(f"\n{words.format(Path(path).stem)}\n")
+
+
 class Place:
     """A crate that is asked about wrong definitions of itself or of one below it. Nothing in the repository is
     written; what each check begins with is what `rt check` left of the crate."""
@@ -85,13 +95,10 @@ class Place:
                     shutil.copytree(f"{self.asker.folder}/{part}", f"{room}/{part}")
             files, functions = texts_of(copies)
             for path, text in files.items():
+                Path(room, path).parent.mkdir(exist_ok=True)
                 Path(room, path).write_text(text)
-            for root, mark in ((f"src/{'main' if self.asker.is_program else 'lib'}.rt", "mod {};\n"),
-                               ("specs/Lib.antt", "pub mod {}\n"), ("proofs/Lib.antt", "pub mod {}\n")):
-                Path(room, root).parent.mkdir(exist_ok=True)
-                stems = [Path(it).stem for it in files if it.split("/")[0] == root.split("/")[0]]
-                with Path(room, root).open("a") as lib:
-                    lib.write("\n" + "".join(map(mark.format, stems)))
+            for path in files:
+                declare(room, path, self.asker.is_program)
             words = [*self.rt.rtlib.guarded(), self.rt.rtlib.RATTLE, "check"]
             words += self.asker.words(["--jobs", "1"], keeps=False)
             return self.checked([*words, "--incremental", self.kept], functions, seconds, room)

@@ -11,6 +11,7 @@ from concurrent.futures import ThreadPoolExecutor
 from itertools import count, islice
 
 from support.definitions.batches import Witnesses, batches_of
+from support.definitions.code_copies import CodeCopy
 from support.definitions.copies import Copy, Seeing, verdicts_on
 from support.definitions.places import LONG, Place, unfinished
 from support.definitions.refusals import Outcome, Reading, is_whole
@@ -18,14 +19,33 @@ from support.proving import say
 
 # The most wrong definitions that share a check, how many witnesses of each are asked, and how often in one crate.
 MOST, FEW, ROUNDS = 24, 2, 2
-# The most copies that share a check, how many witnesses are tried by copies, and the processor seconds of a check.
-COPIES, TIMES, COPIES_LIMIT = 300, 6, 1500
-UNREAD = re.compile(r"\bsrc/(c\d+)\.rt:\d+:\d+: error")
+# The most copies that share a check, how many of what is wrong are worth one, since a check takes as long as some twenty
+# copies before it proves any; how many witnesses are tried by copies, and the processor seconds of a check.
+COPIES, WORTH, SOME, SOME_CODE, TIMES, CODE_TIMES, COPIES_LIMIT = 300, 40, 15, 4, 6, 3, 1500
+UNREAD = re.compile(r"\bsrc/(?:\S+/)?(c\d+)\.rt:\d+:\d+: error")
+# A file of lemmas can have definitions too: these say nothing that can be refused.
+DEFINED = re.compile(r"(?:\w+ )?(?:pub )?(?:record|data) |[^=]*\bType 0\s*\Z")
+FIELD = re.compile(r"(?:field|leaves) (\S+)")
 
 
 def spread(mutants):
     """The same ones in an order that mixes files: those of one file rarely have witnesses that see them alone."""
     return random.Random("0").sample(mutants, len(mutants))
+
+
+def is_definition(item):
+    return item.kind == "proofs" and bool(DEFINED.match(item.head))
+
+
+def telling(copy, mutant):
+    """The order in which copies are tried: first those that name the field that is wrong, and the definition itself,
+    open it or compute; then the smallest. A function takes some ten modules, a lemma one."""
+    item, field = copy.witness, FIELD.search(mutant.label)
+    text = f"{item.head} {item.body}"
+    names_field = bool(field) and bool(re.search(rf"(?<![\w-]){re.escape(field[1])}(?![\w-])", text))
+    names_it = mutant.item in item.shown or mutant.item in item.inner
+    opens_it = mutant.item in item.opens or "refl" in text or not copy.is_lemma
+    return not names_field, not names_it, not opens_it, len(copy.files) + (0 if copy.is_lemma else 5)
 
 
 class Asking:
@@ -71,24 +91,26 @@ class Asking:
         half = len(batch) // 2
         return {**self.try_batch(batch[:half]), **self.try_batch(batch[half:])}
 
-    def candidates(self, definition):
-        """Copies of the definition's witnesses, the most special first."""
-        if definition not in self.copied:
-            made = (Copy(self.sources, self.name, it.item, definition) for it in self.witnesses.of.get(definition, ())
-                    if it.item.kind != "function")
-            seeing = self.seeing.of(definition)
-            some = islice((it for it in made if it.collect(seeing)), 3 * TIMES)
-            # A function takes some ten modules, a lemma one.
-            self.copied[definition] = sorted(some, key=lambda it: len(it.files) + (0 if it.is_lemma else 5))
-        return [it for it in self.copied[definition] if self.sound.get(it, True)]
+    def candidates(self, mutant, is_code):
+        """Copies of the witnesses of a wrong definition's definition, the most telling first: functions of code, or
+        what is none."""
+        definition, seeing = mutant.item, self.seeing.of(mutant.item)
+        if (definition, is_code) not in self.copied:
+            made = ((CodeCopy if is_code else Copy)(self.sources, self.name, it.item, definition)
+                    for it in self.witnesses.of.get(definition, ())
+                    if (it.item.kind == "function") == is_code and not is_definition(it.item))
+            self.copied[definition, is_code] = [*islice((it for it in made if it.collect(seeing)), SOME_CODE if is_code else SOME)]
+        return sorted((it for it in self.copied[definition, is_code] if self.sound.get(it, True)),
+                      key=lambda it: telling(it, mutant))
 
-    def try_copies(self, mutants):
-        """Tries wrong definitions by a copy of one witness each; gives what came of some of them."""
+    def try_copies(self, mutants, is_code=False):
+        """Tries wrong definitions by a copy of one witness each, or of more if these are few; gives what came of some of
+        them."""
         made, controls = [], []
         for it in mutants:
             asked = self.asked.setdefault(it, set())
-            control = next((one for one in self.candidates(it.item) if one not in asked), None)
-            if control:
+            lacking = (one for one in self.candidates(it, is_code) if one not in asked)
+            for control in [*islice(lacking, 1 if is_code else max(1, WORTH // len(mutants)))]:
                 asked.add(control)
                 made.append((control, control.with_wrong(it)))
                 controls += [] if control in self.sound or control in controls else [control]
@@ -173,8 +195,9 @@ class Asking:
 class Trying:
     """All tries of the wrong definitions of one crate."""
 
-    def __init__(self, rt, sources, wrong, mutants, above, jobs=1):
-        self.rt, self.sources, self.wrong, self.mutants, self.jobs = rt, sources, wrong, mutants, jobs
+    def __init__(self, rt, sources, wrong, mutants, above, jobs=1, times=TIMES):
+        self.rt, self.sources, self.wrong, self.mutants = rt, sources, wrong, mutants
+        self.jobs, self.times = jobs, times
         self.above, self.askings, self.spent = above, {}, 0.0
 
     def asking(self, asker):
@@ -196,8 +219,8 @@ class Trying:
         left = spread(self.mutants)
         for asker in first:
             asking = self.asking(asker)
-            for _ in range(TIMES):
-                for one, outcome in asking.try_copies(left).items():
+            for is_code in [False] * self.times + [True] * min(self.times, CODE_TIMES):
+                for one, outcome in asking.try_copies(left, is_code).items():
                     left.remove(one)
                     yield one, outcome
             for _ in range(0 if copies_alone else ROUNDS):
