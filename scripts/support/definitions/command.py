@@ -35,7 +35,9 @@ def words_of(given):
                         help="the crates that are asked first, in this order; `own` is that of the definition")
     parser.add_argument("--jobs", type=int, default=1, metavar="N", help="N checks at once")
     parser.add_argument("--quick", action="store_true", help="batches alone: what they don't settle stays unsettled")
-    parser.add_argument("--copies", action="store_true", help="copies alone: what they don't settle stays unsettled")
+    parser.add_argument("--copies", nargs="?", const="both", choices=("both", "text", "code"),
+                        help="copies alone: what they don't settle stays unsettled; `text` are those of lemmas and "
+                        "clauses, which are cheap, and `code` those of functions")
     parser.add_argument("--witnesses", type=int, default=6, metavar="N",
                         help="copies of N witnesses of each kind are tried of each")
     parser.add_argument("--again", type=int, default=0, metavar="N",

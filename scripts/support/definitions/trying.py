@@ -213,13 +213,15 @@ class Trying:
     def seconds(self):
         return sum(it.place.seconds for it in self.askings.values())
 
-    def settle(self, first, is_quick=False, copies_alone=False):
+    def settle(self, first, is_quick=False, copies_alone=""):
         """Tries all; gives each with what came of it. `first` are the crates that are asked in batches; a quick run ends
-        there, and gives the rest as unsettled."""
+        there, and gives the rest as unsettled. Of copies alone, these are of `text`, of `code` or of both."""
         left = spread(self.mutants)
+        kinds = [False] * self.times * (copies_alone != "code")
+        kinds += [True] * min(self.times, CODE_TIMES) * (copies_alone != "text")
         for asker in first:
             asking = self.asking(asker)
-            for is_code in [False] * self.times + [True] * min(self.times, CODE_TIMES):
+            for is_code in kinds:
                 for one, outcome in asking.try_copies(left, is_code).items():
                     left.remove(one)
                     yield one, outcome
