@@ -96,6 +96,11 @@ class Rules(unittest.TestCase):
         self.assertEqual(changed("left", "leaves first"), ["left n s = record s { open = 0x10 }"])
         self.assertEqual(changed("left", "leaves open"), ["left n s = record s { first = n;}"])
 
+    def test_names(self):
+        text = TEXT.replace("record s { first = n; open = 0x10 }", "twice (record s { open = n }) (record s { open = 3 })")
+        found = [it.rule for it in wrong_definitions(text) if it.name == "left"]
+        self.assertEqual(found, ["leaves open", "leaves open, 2", "number 1 is 4"])
+
     def test_numbers(self):
         self.assertEqual(changed("left", "number 1 is 17"), ["left n s = record s { first = n; open = 17 }"])
         self.assertEqual(changed("may", "case 2 number 1 is 8"), ["may (Some n) s = nat_le n 8"])

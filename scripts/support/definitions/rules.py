@@ -1,5 +1,6 @@
 """Wrong definitions by rule: what each definition of a file could have said instead."""
 import re
+from collections import Counter
 from dataclasses import dataclass
 
 from support.definitions.reading import definitions_of, split_at
@@ -122,10 +123,13 @@ def with_words(text):
 
 def wrong_definitions(text):
     """All wrong definitions of a file, in order, each text once."""
-    seen = {text}
+    seen, named = {text}, Counter()
     for definition in definitions_of(text):
         found = of_record(text, definition) if definition.is_record else of_cases(text, definition)
         for rule, new in found:
             if new not in seen:
                 seen.add(new)
-                yield Wrong(definition.name, rule, with_words(new), new)
+                # Several updates of one case may leave out the same field.
+                named[definition.name, rule] += 1
+                count = named[definition.name, rule]
+                yield Wrong(definition.name, f"{rule}, {count}" if count > 1 else rule, with_words(new), new)
