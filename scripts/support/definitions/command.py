@@ -40,6 +40,8 @@ def words_of(given):
                         "clauses, which are cheap, and `code` those of functions")
     parser.add_argument("--witnesses", type=int, default=6, metavar="N",
                         help="copies of N witnesses of each kind are tried of each")
+    parser.add_argument("--past", type=int, default=0, metavar="N",
+                        help="the first N of them are left out, since an earlier run tried these")
     parser.add_argument("--again", type=int, default=0, metavar="N",
                         help="N recorded ones alone, each by what noticed it, and no others")
     parser.add_argument("--list", action="store_true", help="print them, and try none")
@@ -59,7 +61,8 @@ class Run:
         above = [it for it in self.crates.values() if crate in it.below()]
         names = [crate.name if it == "own" else it for it in self.words.first.split(",")]
         first = [it for name in names for it in [crate, *above] if it.name == name]
-        trying = Trying(self.rt, self.sources, crate, mutants, above, self.words.jobs, self.words.witnesses)
+        times = (self.words.past, self.words.witnesses)
+        trying = Trying(self.rt, self.sources, crate, mutants, above, self.words.jobs, times)
         try:
             for mutant, outcome in trying.settle(first, self.words.quick or self.words.copies, self.words.copies):
                 self.take(book, mutant, outcome)

@@ -51,8 +51,8 @@ def telling(copy, mutant):
 class Asking:
     """One crate that is asked about the wrong definitions of one crate."""
 
-    def __init__(self, place, sources, mutants):
-        self.place, self.sources, self.name = place, sources, place.asker.name
+    def __init__(self, place, sources, mutants, past=0):
+        self.place, self.sources, self.name, self.past = place, sources, place.asker.name, past
         self.witnesses = Witnesses(sources, self.name, [*dict.fromkeys(it.item for it in mutants)])
         # Copies of what is right, by definition; those that wrong definitions were tried by; which of them are proved.
         self.tried, self.copied, self.asked, self.sound, self.seeing = {}, {}, {}, {}, Seeing(sources)
@@ -100,8 +100,8 @@ class Asking:
                     for it in self.witnesses.of.get(definition, ())
                     if (it.item.kind == "function") == is_code and not is_definition(it.item))
             self.copied[definition, is_code] = [*islice((it for it in made if it.collect(seeing)), SOME_CODE if is_code else SOME)]
-        return sorted((it for it in self.copied[definition, is_code] if self.sound.get(it, True)),
-                      key=lambda it: telling(it, mutant))
+        found = sorted(self.copied[definition, is_code], key=lambda it: telling(it, mutant))[self.past:]
+        return [it for it in found if self.sound.get(it, True)]
 
     def try_copies(self, mutants, is_code=False):
         """Tries wrong definitions by a copy of one witness each, or of more if these are few; gives what came of some of
@@ -121,6 +121,8 @@ class Asking:
             if self.sound[control] and said.get(it):
                 self.mark(it.mutant, [it.witness])
                 found.update({} if said[it].kind == "proved" else {it.mutant: said[it]})
+        sound = sum(self.sound[it] for it in controls)
+        say(f"  {self.name}: {sound} of {len(controls)} proved as they are, {len(found)} of {len(mutants)} settled")
         return found
 
     def check_copies(self, copies):
@@ -195,14 +197,14 @@ class Asking:
 class Trying:
     """All tries of the wrong definitions of one crate."""
 
-    def __init__(self, rt, sources, wrong, mutants, above, jobs=1, times=TIMES):
+    def __init__(self, rt, sources, wrong, mutants, above, jobs=1, times=(0, TIMES)):
         self.rt, self.sources, self.wrong, self.mutants = rt, sources, wrong, mutants
-        self.jobs, self.times = jobs, times
+        self.jobs, (self.past, self.times) = jobs, times
         self.above, self.askings, self.spent = above, {}, 0.0
 
     def asking(self, asker):
         if asker.name not in self.askings:
-            self.askings[asker.name] = Asking(Place(self.rt, asker, self.wrong), self.sources, self.mutants)
+            self.askings[asker.name] = Asking(Place(self.rt, asker, self.wrong), self.sources, self.mutants, self.past)
         return self.askings[asker.name]
 
     def close(self):
