@@ -15,37 +15,20 @@ from support.definitions.code_copies import CodeCopy
 from support.definitions.copies import Copy, Seeing, verdicts_on
 from support.definitions.places import LONG, Place, unfinished
 from support.definitions.refusals import Outcome, Reading, is_whole
+from support.definitions.telling import Telling, is_definition
 from support.proving import say
 
 # The most wrong definitions that share a check, how many witnesses of each are asked, and how often in one crate.
 MOST, FEW, ROUNDS = 24, 2, 2
 # The most copies that share a check, how many of what is wrong are worth one, since a check takes as long as some twenty
 # copies before it proves any; how many witnesses are tried by copies, and the processor seconds of a check.
-COPIES, WORTH, SOME, SOME_CODE, TIMES, CODE_TIMES, COPIES_LIMIT = 300, 40, 15, 4, 6, 3, 1500
+COPIES, WORTH, TIMES, CODE_TIMES, COPIES_LIMIT = 300, 40, 6, 3, 1500
 UNREAD = re.compile(r"\bsrc/(?:\S+/)?(c\d+)\.rt:\d+:\d+: error")
-# A file of lemmas can have definitions too: these say nothing that can be refused.
-DEFINED = re.compile(r"(?:\w+ )?(?:pub )?(?:record|data) |[^=]*\bType 0\s*\Z")
-FIELD = re.compile(r"(?:field|leaves) (\S+)")
 
 
 def spread(mutants):
     """The same ones in an order that mixes files: those of one file rarely have witnesses that see them alone."""
     return random.Random("0").sample(mutants, len(mutants))
-
-
-def is_definition(item):
-    return item.kind == "proofs" and bool(DEFINED.match(item.head))
-
-
-def telling(copy, mutant):
-    """The order in which copies are tried: first those that name the field that is wrong, and the definition itself,
-    open it or compute; then the smallest. A function takes some ten modules, a lemma one."""
-    item, field = copy.witness, FIELD.search(mutant.label)
-    text = f"{item.head} {item.body}"
-    names_field = bool(field) and bool(re.search(rf"(?<![\w-]){re.escape(field[1])}(?![\w-])", text))
-    names_it = mutant.item in item.shown or mutant.item in item.inner
-    opens_it = mutant.item in item.opens or "refl" in text or not copy.is_lemma
-    return not names_field, not names_it, not opens_it, len(copy.files) + (0 if copy.is_lemma else 5)
 
 
 class Asking:
@@ -56,7 +39,7 @@ class Asking:
         self.witnesses = Witnesses(sources, self.name, [*dict.fromkeys(it.item for it in mutants)])
         # Copies of what is right, by definition; those that wrong definitions were tried by; which of them are proved.
         self.tried, self.copied, self.asked, self.sound, self.seeing = {}, {}, {}, {}, Seeing(sources)
-        self.numbers = count()
+        self.numbers, self.telling = count(), Telling(sources)
 
     def batches(self, mutants):
         return batches_of(mutants, self.witnesses, self.tried, MOST)
@@ -94,14 +77,18 @@ class Asking:
     def candidates(self, mutant, is_code):
         """Copies of the witnesses of a wrong definition's definition, the most telling first: functions of code, or
         what is none."""
-        definition, seeing = mutant.item, self.seeing.of(mutant.item)
-        if (definition, is_code) not in self.copied:
-            made = ((CodeCopy if is_code else Copy)(self.sources, self.name, it.item, definition)
-                    for it in self.witnesses.of.get(definition, ())
-                    if (it.item.kind == "function") == is_code and not is_definition(it.item))
-            self.copied[definition, is_code] = [*islice((it for it in made if it.collect(seeing)), SOME_CODE if is_code else SOME)]
-        found = sorted(self.copied[definition, is_code], key=lambda it: telling(it, mutant))[self.past:]
-        return [it for it in found if self.sound.get(it, True)]
+        items = (it.item for it in self.witnesses.of.get(mutant.item, ()) if (it.item.kind == "function") == is_code)
+        some = sorted(items, key=lambda it: self.telling.order(it, mutant))
+        return islice(filter(None, (self.copy_of(it, mutant.item) for it in some)), self.past, None)
+
+    def copy_of(self, item, definition):
+        """A copy of a witness with the definition as it is; nothing if none can be made, or it is refused."""
+        if (item, definition) not in self.copied:
+            made = (CodeCopy if item.kind == "function" else Copy)(self.sources, self.name, item, definition)
+            can_be = not is_definition(item) and made.collect(self.seeing.of(definition))
+            self.copied[item, definition] = made if can_be else None
+        made = self.copied[item, definition]
+        return made if self.sound.get(made, True) else None
 
     def try_copies(self, mutants, is_code=False):
         """Tries wrong definitions by a copy of one witness each, or of more if these are few; gives what came of some of

@@ -42,6 +42,7 @@ CHECKED = (
 )
 # Sources that the rules for code do not hold for yet.
 DOCUMENT_RULES_ONLY = ("crates/", "scripts/support/definitions/", "scripts/support/test_definitions.py",
+                       "scripts/support/test_copies.py",
                        "scripts/wrong-definitions")
 TARGET = re.compile(r"\]\([^()\s]+\)")
 

@@ -1,0 +1,233 @@
+"""Tests of the copies by which scripts/wrong-definitions tries what is wrong."""
+import unittest
+from pathlib import Path
+from types import SimpleNamespace
+
+from support.definitions.code_copies import CodeCopy
+from support.definitions.copies import Copy, Seeing, texts_of, verdicts_on
+from support.definitions.places import declare
+from support.definitions.telling import Telling, is_definition
+from support.definitions.trying import Asking
+from support.test_definitions import CRATE, PROVED, OneCrate, Prover
+from support.trial import Said
+
+
+class CopyProver(Prover):
+    """A place that is given what the prover says of each copy: of a control, or of what is wrong, by its witness."""
+
+    def check_copies(self, copies, _seconds):
+        texts_of(copies)
+        self.asked.append([f"{it.witness.name}{' wrong' if it.mutant else ''}" for it in copies])
+        told = [(it, self.says.get(one, "fn one::NAME::w: proved\n")) for one, it in zip(self.asked[-1], copies)]
+        self.modules |= {it.saved_as for it, text in told if it.is_lemma and " proved" in text}
+        return Said(1, "".join(text.replace("NAME", it.name) for it, text in told) + PROVED, 1.0)
+
+
+REFUSED = ("note: src/NAME.rt:6:1: it is not proved that what it ensures holds (`returns`)\n"
+           "fn one::NAME::w: no proof: expected answers in ./proofs/NAME/w/Answers.antt\n")
+BROKEN = "./proofs/C1OneShut.antt:6:1: error: `witness`: the two values differ\n"
+
+
+class Copies(OneCrate):
+    def copy(self, name, witness, is_wrong=True):
+        mutant = self.mutants[name]
+        item = next(it for it in self.sources.items if it.name == witness)
+        made = Copy(self.sources, "one", item, mutant.item, mutant if is_wrong else None)
+        made.name = "c0"
+        return made if made.collect(Seeing(self.sources).of(mutant.item)) else None
+
+    def outcomes(self, says, name):
+        """What two rounds make of a wrong definition, and what they ask."""
+        asking = Asking(CopyProver(self.crate, says), self.sources, self.some(name))
+        found = {}
+        for _ in range(2):
+            found.update(asking.try_copies([it for it in self.some(name) if it not in found]))
+        return [(it.kind, it.item.name) for it in found.values()], asking.place.asked
+
+    def test_a_clause(self):
+        texts = self.copy("low", "each#low").texts()
+        self.assertEqual(sorted(texts), ["specs/C0OneLow.antt", "src/c0.rt"])
+        self.assertIn("low n = 2", texts["specs/C0OneLow.antt"])
+        self.assertNotIn("side", texts["specs/C0OneLow.antt"])
+        code = texts["src/c0.rt"].split("\n")
+        self.assertIn("ghost use Rattle.one.specs.C0OneLow.{low};", code)
+        self.assertIn("ghost use Rattle.one.specs.Low.{side, same, shut};", code)
+        self.assertEqual(code[-4:], ["fn w()", "    ensures low { low 0 ≡ 1 }", "{}", ""])
+
+    def test_what_is_between(self):
+        texts = self.copy("low", "each#both", False).texts()
+        self.assertIn("low n = 1", texts["specs/C0OneLow.antt"])
+        # A clause whose answer is in a file is left to a check of its function.
+        self.assertIsNone(self.copy("low", "each#high"))
+
+    def test_a_lemma(self):
+        texts = self.copy("shut", "opened").texts()
+        self.assertEqual(sorted(texts), ["proofs/C0OneShut.antt", "specs/C0OneLow.antt"])
+        self.assertIn("shut n = 5", texts["specs/C0OneLow.antt"])
+        self.assertIn("pub witness : shut 0 ≡ 4\nunfolding shut\nwitness = refl", texts["proofs/C0OneShut.antt"])
+        self.assertIn("use Rattle.one.specs.C0OneLow.{shut}", texts["proofs/C0OneShut.antt"])
+        self.assertNotIn("named", texts["proofs/C0OneShut.antt"])
+        files, functions = texts_of([self.copy("low", "each#low"), self.copy("shut", "opened")])
+        first = files["proofs/AllCopies.antt"].split("\n")[0]
+        self.assertEqual(first, "use Rattle.one.proofs.C0OneShut.{witness as c0}")
+        self.assertEqual(functions, ["all_copies::w", "c0::w"])
+
+    def test_noticed(self):
+        self.assertEqual(self.outcomes({"each#same wrong": REFUSED}, "same"),
+                         ([("noticed", "each#same")], [["each#same", "each#same wrong"]]))
+        self.assertEqual(self.outcomes({"opened wrong": BROKEN}, "shut")[0], [("noticed", "opened")])
+
+    def test_what_is_proved_is_not_noticed(self):
+        self.assertEqual(self.outcomes({}, "same")[0], [])
+        self.assertEqual(self.outcomes({}, "shut")[0], [])
+
+    def test_a_copy_that_is_refused_as_it_is(self):
+        says = {"each#same": REFUSED, "each#same wrong": REFUSED}
+        self.assertEqual(self.outcomes(says, "same"), ([], [["each#same", "each#same wrong"]]))
+        # Of a lemma that no check read nothing is saved.
+        self.assertEqual(self.outcomes({"opened": "\n", "opened wrong": BROKEN}, "shut")[0], [])
+        lost = "proofs/C0OneShut.antt:6:1: error: `witness`: `shut` is not in scope\n"
+        self.assertEqual(self.outcomes({"opened": f"{lost} proved\n", "opened wrong": BROKEN}, "shut")[0], [])
+        # What is refused in one copy says nothing of another.
+        self.assertEqual(self.outcomes({"opened": BROKEN.replace("C1", "C7")}, "shut")[0], [])
+
+    def test_no_definition(self):
+        error = "specs/C1OneLow.antt:4:1: error: `same`: expected type `ℕ`\nfn one::NAME::w: not proved\n"
+        self.assertEqual(self.outcomes({"each#same wrong": error}, "same")[0], [("unread", "same")])
+
+
+CODE = """//! Parts.
+ghost use Rattle.one.specs.Low as def;
+ghost use Rattle.one.specs.Low.{low};
+
+use crate::other::Other;
+
+/// A part.
+pub struct Part {
+    pub n: u64,
+    ghost whole: { def.same n ≡ 3 },
+}
+
+impl Part {
+    /// Its first.
+    pub fn first(&self) -> u64
+        ensures { result ≡ def.side 0 }
+    {
+        own()
+    }
+
+    /// What its invariant speaks of too.
+    pub fn second(&self) -> u64
+        ensures { result ≡ def.same 0 }
+    {
+        self.n
+    }
+}
+
+/// A number.
+fn own() -> u64
+    ensures { result ≡ 2 }
+{
+    2
+}
+
+/// Has the name of what it sees.
+fn low() -> u64
+    ensures { result ≡ low 1 }
+{
+    1
+}
+
+/// Calls one that sees it.
+fn calls() -> u64
+    ensures { result ≡ low 0 }
+{
+    low()
+}
+
+/// Calls itself.
+fn again(n: u64) -> u64
+    ensures { result ≡ low n }
+{
+    again(n)
+}
+"""
+OPEN = "note: src/part/c1.rt:9:5: it is not proved that what it ensures holds (`returns`)\n"
+
+
+class CodeCopies(OneCrate):
+    def setUp(self):
+        super().setUp()
+        self.write({"src/part.rt": CODE})
+        self.read()
+
+    def copy(self, name, witness, is_wrong=True):
+        mutant = self.mutants[name]
+        item = next(it for it in self.sources.items if it.name == witness)
+        made = CodeCopy(self.sources, "one", item, mutant.item, mutant if is_wrong else None)
+        made.name = "c1"
+        return made if made.collect(Seeing(self.sources).of(mutant.item)) else None
+
+    def test_a_method(self):
+        copy = self.copy("side", "Part::first")
+        texts = copy.texts()
+        self.assertEqual(sorted(texts), ["specs/C1OneLow.antt", "src/part/c1.rt"])
+        self.assertIn("side n = 3", texts["specs/C1OneLow.antt"])
+        code = texts["src/part/c1.rt"]
+        for line in ("ghost use Rattle.one.specs.C1OneLow as copied_def;", "use crate::other::Other;",
+                     "use super::{Part, own};", "impl Part {\n    /// Its first.\n    pub fn c1_w(&self) -> u64",
+                     "ensures { result ≡ copied_def.side 0 }"):
+            self.assertIn(line, code)
+        self.assertEqual(copy.asked_as, "Part::c1_w")
+
+    def test_a_free_function(self):
+        copy = self.copy("low", "part::low")
+        self.assertIn("fn c1_w() -> u64\n    ensures { result ≡ low 1 }", copy.texts()["src/part/c1.rt"])
+        self.assertIn("ghost use Rattle.one.specs.C1OneLow.{low};", copy.texts()["src/part/c1.rt"])
+        self.assertEqual(copy.asked_as, "part::c1::c1_w")
+
+    def test_what_else_would_have_to_be_wrong(self):
+        self.assertIsNone(self.copy("low", "part::calls"))
+        self.assertIsNone(self.copy("low", "part::again"))
+        self.assertIsNone(self.copy("same", "Part::second"))
+
+    def test_its_module_is_declared(self):
+        declare(self.room.name, "src/part/c1.rt", False)
+        declare(self.room.name, "src/c2.rt", False)
+        for path, last in (("src/part.rt", "mod c1;"), ("src/lib.rt", "mod c2;")):
+            self.assertEqual(Path(self.room.name, path).read_text().split("\n")[-2], last)
+
+    def test_noticed(self):
+        copy = self.copy("side", "Part::first")
+        for verdict, text, kind in (("not proved", OPEN, "noticed"), ("proved", "", "proved")):
+            said = f"{text}fn one::part::c1::Part::c1_w: {verdict}\n".split("\n")
+            found = copy.outcome(said, verdicts_on([copy], said, set())[copy])
+            self.assertEqual((found.kind, found.item.name), (kind, "Part::first"))
+        self.assertIsNone(copy.outcome(["fn one::Part::c1_w: not proved"], "not proved"))
+
+
+class Choosing(OneCrate):
+    def test_what_says_nothing_that_can_be_refused(self):
+        self.write({"proofs/Shut.antt": "pub Is : ℕ → Type 0\nIs n = n ≡ 4\n\nrecord Is (n : ℕ) : Type 0 where\n  a : ℕ\n"
+                    "\nholds : (n : ℕ) → Is n → n ≡ 4\nholds n e = e\n"})
+        self.read()
+        found = {it.name: is_definition(it) for it in self.sources.items if it.path == "proofs/Shut.antt"}
+        self.assertEqual(found, {"Is": True, "holds": False})
+
+    def test_the_most_telling_first(self):
+        def order(rule, body):
+            item = SimpleNamespace(head="a", body=body, shown={shut.item}, inner=set(), opens=set(), kind="proofs")
+            wrong = SimpleNamespace(item=shut.item, label=f"Low shut: {rule}", crate="one", path="specs/Low.antt")
+            return Telling(self.sources).order(item, wrong)
+
+        shut = self.mutants["shut"]
+        self.assertLess(order("leaves place", "b = c.place"), order("leaves place", "b = refl"))
+        self.assertLess(order("leaves place", "b = refl"), order("leaves place", "b = c.placed"))
+        self.write({"specs/Low.antt": CRATE["specs/Low.antt"].replace("shut n = 4", "shut (Some n) = 4\nshut None = 5")})
+        self.read()
+        shut = self.mutants["shut"]
+        self.assertLess(order("case 2 number 1 is 6", "b = None"), order("case 2 number 1 is 6", "b = Some 1"))
+
+
+if __name__ == "__main__":
+    unittest.main()
