@@ -173,7 +173,7 @@ fn use_options(act: Act) {
 fn use_outputs(act: Act) {
     put("/run/there", Kind::File, b"x");
     put("/run/halved.out", Kind::File, b"x");
-    let lines: [(&[&str], u8); 6] = [
+    let lines: [(&[&str], u8); 7] = [
         (&["--script", CONFIG, CONFIG], FAILED),
         (&["--script", "/run/there", CONFIG], FAILED),
         (&["--record", "/run/there", CONFIG], FAILED),
