@@ -170,8 +170,8 @@ fn damage_state(act: Act) {
         expect(act, &["--listen", ADDRESS, "--state", "/second", CONFIG], FAILED);
     }
     begin(&journal[..journal.len() - 3]);
-    if !serve(act, &["--state", "/second", CONFIG]).contains("an incomplete record") {
-        complain("a torn record of the journal is not told".to_owned());
+    if !serve(act, &["--state", "/second", CONFIG]).contains("incomplete records") {
+        complain("a torn batch of the journal is not told".to_owned());
     }
     // An old target appends a record of its epoch.
     begin(&[&journal[..], &of_epoch(4, 1)].concat());
