@@ -7,7 +7,22 @@ use Rattle.nvme_responses.specs.declared.reply.Response.{Response}
 use Rattle.nvme_responses.specs.declared.stage.Stage.{Stage}
 use Rattle.nvme_responses.specs.declared.stage.Stage.TheVariants as stage
 use Rattle.nvme_responses.specs.States.{State}
-use Rattle.nvme_responses.specs.Responses.{has, is_full, accepted, accepted_by, with_command, after_accept, place, without, is_there, response_of, response_by, response, without_if, after_respond}
+use Rattle.nvme_responses.specs.Responses.{
+  has,
+  is_full,
+  accepted,
+  accepted_by,
+  with_command,
+  after_accept,
+  place,
+  without,
+  is_there,
+  response_of,
+  response_by,
+  response,
+  without_if,
+  after_respond,
+}
 
 -- a command comes: it is refused, or accepted on an open connection whose queue is not full
 pub data Came (s : State) (cid : ℕ) (r : Result Bool Refused) (t : State) : Type 0 where
@@ -32,7 +47,7 @@ comes s cid = by-stage s.stage refl where
 abbrev pub taken_out : State → ℕ → State
 taken_out s i = record s { outstanding = without (Some i) s.outstanding }
 
--- a command is to be answered: there is none, or it gets its response
+-- an answer: no command waits for it, or one gets its response
 pub data Answered (s : State) (r : Reply) (o : Option Response) (t : State) : Type 0 where
   Nothing : o ≡ None → t ≡ s → Answered s r o t
   Gives : (i : ℕ) → place s.outstanding r.cid ≡ Some i → o ≡ Some (response_of s r) → t ≡ taken_out s i

@@ -1,5 +1,33 @@
 -- Which commands wait, and that they are answered.
-use Rattle.std.proofs.Common.{◌≡◌, ◌⊎◌, inl, inr, ℕ, ◌+◌, ◌<◌, ◌≤◌, Bool, true, false, cond, List, [], ◌∷◌, length, Option, None, Some, Result, Ok, Err, arith, refl, sym, ap, ◌∙◌}
+use Rattle.std.proofs.Common.{
+  ◌≡◌,
+  ◌⊎◌,
+  inl,
+  inr,
+  ℕ,
+  ◌+◌,
+  ◌<◌,
+  ◌≤◌,
+  Bool,
+  true,
+  false,
+  cond,
+  List,
+  [],
+  ◌∷◌,
+  length,
+  Option,
+  None,
+  Some,
+  Result,
+  Ok,
+  Err,
+  arith,
+  refl,
+  sym,
+  ap,
+  ◌∙◌,
+}
 use Rattle.std.specs.Prelude.{◌||◌, nat_le, nat_lt}
 use Rattle.std.proofs.lemmas.Bool.{leb-true, leb-false, ltb-true, ltb-false}
 use Rattle.std.proofs.lemmas.Option.{same_Some}
@@ -23,7 +51,19 @@ use Rattle.nvme_responses.specs.Responses.{
   response,
   after_respond,
 }
-use Rattle.nvme_responses.specs.Runs.{Call, Accepts, Responds, Forgets, Connects, Ends, Stops, state_after, commands, responses, dropped}
+use Rattle.nvme_responses.specs.Runs.{
+  Call,
+  Accepts,
+  Responds,
+  Forgets,
+  Connects,
+  Ends,
+  Stops,
+  state_after,
+  commands,
+  responses,
+  dropped,
+}
 use Rattle.nvme_responses.specs.Laws.{
   tally,
   is,
@@ -163,7 +203,8 @@ few (call ∷ run) = by call (few run) where
   by : (call : Call) → tally (λ c. 1) (state_after run).outstanding ≤ 64
       → tally (λ c. 1) (state_after (call ∷ run)).outstanding ≤ 64
   by (Accepts cid) h =
-      comes-few cid (accepted (state_after run) cid) (after_accept (state_after run) cid) (comes (state_after run) cid) h
+      comes-few cid (accepted (state_after run) cid) (after_accept (state_after run) cid)
+      (comes (state_after run) cid) h
   by (Responds r) h = let a = respond-weight (λ c. 1) (state_after run) r in omega (arith, a, h)
   by (Forgets cid) h =
       let a = forget-weight (λ c. 1) (state_after run).outstanding cid (place (state_after run).outstanding cid) refl in

@@ -50,6 +50,6 @@ held count stage = record {
   outstanding = 7 ∷ 9 ∷ replicate 62 0;
 }
 
--- each byte tells its place
+-- each byte is its place
 abbrev pub fields : Response
 fields = record { dw0 = 0x04030201; dw1 = 0x08070605; sqhd = 0x0a09; cid = 0x0e0d; status = 0x100f }

@@ -1,5 +1,29 @@
 -- Laws over any run of calls: each command gets at most one response, its own.
-use Rattle.std.specs.Prelude.{◌≡◌, ◌⊎◌, ℕ, ◌+◌, ◌%◌, ◌^◌, ◌<◌, ◌≤◌, Bool, true, false, ◌==◌, if◌then◌else◌, List, [], ◌∷◌, ◌++◌, length, Contains, Some, None, Ok, Err}
+use Rattle.std.specs.Prelude.{
+  ◌≡◌,
+  ◌⊎◌,
+  ℕ,
+  ◌+◌,
+  ◌%◌,
+  ◌^◌,
+  ◌<◌,
+  ◌≤◌,
+  Bool,
+  true,
+  false,
+  ◌==◌,
+  if◌then◌else◌,
+  List,
+  [],
+  ◌∷◌,
+  ◌++◌,
+  length,
+  Contains,
+  Some,
+  None,
+  Ok,
+  Err,
+}
 use Rattle.nvme_wire.specs.Entry.{word_at, dword_at, bits}
 use Rattle.nvme_wire.specs.declared.status.Status.{Status}
 use Rattle.nvme_responses.specs.declared.refused.Refused.{Refused}
@@ -92,7 +116,7 @@ WaitingAreAnswered = (run : List Call) (r : Reply) → Waits run r.cid → Speak
 
 -- ---- which commands are accepted
 
--- nor was it told to accept no more
+-- nor was it ended
 abbrev pub Listens : List Call → Type 0
 Listens [] = Unit {0}
 Listens (Accepts cid ∷ run) = Listens run
@@ -190,7 +214,7 @@ pub record IsReadBack (e : Response) : Type 0 where
 abbrev pub EntriesAreReadBack : Type 0
 EntriesAreReadBack = (e : Response) → Fits e → IsReadBack e
 
--- The fields of a status: the phase tag in bit 0, SC in bits 8:1, SCT in bits 11:9, then CRD and More, and Do Not Retry.
+-- The fields of a status: the phase tag in bit 0, SC in bits 8:1, SCT in bits 11:9, CRD and More, and Do Not Retry.
 pub record IsStatus (s : Status) (field : ℕ) : Type 0 where
   pub fits : field < 2 ^ 16
   pub phase : bits field 0 0 ≡ 0

@@ -1,5 +1,5 @@
--- Which commands have no response yet, and how each gets one (NVM Express Base Specification 2.0, Fabrics Connect Command
--- and Submission Queue Flow Control).
+-- Which commands have no response yet, and how each gets one (NVM Express Base Specification 2.0, Fabrics Connect
+-- Command, Submission Queue Flow Control).
 use Rattle.std.specs.Prelude.{
   ℕ,
   ◌+◌,
