@@ -6,7 +6,7 @@ from types import SimpleNamespace
 from support.definitions.code_copies import CodeCopy
 from support.definitions.copies import Copy, Seeing, texts_of, verdicts_on
 from support.definitions.places import declare
-from support.definitions.telling import Telling, is_definition
+from support.definitions.ordering import Ordering, is_definition
 from support.definitions.trying import Asking
 from support.test_definitions import CRATE, PROVED, OneCrate, Prover
 from support.trial import Said
@@ -218,7 +218,7 @@ class Choosing(OneCrate):
         def order(rule, body):
             item = SimpleNamespace(head="a", body=body, shown={shut.item}, inner=set(), opens=set(), kind="proofs")
             wrong = SimpleNamespace(item=shut.item, label=f"Low shut: {rule}", crate="one", path="specs/Low.antt")
-            return Telling(self.sources).order(item, wrong)
+            return Ordering(self.sources).order(item, wrong)
 
         shut = self.mutants["shut"]
         self.assertLess(order("leaves place", "b = c.place"), order("leaves place", "b = refl"))
@@ -226,7 +226,7 @@ class Choosing(OneCrate):
         self.write({"specs/Low.antt": CRATE["specs/Low.antt"].replace("shut n = 4", "shut (Some n) = 4\nshut None = 5")})
         self.read()
         shut = self.mutants["shut"]
-        self.assertLess(order("case 2 number 1 is 6", "b = None"), order("case 2 number 1 is 6", "b = Some 1"))
+        self.assertLess(order("case 2 number 1 is 6", "b = None"), order("case 2 number 1 is 6", "b = Some n"))
 
 
 if __name__ == "__main__":

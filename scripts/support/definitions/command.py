@@ -14,10 +14,10 @@ USAGE = """Makes definitions wrong by rule, and shows which of them no proof, la
 The rules, for each definition in crates/NAME/specs: a case made true, made false, or made what the next case says; a
 conjunct dropped; one assignment of a record's update left out; a number one more; a field that says something made to
 say nothing. A wrong definition is noticed if a crate that sees it is not proved any more, with its proofs as they are.
-First hundreds share a check of the crate: each is in a copy of what leads from one lemma or clause to the definition,
-and counts only if the same copy is proved with the definition as it is. The rest replace the crate's own definitions:
-several share a check, if each has a lemma, a function or a clause that sees none of the others, and are then tried
-alone. What is no definition at all is recorded as such. Without names it tries those of all crates. It begins with what
+First hundreds share a check of the crate: each is in a copy of what leads from one lemma, clause or function to the
+definition, and counts only if the same copy is proved with the definition as it is. A function is copied only if no
+contract of what it calls sees the definition. The rest replace the crate's own definitions: several share a check, if
+each has a lemma, a function or a clause that sees none of the others, and are then tried alone. What is no definition at all is recorded as such. Without names it tries those of all crates. It begins with what
 `rt check` kept, so prove the crates first (`scripts/prove`); for copies the built libraries are enough. The last line
 is `N noticed, M unnoticed, K no definitions, U unsettled`; the status is 1 if one is unnoticed that
 crates/NAME/same-definitions does not list with its reason, and 2 if nothing could be tried."""

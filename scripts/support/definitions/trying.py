@@ -15,7 +15,7 @@ from support.definitions.code_copies import CodeCopy
 from support.definitions.copies import Copy, Seeing, verdicts_on
 from support.definitions.places import LONG, Place, unfinished
 from support.definitions.refusals import Outcome, Reading, is_whole
-from support.definitions.telling import Telling, is_definition
+from support.definitions.ordering import Ordering, is_definition
 from support.proving import say
 
 # The most wrong definitions that share a check, how many witnesses of each are asked, and how often in one crate.
@@ -39,7 +39,7 @@ class Asking:
         self.witnesses = Witnesses(sources, self.name, [*dict.fromkeys(it.item for it in mutants)])
         # Copies of what is right, by definition; those that wrong definitions were tried by; which of them are proved.
         self.tried, self.copied, self.asked, self.sound, self.seeing = {}, {}, {}, {}, Seeing(sources)
-        self.numbers, self.telling = count(), Telling(sources)
+        self.numbers, self.ordering = count(), Ordering(sources)
 
     def batches(self, mutants):
         return batches_of(mutants, self.witnesses, self.tried, MOST)
@@ -78,7 +78,7 @@ class Asking:
         """Copies of the witnesses of a wrong definition's definition, the most telling first: functions of code, or
         what is none."""
         items = (it.item for it in self.witnesses.of.get(mutant.item, ()) if (it.item.kind == "function") == is_code)
-        some = sorted(items, key=lambda it: self.telling.order(it, mutant))
+        some = sorted(items, key=lambda it: self.ordering.order(it, mutant))
         return islice(filter(None, (self.copy_of(it, mutant.item) for it in some)), self.past, None)
 
     def copy_of(self, item, definition):

@@ -18,7 +18,7 @@ def names(text, word):
     return bool(re.search(rf"(?<![\w-]){re.escape(word)}(?![\w-])", text))
 
 
-class Telling:
+class Ordering:
     """The order in which copies of witnesses are tried."""
 
     def __init__(self, sources):
