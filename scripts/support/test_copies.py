@@ -2,6 +2,7 @@
 import unittest
 from pathlib import Path
 from types import SimpleNamespace
+from unittest import mock
 
 from support.definitions.code_copies import CodeCopy
 from support.definitions.copies import Copy, Seeing, texts_of, verdicts_on
@@ -76,6 +77,21 @@ class Copies(OneCrate):
         self.assertEqual(self.outcomes({"each#same wrong": REFUSED}, "same"),
                          ([("noticed", "each#same")], [["each#same", "each#same wrong"]]))
         self.assertEqual(self.outcomes({"opened wrong": BROKEN}, "shut")[0], [("noticed", "opened")])
+
+    def test_many_controls(self):
+        # Only the controls of what is refused are checked.
+        says = {"each#same wrong": REFUSED}
+        with mock.patch("support.definitions.trying.MANY", 0):
+            asking = Asking(CopyProver(self.crate, says), self.sources, self.some("same", "side"))
+            found = asking.try_copies(self.some("same", "side"))
+        self.assertEqual([it.item.name for it in found], ["same"])
+        first, second = asking.place.asked
+        self.assertEqual((len(first), all("wrong" in it for it in first)), (3, True))
+        self.assertEqual(second, ["each#same"])
+        with mock.patch("support.definitions.trying.MANY", 0):
+            says = {"each#same wrong": REFUSED, "each#same": REFUSED}
+            asking = Asking(CopyProver(self.crate, says), self.sources, self.some("same", "side"))
+            self.assertEqual(asking.try_copies(self.some("same", "side")), {})
 
     def test_what_is_proved_is_not_noticed(self):
         self.assertEqual(self.outcomes({}, "same")[0], [])
@@ -214,7 +230,7 @@ class Choosing(OneCrate):
         found = {it.name: is_definition(it) for it in self.sources.items if it.path == "proofs/Shut.antt"}
         self.assertEqual(found, {"Is": True, "holds": False})
 
-    def test_the_most_telling_first(self):
+    def test_the_likeliest_first(self):
         def order(rule, body):
             item = SimpleNamespace(head="a", body=body, shown={shut.item}, inner=set(), opens=set(), kind="proofs")
             wrong = SimpleNamespace(item=shut.item, label=f"Low shut: {rule}", crate="one", path="specs/Low.antt")

@@ -21,8 +21,9 @@ from support.proving import say
 # The most wrong definitions that share a check, how many witnesses of each are asked, and how often in one crate.
 MOST, FEW, ROUNDS = 24, 2, 2
 # The most copies that share a check, how many of what is wrong are worth one, since a check takes as long as some twenty
-# copies before it proves any; how many witnesses are tried by copies, and the processor seconds of a check.
-COPIES, WORTH, TIMES, CODE_TIMES, COPIES_LIMIT = 300, 40, 6, 3, 1500
+# copies before it proves any; how many controls are many; how many witnesses are tried by copies, and the processor
+# seconds of a check.
+COPIES, WORTH, MANY, TIMES, CODE_TIMES, COPIES_LIMIT = 300, 40, 80, 6, 3, 1500
 UNREAD = re.compile(r"\bsrc/(?:\S+/)?(c\d+)\.rt:\d+:\d+: error")
 
 
@@ -75,7 +76,7 @@ class Asking:
         return {**self.try_batch(batch[:half]), **self.try_batch(batch[half:])}
 
     def candidates(self, mutant, is_code):
-        """Copies of the witnesses of a wrong definition's definition, the most telling first: functions of code, or
+        """Copies of the witnesses of a wrong definition's definition, the likeliest first: functions of code, or
         what is none."""
         items = (it.item for it in self.witnesses.of.get(mutant.item, ()) if (it.item.kind == "function") == is_code)
         some = sorted(items, key=lambda it: self.ordering.order(it, mutant))
@@ -101,16 +102,26 @@ class Asking:
                 asked.add(control)
                 made.append((control, control.with_wrong(it)))
                 controls += [] if control in self.sound or control in controls else [control]
-        said = self.check_copies([*controls, *(it for _, it in made)])
-        self.sound.update((it, said.get(it) is not None and said[it].kind == "proved") for it in controls)
+        said = self.check_with(controls, made)
         found = {}
         for control, it in made:
-            if self.sound[control] and said.get(it):
+            if self.sound.get(control, True) and said.get(it):
                 self.mark(it.mutant, [it.witness])
                 found.update({} if said[it].kind == "proved" else {it.mutant: said[it]})
-        sound = sum(self.sound[it] for it in controls)
+        sound = sum(self.sound[it] for it in controls if it in self.sound)
         say(f"  {self.name}: {sound} of {len(controls)} proved as they are, {len(found)} of {len(mutants)} settled")
         return found
+
+    def check_with(self, controls, made):
+        """Checks wrong copies, each given with its control, and the controls. If these are many, only those whose wrong
+        copies are refused, in a check of their own."""
+        said = self.check_copies([*(controls if len(controls) <= MANY else ()), *(it for _, it in made)])
+        if len(controls) > MANY:
+            refused = {control for control, it in made if said.get(it) and said[it].kind != "proved"}
+            controls = [it for it in controls if it in refused]
+            said |= self.check_copies(controls)
+        self.sound.update((it, said.get(it) is not None and said[it].kind == "proved") for it in controls)
+        return said
 
     def check_copies(self, copies):
         """What checks say of copies; nothing of those that can't be read."""
