@@ -50,6 +50,8 @@ pub struct Path {
     pub cntlid: u16,
     pub blocks: usize,
     pub depth: usize,
+    /// Whether it takes no answers before it has sent as many commands as it may.
+    pub is_eager: bool,
     /// How many blocks a command has at most, and out of four how many may have more than a few.
     pub longest: usize,
     pub long: usize,
@@ -257,21 +259,26 @@ impl Session<'_> {
         }
     }
 
-    /// A connection has ended: there must be a reason.
+    /// A connection has ended: there must be a reason. Others may know it later, and the path does not wait for that.
     fn judge_end(&mut self) {
         let is_late = self.keep_alive != 0 && now() > self.heard + self.keep_alive;
-        world::pause(REASON);
-        let is_gone = with(|it| {
-            let process = &it.processes[self.process];
-            !process.is_alive || process.outcome.is_some() || process.is_asked_to_end
-        });
-        let is_disturbed =
-            check(|it| it.cycled + 15 * SECOND > self.begun || self.names.iter().any(|name| it.cuts.contains(name)));
-        let is_excused = is_late || is_gone || is_disturbed || self.may_end || was_stopped(self.process, self.begun);
-        if !is_excused {
-            let text = format!("a connection of path {} ends without a reason", self.path.cntlid);
-            check(|it| it.violate(text));
+        if is_late || self.may_end {
+            return;
         }
+        let (process, begun, cntlid, names) = (self.process, self.begun, self.path.cntlid, self.names.clone());
+        let judge = move || {
+            world::pause(REASON);
+            let is_gone = with(|it| {
+                let process = &it.processes[process];
+                !process.is_alive || process.outcome.is_some() || process.is_asked_to_end
+            });
+            let is_cut = |it: &mut checker::Checker| names.iter().any(|name| it.cuts.contains(name));
+            let is_disturbed = check(|it| it.cycled + 15 * SECOND > begun || is_cut(it));
+            if !is_gone && !is_disturbed && !was_stopped(process, begun) {
+                check(|it| it.violate(format!("a connection of path {cntlid} ends without a reason")));
+            }
+        };
+        world::spawn("reason", Box::new(judge));
     }
 
     fn serve(&mut self, is_over: &impl Fn() -> bool) -> Result<(), Lost> {
@@ -285,7 +292,7 @@ impl Session<'_> {
         while !is_over() && count < lifetime {
             self.stay_alive()?;
             let is_full = self.open.len() >= self.path.depth;
-            if !is_full && (self.open.is_empty() || below(3) != 0) {
+            if !is_full && (self.open.is_empty() || self.path.is_eager || below(3) != 0) {
                 self.issue()?;
                 count += 1;
             } else if !self.open.is_empty() {

@@ -28,7 +28,9 @@ enum Theme {
     Any,
     /// More frames than the cache has. Few commands, most of them long, fill it at once.
     Heavy,
-    /// Many hosts that zero many blocks.
+    /// The same, with nothing that ends a connection.
+    Full,
+    /// Many hosts that zero blocks of a slow disk.
     Zeroes,
     /// Targets that take a volume from each other.
     Owners,
@@ -69,7 +71,8 @@ pub struct Scenario {
 impl Theme {
     fn of(number: u64) -> Theme {
         match number {
-            0..=1 => Theme::Heavy,
+            0 => Theme::Heavy,
+            1 => Theme::Full,
             2 => Theme::Zeroes,
             3..=4 => Theme::Owners,
             5 => Theme::Failing,
@@ -82,17 +85,17 @@ impl Theme {
     fn has(self, kind: &str) -> Option<bool> {
         let ends = ENDS.contains(&kind);
         match self {
-            Theme::Owners => Some(matches!(kind, "stop" | "takeover" | "late")),
+            Theme::Owners => Some(matches!(kind, "stop" | "takeover")),
             Theme::Failing if matches!(kind, "power" | "disk") => Some(true),
-            Theme::Failing | Theme::Calm | Theme::Zeroes if ends => Some(false),
+            Theme::Failing | Theme::Calm | Theme::Zeroes | Theme::Full if ends => Some(false),
             _ => None,
         }
     }
 
     fn blocks(self, random: &mut Random) -> usize {
         match self {
-            Theme::Heavy => 24_576,
-            Theme::Zeroes => 9_216,
+            Theme::Heavy | Theme::Full => 24_576,
+            Theme::Zeroes => 40,
             Theme::Owners => [40, 160][random.index(2)],
             _ => [40, 40, 160, 1_024, 9_216][random.index(5)],
         }
@@ -100,18 +103,29 @@ impl Theme {
 
     fn hosts(self, random: &mut Random) -> usize {
         let (least, most) = match self {
-            Theme::Zeroes => (8, 16),
-            Theme::Heavy => (2, 6),
+            Theme::Zeroes => (16, 16),
+            Theme::Owners => (3, 6),
+            Theme::Heavy | Theme::Full => (2, 6),
             _ if random.once_in(8) => (5, 16),
             _ => (1, 4),
         };
         random.within(least, most) as usize
     }
 
+    /// Which of the networks it has: commands come sooner than the disk executes them, or they last until another target
+    /// has taken over.
+    fn network(self) -> Option<usize> {
+        match self {
+            Theme::Full | Theme::Zeroes => Some(0),
+            Theme::Owners => Some(2),
+            _ => None,
+        }
+    }
+
     /// Long commands take more time.
     fn most_commands(self) -> u64 {
         match self {
-            Theme::Heavy | Theme::Zeroes => 400,
+            Theme::Heavy | Theme::Full => 400,
             _ => u64::MAX,
         }
     }
@@ -120,10 +134,15 @@ impl Theme {
         for (number, it) in paths.iter_mut().enumerate() {
             match self {
                 Theme::Heavy => (it.depth, it.long, it.longest, it.mix) = (31, 4, 256, MIXES[3]),
-                Theme::Zeroes => {
-                    (it.depth, it.mix, it.restless) = (if number % 2 == 0 { 31 } else { 1 }, [15, 15, 0, 60, 5], 30);
+                Theme::Full => {
+                    (it.depth, it.long, it.longest, it.mix, it.is_eager) = (31, 4, 256, MIXES[3], true);
                 }
-                Theme::Owners => (it.depth, it.long, it.mix) = (16, 2, [45, 50, 0, 2, 0]),
+                Theme::Zeroes => {
+                    // Those with one command at a time wait for the others.
+                    (it.depth, it.mix, it.is_eager) = (if number % 8 == 0 { 1 } else { 31 }, [1, 1, 0, 97, 0], true);
+                    (it.long, it.restless, it.reserves) = (0, 0, 0);
+                }
+                Theme::Owners => (it.depth, it.long, it.mix, it.reserves) = (2, 2, [45, 50, 0, 2, 0], 0),
                 Theme::Failing => (it.crashes, it.mix, it.cuts_power) = (60, MIXES[4], true),
                 Theme::Calm => (it.long, it.restless) = (2, 0),
                 Theme::Any => (),
@@ -131,6 +150,7 @@ impl Theme {
         }
         match self {
             Theme::Owners => chances.short = 3,
+            Theme::Full | Theme::Zeroes => chances.late_disk = 4,
             Theme::Failing => (chances.failed_sync, chances.failed_write) = (20, [0, 100][random.index(2)]),
             _ => (),
         }
@@ -154,7 +174,7 @@ impl Scenario {
         let has = |kind: &str| kinds.contains(&kind);
         let mut chances = Scenario::chances(&mut random, &has);
         let slow = [(MICROSECOND, 5 * MICROSECOND), (20 * MICROSECOND, MILLISECOND / 2), (0, 20 * MILLISECOND)];
-        let (slow, peace) = (slow[random.index(3)], [100, 400, 1_500][random.index(3)] * MILLISECOND);
+        let (slow, peace) = (slow[theme.network().unwrap_or(random.index(3))], [100, 400, 1_500][random.index(3)] * MILLISECOND);
         let (keeps_run, persists) = (!random.once_in(4), !random.once_in(3));
         let mut paths = Scenario::paths(&mut random, theme, (blocks, persists), &has);
         // The other themes are met the more often without further options and habits.
@@ -221,6 +241,7 @@ impl Scenario {
             cntlid: 0,
             blocks,
             depth: [1, 4, 16, 31][random.index(4)],
+            is_eager: false,
             longest: [8, 32, 256, 256][random.index(4)].min(blocks),
             long: 1,
             lies: has("lies"),

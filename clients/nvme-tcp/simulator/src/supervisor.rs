@@ -172,7 +172,8 @@ impl Supervisor {
             check(|it| it.bound(None));
         } else {
             // Some hosts go to the other target at once.
-            (0..4).for_each(|_| self.cut());
+            let count = with(|it| it.random.within(1, 4));
+            (0..count).for_each(|_| self.cut());
         }
     }
 
@@ -433,9 +434,13 @@ impl Supervisor {
             && self.scenario.is_volume
             && self.running.len() == 1
             && self.has("takeover");
-        // The other waits for a lease before it serves.
-        let least = if takes { 5 * SECOND } else { MILLISECOND };
-        let (time, in_write) = with(|it| (it.random.within(least, 9 * SECOND), it.random.once_in(2)));
+        // The other serves once a lease has ended: before this one continues, or not.
+        let (least, most) = match (takes, with(|it| it.random.once_in(2))) {
+            (true, true) => (2 * SECOND, 4 * SECOND),
+            (true, false) => (5 * SECOND, 9 * SECOND),
+            (false, _) => (MILLISECOND, 9 * SECOND),
+        };
+        let (time, in_write) = with(|it| (it.random.within(least, most), it.random.once_in(2)));
         self.running[at].may_lose_lease |= self.scenario.is_volume;
         if !in_write || !stop_in_write(process, time) {
             with(|it| {

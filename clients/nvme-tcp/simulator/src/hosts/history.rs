@@ -48,11 +48,9 @@ pub struct Block {
     lost: u64,
 }
 
-impl Version {
-    /// Whether another one is executed for sure after this, and before a time.
-    fn is_over(&self, start: u64, end: u64, time: u64) -> bool {
-        self.end < start && end < time
-    }
+/// When the last of those begins that end before a time.
+fn last_start(all: impl Iterator<Item = (u64, u64)>, time: u64) -> u64 {
+    all.filter(|it| it.1 < time).map(|it| it.0).max().unwrap_or(0)
 }
 
 impl Block {
@@ -97,13 +95,11 @@ impl Block {
 
     /// Judges a read, and remembers it.
     pub fn read(&mut self, value: u64, start: u64, end: u64) -> Result<(), String> {
-        let is_possible = |it: &Version| {
-            let writes = self.versions.iter().filter(|other| other.state == State::Done && other.number != it.number);
-            let mut after = writes
-                .map(|other| (other.start, other.end))
-                .chain(self.seen.iter().filter(|seen| seen.value != it.value).map(|seen| (seen.start, seen.end)));
-            it.value == value && it.start <= end && !after.any(|other| it.is_over(other.0, other.1, start))
-        };
+        let writes = self.versions.iter().filter(|it| it.state == State::Done).map(|it| (it.start, it.end));
+        let others = self.seen.iter().filter(|it| it.value != value).map(|it| (it.start, it.end));
+        // What has ended before this time was replaced before the read began.
+        let replaced = last_start(writes.chain(others), start);
+        let is_possible = |it: &Version| it.value == value && it.start <= end && it.end >= replaced;
         if !self.versions.iter().any(is_possible) {
             return Err(format!("value {value:#x} was read from {start} to {end}; it may be {:?}", self));
         }
@@ -119,15 +115,9 @@ impl Block {
         if self.versions.len() < 8 && self.seen.len() < 8 {
             return;
         }
-        let all = self.versions.clone();
-        self.versions.retain(|it| {
-            !all.iter().any(|other| {
-                other.state == State::Done
-                    && other.is_durable
-                    && other.number != it.number
-                    && it.is_over(other.start, other.end, oldest)
-            })
-        });
+        let lasting = self.versions.iter().filter(|it| it.state == State::Done && it.is_durable);
+        let replaced = last_start(lasting.map(|it| (it.start, it.end)), oldest);
+        self.versions.retain(|it| it.end >= replaced);
         if let Some(last) = self.seen.iter().filter(|it| it.end < oldest).max_by_key(|it| it.start).copied() {
             self.seen.retain(|it| it.end >= oldest || it.start == last.start);
         }
