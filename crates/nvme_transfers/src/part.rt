@@ -3,6 +3,7 @@
 use crate::command::Command;
 
 /// What is known of an H2CData PDU.
+#[repr(C)]
 #[derive(Clone, Copy)]
 pub struct Part {
     /// CCCID, the command identifier.

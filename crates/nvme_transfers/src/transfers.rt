@@ -18,6 +18,7 @@ pub(crate) const OUT_OF_RANGE: Fatal = Fatal {
 
 /// The commands of a connection that have not got all their data: at most 8 have an R2T, with the tags 0 to 7, and 64
 /// wait for theirs.
+#[derive(Drop)]
 pub struct Transfers {
     has_ended: bool,
     active: [Option<Transfer>; 8],
