@@ -1,9 +1,9 @@
 /* nvmetcp: NVMe/TCP as a part of libnvmesim, for a program that is a controller's end of connections: what the PDUs of
- * a connection are, byte by byte, and which connection is a queue of which controller. The program has the sockets,
- * computes the digests, knows keys and addresses, and executes what the commands say.
+ * a connection are, byte by byte, which connection is a queue of which controller, and which data are whose. The
+ * program has the sockets, computes the digests, knows keys and addresses, and executes what the commands say.
  *
- * The rules of nvmesim.h hold here too. Only these calls write a struct nvmesim_connection, nvmesim_session or
- * nvmesim_fabrics once it is what its comment says; each has one call at a time.
+ * The rules of nvmesim.h hold here too. Only these calls write a struct nvmesim_connection, nvmesim_session,
+ * nvmesim_fabrics or nvmesim_transfers once it is what its comment says; each has one call at a time.
  *
  * For each connection:
  *  1. nvmesim_connection_take, with the bytes that came. Copy the data that it reports.
@@ -16,6 +16,8 @@
  *  2. nvmesim_fabrics_connect, with the status of that.
  *  3. If the session is authenticating, and once the host is authentic: nvmesim_fabrics_admits, create the queues, and
  *     nvmesim_fabrics_authenticate.
+ * For a command whose data come by R2T: nvmesim_transfers_begin. Then, and whenever one is complete, send an R2T for
+ * each nvmesim_transfers_next_request, and for each H2CData call nvmesim_transfers_take or nvmesim_transfers_store.
  */
 #ifndef NVMETCP_H
 #define NVMETCP_H
@@ -28,8 +30,13 @@ extern "C" {
 
 /* Answers, besides those of nvmesim.h. */
 enum {
-    NVMESIM_BAD_PDU = 40, /* a field of a PDU is wrong, or the PDU breaks another rule of the transport */
-    NVMESIM_NO_PDU = 41   /* the connection has no PDU that the call is about */
+    NVMESIM_BAD_PDU = 40,   /* a field of a PDU is wrong, or the PDU breaks another rule of the transport */
+    NVMESIM_NO_PDU = 41,    /* the connection has no PDU that the call is about */
+    NVMESIM_ENDED = 42,     /* the connection has ended, and takes no command */
+    NVMESIM_NO_DATA = 43,   /* a command expects no bytes, and no R2T asks for none */
+    NVMESIM_IN_FLIGHT = 44, /* a command with this identifier is in flight */
+    NVMESIM_MANY_WAIT = 45, /* 64 commands wait for their R2T */
+    NVMESIM_NO_REQUEST = 46 /* no command waits for its R2T, or none of the 8 tags is free */
 };
 
 /* What ICReq and ICResp agree on; all 0 before. */
@@ -227,6 +234,42 @@ typedef struct nvmesim_queue_connection {
     uint32_t what;       /* NVMESIM_OK, NVMESIM_NO_QUEUE or NVMESIM_CLOSED */
 } nvmesim_queue_connection;
 
+/* The commands of a connection that have not got all their data, or none: at most 8 have an R2T, with the tags 0 to 7,
+ * and 64 wait for theirs. */
+typedef struct nvmesim_transfers {
+    void *commands;
+    bool is_open;
+} nvmesim_transfers;
+
+#define NVMESIM_NO_TRANSFERS { NULL, false }
+
+/* The fields of an R2T, whose R2TO is 0. */
+typedef struct nvmesim_next_request {
+    uint32_t what;     /* NVMESIM_OK; or NVMESIM_NO_REQUEST or NVMESIM_CLOSED, and the others are 0 */
+    uint32_t length;   /* R2TL */
+    uint16_t cid, tag; /* CCCID, TTAG */
+} nvmesim_next_request;
+
+/* What is known of an H2CData. */
+typedef struct nvmesim_part {
+    uint16_t cid, tag;       /* CCCID, TTAG */
+    uint32_t offset, length; /* DATAO, DATAL */
+    bool is_last;            /* LAST_PDU */
+    bool is_sound;           /* whether the digest of its data is right, or there is none */
+} nvmesim_part;
+
+/* The outcome of a part. */
+typedef struct nvmesim_part_taken {
+    uint32_t what;    /* NVMESIM_OK; or NVMESIM_BAD_PDU, and the connection ends; or NVMESIM_CLOSED */
+    uint32_t field;   /* the offset of the wrong field, or 0 */
+    uint32_t begin;   /* the place of its bytes in the room of its tag */
+    uint32_t length;  /* the number of bytes of the command that is complete */
+    uint16_t status;  /* the Fatal Error Status, or 0 */
+    bool is_complete; /* whether its command has all its data now */
+    bool is_sound;    /* whether the digests of all these were right */
+    uint8_t entry[64]; /* the submission queue entry of the command that is complete */
+} nvmesim_part_taken;
+
 /* PDUs: the layout of a host's PDU by its first 8 bytes, and the fields of an ICReq (128
  * bytes), all of which is granted, of an H2CData with `length` bytes of data, and of an H2CTermReq. OK, or BAD_PDU. */
 nvmesim_pdu_layout nvmesim_pdu_layout_of(const nvmesim_pdu_agreed *agreed, const uint8_t *head);
@@ -322,6 +365,32 @@ nvmesim_executed nvmesim_fabrics_execute(nvmesim_fabrics *fabrics, nvmesim_sessi
  * CLOSED. */
 uint32_t nvmesim_fabrics_end_session(nvmesim_fabrics *fabrics, nvmesim_session *session);
 uint32_t nvmesim_fabrics_end_association(nvmesim_fabrics *fabrics, uint16_t index);
+
+/* Begins a connection without commands: OK; or ALREADY_OPEN, NO_MEMORY, and nothing has changed. The close frees the
+ * memory. */
+uint32_t nvmesim_transfers_open(nvmesim_transfers *transfers);
+void nvmesim_transfers_close(nvmesim_transfers *transfers);
+
+/* How many commands there are, and whether one with this identifier is in flight. If none are open, there are none. */
+size_t nvmesim_transfers_count(nvmesim_transfers *transfers);
+bool nvmesim_transfers_has(nvmesim_transfers *transfers, uint16_t cid);
+
+/* A command with this entry (64 bytes), which expects `length` bytes, waits for its R2T: OK; or ENDED, NO_DATA,
+ * IN_FLIGHT, MANY_WAIT, CLOSED, and nothing has changed. */
+uint32_t nvmesim_transfers_begin(nvmesim_transfers *transfers, const uint8_t *entry, uint32_t length);
+
+/* The R2T of the command that waits longest, if a tag is free. The command has the tag until it is complete. */
+nvmesim_next_request nvmesim_transfers_next_request(nvmesim_transfers *transfers);
+
+/* Takes a part, which has to be the next of its command's data; else the answer is BAD_PDU, nothing has changed, and no
+ * byte of it may be used. The store also copies its bytes to their place in the room of its tag; the answer is BAD_PDU
+ * too if they are not as many as DATAL says, or the room is too short. */
+nvmesim_part_taken nvmesim_transfers_take(nvmesim_transfers *transfers, const nvmesim_part *part);
+nvmesim_part_taken nvmesim_transfers_store(nvmesim_transfers *transfers, const nvmesim_part *part,
+                                           const uint8_t *bytes, size_t count, uint8_t *room, size_t room_count);
+
+/* The connection ends: all commands are dropped, and no more are taken. OK, or CLOSED. */
+uint32_t nvmesim_transfers_end(nvmesim_transfers *transfers);
 
 #ifdef __cplusplus
 }

@@ -49,5 +49,6 @@ void brought(void);
 void pdus(void);
 void connections(void);
 void responses(void);
+void transfers(void);
 
 #endif

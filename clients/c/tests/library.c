@@ -444,6 +444,7 @@ int main(int count, char **words) {
     pdus();
     connections();
     responses();
+    transfers();
     reservations();
     names();
     texts();

@@ -1,3 +1,5 @@
+mod Outcomes
 mod ReadBack
+pub mod TransferValues
 pub mod Values
 pub mod Verdicts

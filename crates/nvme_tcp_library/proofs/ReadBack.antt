@@ -1,9 +1,8 @@
 -- What C holds loses nothing.
-use Rattle.std.proofs.Common.{◌≡◌, ℕ, refl, ap, Option, Some, None}
+use Rattle.std.proofs.Common.{◌≡◌, refl, ap, Option, Some, None}
 use Rattle.std.proofs.lemmas.Nat.{div-add-mod'}
 use Rattle.nvme_connection.specs.declared.taken.Taken.{Taken as Bytes}
 use Rattle.nvme_fabrics.specs.declared.request.Request.{Request}
-use Rattle.nvme_fabrics.specs.declared.session.Session.{Session}
 use Rattle.nvme_fabrics.specs.declared.session.Session.TheVariants as session
 use Rattle.nvme_pdu.specs.declared.fatal.Fatal.{Fatal}
 use Rattle.nvme_tcp_library.specs.Connections.{taken_by}

@@ -3,7 +3,9 @@ pub mod Connections
 pub mod Examples
 pub mod Fabrics
 pub mod Holding
+pub mod HoldingTransfers
 pub mod Laws
 pub mod Pdus
 pub mod Responses
 pub mod Sessions
+pub mod Transfers

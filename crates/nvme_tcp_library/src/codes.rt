@@ -2,11 +2,11 @@
 
 /// The call succeeded.
 pub const OK: u32 = 0;
-/// There are no controllers: no `nvmesim_fabrics_open` came before.
+/// There are no controllers, or no commands: no `nvmesim_fabrics_open` or `nvmesim_transfers_open` came before.
 pub const CLOSED: u32 = 16;
 /// HPDA or C2HData is too large.
 pub const OUTSIDE: u32 = 18;
-/// There are controllers already.
+/// There are controllers, or commands, already.
 pub const ALREADY_OPEN: u32 = 22;
 /// There are too many controllers.
 pub const TOO_MANY: u32 = 25;
@@ -18,6 +18,16 @@ pub const NO_QUEUE: u32 = 28;
 pub const BAD_PDU: u32 = 40;
 /// The connection has no PDU that the call is about.
 pub const NO_PDU: u32 = 41;
+/// The connection has ended, and no command is taken.
+pub const ENDED: u32 = 42;
+/// A command expects no bytes, and no R2T asks for none.
+pub const NO_DATA: u32 = 43;
+/// A command with this identifier is in flight.
+pub const IN_FLIGHT: u32 = 44;
+/// 64 commands wait for their R2T.
+pub const MANY_WAIT: u32 = 45;
+/// No command waits for its R2T, or no tag is free.
+pub const NO_REQUEST: u32 = 46;
 
 /// A command is accepted, and another without a response has its identifier.
 pub const CONFLICT: u32 = 47;

@@ -1,7 +1,7 @@
 //! Worked examples of the definitions, proved by computing.
 #![tactic(auto, unfolding(nvme_responses::specs::Entries::entry))]
 
-ghost use Rattle.std.specs.Prelude.{◌≡◌, true, false, [], ◌∷◌, Some, None, Ok, Err, length};
+ghost use Rattle.std.specs.Prelude.{◌≡◌, true, false, [], ◌∷◌, Some, None, Ok, Err, length, replicate};
 ghost use Rattle.nvme_fabrics.specs.declared.session.Session.TheVariants as session;
 ghost use Rattle.nvme_fabrics.specs.declared.session.Subsystem.TheVariants as subsystem;
 ghost use Rattle.nvme_fabrics.specs.Answers.{with_cntlid, in_data};
@@ -12,6 +12,18 @@ ghost use Rattle.nvme_tcp_library.specs.Examples.{asked, failed, four, host, of_
 ghost use Rattle.nvme_tcp_library.specs.Fabrics.{host_at, hosts_of};
 ghost use Rattle.nvme_tcp_library.specs.Responses.{acceptance, answered, entry_if, forgotten, reply_of};
 ghost use Rattle.nvme_tcp_library.specs.Sessions.{request_of, session_of, session_seen, subsystem_of};
+ghost use Rattle.nvme_tcp_library.specs.Transfers.{
+  begun_code,
+  command_of,
+  count_by,
+  has_by,
+  not_open,
+  part_seen,
+  request_seen,
+};
+ghost use Rattle.nvme_transfers.specs.declared.command.Refused.TheVariants as not_begun;
+ghost use Rattle.nvme_transfers.specs.Examples.{command, done, many};
+ghost use Rattle.nvme_transfers.specs.Transfers.{none, out_of_range};
 
 /// What C's structs are read as.
 fn structs()
@@ -58,4 +70,43 @@ fn hosts()
     ensures second { host_at (host ∷ host ∷ []) 1 ≡ Some 36893488147419103233 }
     ensures third { host_at (host ∷ host ∷ []) 2 ≡ None }
     ensures all { length (hosts_of []) ≡ 16 }
+{}
+
+/// What C sees of commands whose data a host sends.
+fn transfers()
+    ensures waits { count_by (Some (many 3)) ≡ 3 }
+    ensures none { count_by (Some none) ≡ 0 }
+    ensures closed { count_by None ≡ 0 }
+    ensures has_none { has_by 7 (Some none) ≡ false }
+    ensures closed_has_none { has_by 7 None ≡ false }
+    ensures command { command_of (command 7 8).entry 8 ≡ command 7 8 }
+    ensures begins { begun_code (Ok tt) ≡ 0 }
+    ensures conflict { begun_code (Err not_begun.InFlight) ≡ 44 }
+    ensures many_wait { begun_code (Err not_begun.NoRoom) ≡ 45 }
+    ensures asks { request_seen (Some (record { cid = 7; tag = 1; length = 8 }))
+        ≡ record { what = 0; length = 8; cid = 7; tag = 1 } }
+    ensures no_request { (request_seen None).what ≡ 46 }
+    ensures closed_part { not_open.what ≡ 16 }
+    ensures breach { (part_seen (Err out_of_range)).what ≡ 40 }
+    ensures status { (part_seen (Err out_of_range)).status ≡ 4 }
+    ensures next { part_seen (Ok (record { begin = 4; completed = None })) ≡ record {
+      what = 0;
+      field = 0;
+      begin = 4;
+      length = 0;
+      status = 0;
+      is_complete = false;
+      is_sound = false;
+      entry = replicate 64 0;
+    } }
+    ensures last { part_seen (Ok (record { begin = 4; completed = Some done })) ≡ record {
+      what = 0;
+      field = 0;
+      begin = 4;
+      length = 8;
+      status = 0;
+      is_complete = true;
+      is_sound = true;
+      entry = (command 7 8).entry;
+    } }
 {}

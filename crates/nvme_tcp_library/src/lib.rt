@@ -1,6 +1,6 @@
-//! NVMe/TCP as a part of the library for C: PDUs, connections, and which connection is a queue of which controller. An
-//! export repeats the contract of the call that it makes. No export has a `requires`, since nothing would check that C
-//! meets it.
+//! NVMe/TCP as a part of the library for C: PDUs, connections, which connection is a queue of which controller, and
+//! which data are whose. An export repeats the contract of the call that it makes. No export has a `requires`, since
+//! nothing would check that C meets it.
 #![tactic(auto)]
 
 pub mod answers;
@@ -12,15 +12,22 @@ mod examples;
 mod handle;
 mod laws;
 pub mod opening;
+pub mod parts;
 pub mod pdus;
 pub mod responses;
 mod sessions;
 mod slot;
+pub mod transfers;
+mod transfers_handle;
+mod transfers_slot;
 
 pub use answers::{Admitted, Executed, FabricsAnswer, LiveSession, QueueConnection};
 pub use connections::{Taken, Verdict};
 pub use handle::FabricsHandle;
 pub use opening::HostId;
+pub use parts::PartTaken;
 pub use pdus::{LayoutSeen, PduFields};
 pub use responses::RawReply;
 pub use sessions::{RawJudged, RawRequest, RawSession};
+pub use transfers::NextRequest;
+pub use transfers_handle::TransfersHandle;

@@ -10,10 +10,11 @@ from support.documents.texts import Finding
 FOLDER = Path(__file__).resolve().parent
 OUTSIDE, LISTED = FOLDER / "outside.txt", FOLDER / "memory.txt"
 HERE = "scripts/support/documents/memory.txt"
-# The calls of the library for C that may take memory: those that open a subsystem or its associations, and those that
-# put long texts together. No event does.
+# The calls of the library for C that may take memory: those that open a subsystem, its associations or the commands of
+# a connection, and those that put long texts together. No event does.
 TAKING_CALLS = ("nvmesim_open", "nvmesim_open_lent", "nvmesim_open_brought", "nvmesim_fabrics_open",
-                "nvmesim_read_configuration", "nvmesim_configuration_lines", "nvmesim_look")
+                "nvmesim_transfers_open", "nvmesim_read_configuration", "nvmesim_configuration_lines",
+                "nvmesim_look")
 
 
 @dataclass

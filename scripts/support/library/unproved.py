@@ -35,7 +35,8 @@ VALUES = {"Global": "alloc", "&mut Handle": "&mut sim", "u8": "n as u8", "u16": 
           "&RawConnection": "&connection", "&mut RawConnection": "&mut connection",
           "&mut Responses": "&mut responses", "&RawReply": "&reply",
           "&mut FabricsHandle": "&mut fabrics", "&RawSession": "&session", "&mut RawSession": "&mut session",
-          "&RawRequest": "&asked", "&RawJudged": "&judged",
+          "&RawRequest": "&asked", "&RawJudged": "&judged", "&mut TransfersHandle": "&mut transfers",
+          "&Part": "&part",
           "LentBytes": "LentBytes { at: ptr::null_mut(), len: n }",
           "Disk": "Disk { blocks: n as u64, content: DiskContent {} }"}
 MAIN = """
@@ -45,8 +46,8 @@ use nvme_lent::LentBytes;
 use nvme_notices::{{Notice, RawNotices}};
 use nvme_pdu::Agreed;
 use nvme_responses::Responses;
-use nvme_tcp_library::RawReply;
-use nvme_tcp_library::{{FabricsHandle, HostId, RawJudged, RawRequest, RawSession}};
+use nvme_tcp_library::{{FabricsHandle, HostId, RawJudged, RawReply, RawRequest, RawSession, TransfersHandle}};
+use nvme_transfers::Part;
 use std::process::ExitCode;
 use std::rt::Env;
 use std::{{env, io, ptr}};
@@ -82,6 +83,9 @@ fn main(rt: HostRuntime) -> io::Result<ExitCode> {{
         qid: n as u16 }};
     let judged = RawJudged {{ authenticating: [n as u32; 16], subsystem: n as u32, is_whole: n == 3, is_known: n == 4,
         is_allowed: n == 5, is_enabled: n == 6, created_sct: n as u8, created_sc: n as u8 }};
+    let mut transfers = TransfersHandle::closed(alloc);
+    let part = Part {{ cid: n as u16, tag: n as u16, offset: n as u32, length: n as u32, is_last: n == 3,
+        is_sound: n == 4 }};
 {calls}
     Ok(ExitCode::from(0))
 }}
@@ -118,10 +122,11 @@ def copies(top: Path, room: Path) -> Dict[str, Path]:
     lent = room / LENT / "src" / "bytes.rt"
     text = lent.read_text(encoding="utf-8")
     lent.write_text(re.sub(r"^    (at|len):", r"    pub \1:", text, flags=re.M), encoding="utf-8")
-    handle = room / TCP / "src" / "handle.rt"
-    handle.write_text(handle.read_text(encoding="utf-8").replace("pub(crate) fn", "pub fn"), encoding="utf-8")
+    tcp = room / TCP / "src"
+    for handle in tcp / "handle.rt", tcp / "transfers_handle.rt":
+        handle.write_text(handle.read_text(encoding="utf-8").replace("pub(crate) fn", "pub fn"), encoding="utf-8")
     root = room / CRATE / "src" / "lib.rt"
-    made = [*calls(root.parent, ""), *calls(handle.parent, f"{TCP}::")]
+    made = [*calls(root.parent, ""), *calls(tcp, f"{TCP}::")]
     text = root.read_text(encoding="utf-8") + MAIN.format(calls="\n".join(made))
     root.with_name("main.rt").write_text(text, encoding="utf-8")
     root.unlink()
@@ -208,7 +213,8 @@ def archive(top: Path) -> Path:
             kit.is_free.set()
             for name, folder in copies(top, room).items():
                 kit.crates[name].folder = str(folder)
-            kit.crates[CRATE].deps += [kit.crates[it] for it in (TCP, "nvme_pdu", "nvme_connection", "nvme_responses")]
+            used = (TCP, "nvme_pdu", "nvme_connection", "nvme_transfers", "nvme_responses")
+            kit.crates[CRATE].deps += [kit.crates[it] for it in used]
             unproved.kept_module(kit, CRATE, room)
         except (unproved.NotBuilt, unproved.toolchain.NoToolchain) as error:
             raise NotBuilt(str(error)) from error
