@@ -1,9 +1,10 @@
 //! The calls of libnvmesim that take pointers, as `nvmesim.h` and `nvmetcp.h` declare them. `raw.rs` makes them.
 
 use crate::layout::{
-    Answer, Bytes, Change, Connection, Disk, Event, ExecutedOver, Fabrics, HostId, HostView, Notices, Read, Sim, Taken,
-    Written,
+    Answer, Bytes, Change, Connection, Disk, Event, ExecutedOver, Fabrics, HostId, HostView, Notices, PartTaken, Read,
+    Sim, Taken, Transfers, Written,
 };
+use crate::transfers::Part;
 use crate::{Attachment, Controller, Namespace};
 
 macro_rules! opening {
@@ -96,5 +97,15 @@ extern "C" {
     pub fn nvmesim_connection_take(connection: *mut Connection, bytes: *const u8, count: usize) -> Taken;
     pub fn nvmesim_fabrics_open(fabrics: *mut Fabrics, hosts: *const HostId, count: usize, has_keys: bool) -> u32;
     pub fn nvmesim_fabrics_close(fabrics: *mut Fabrics);
+    pub fn nvmesim_transfers_open(transfers: *mut Transfers) -> u32;
+    pub fn nvmesim_transfers_close(transfers: *mut Transfers);
+    pub fn nvmesim_transfers_store(
+        transfers: *mut Transfers,
+        part: *const Part,
+        bytes: *const u8,
+        count: usize,
+        room: *mut u8,
+        room_count: usize,
+    ) -> PartTaken;
     pub fn nvmesim_answer_line(event: *const Event, answer: *const Answer, line: *mut u8, room: usize) -> Written;
 }

@@ -310,6 +310,32 @@ pub struct QueueConnection {
     pub what: u32,
 }
 
+#[repr(C)]
+pub struct Transfers {
+    pub commands: *mut c_void,
+    pub is_open: bool,
+}
+
+#[repr(C)]
+pub struct NextRequest {
+    pub what: u32,
+    pub length: u32,
+    pub cid: u16,
+    pub tag: u16,
+}
+
+#[repr(C)]
+pub struct PartTaken {
+    pub what: u32,
+    pub field: u32,
+    pub begin: u32,
+    pub length: u32,
+    pub status: u16,
+    pub is_complete: bool,
+    pub is_sound: bool,
+    pub entry: [u8; 64],
+}
+
 /// A configuration, as the calls take it.
 pub type Parts<'p> = (&'p [Controller], &'p [Namespace], &'p [Attachment]);
 

@@ -101,6 +101,7 @@ pub mod pdu;
 #[allow(unsafe_code)]
 mod raw;
 pub mod responses;
+pub mod transfers;
 
 use layout::Answer;
 use layout::{Blocks, Disk};

@@ -6,11 +6,13 @@
 use crate::foreign::*;
 use crate::layout::{
     Admitted, Answer, Blocks, Bytes, Change, Command, Connection, Event, Executed, ExecutedOver, Fabrics,
-    FabricsAnswer, Hold, HostId, HostView, Judged, LiveSession, Needed, Notices, Parts, PduFields, PduLayout, Queue,
-    QueueConnection, Read, Registered, Request, Session, Sim, Taken, Verdict, Written,
+    FabricsAnswer, Hold, HostId, HostView, Judged, LiveSession, Needed, NextRequest, Notices, PartTaken, Parts,
+    PduFields, PduLayout, Queue, QueueConnection, Read, Registered, Request, Session, Sim, Taken, Transfers, Verdict,
+    Written,
 };
 use crate::pdu::Agreed;
 use crate::responses::{Raw, Reply};
+use crate::transfers::Part;
 use crate::{Attachment, Brought, Controller, Namespace};
 #[cfg(target_arch = "x86_64")]
 use std::arch::x86_64::{_mm_prefetch, _MM_HINT_T0};
@@ -25,7 +27,8 @@ macro_rules! plain_calls {
         }
 
         impl $of {
-            $(pub fn $name(&mut self $(, $word: $kind)*) -> $result {
+            $(#[inline]
+            pub fn $name(&mut self $(, $word: $kind)*) -> $result {
                 unsafe { $call(&mut self.$at $(, $word)*) }
             })+
         }
@@ -272,4 +275,42 @@ plain_calls! {
     execute = nvmesim_fabrics_execute(session: &mut Session, entry: &[u8; 64]) -> Executed;
     end_session = nvmesim_fabrics_end_session(session: &mut Session) -> u32;
     end_association = nvmesim_fabrics_end_association(index: u16) -> u32;
+}
+
+/// The commands of a connection, which are open.
+pub struct Commands {
+    transfers: Transfers,
+}
+
+impl Commands {
+    /// Opens a connection without commands: what the call answered, and they.
+    pub fn open() -> (u32, Self) {
+        let mut it = Commands { transfers: Transfers { commands: ptr::null_mut(), is_open: false } };
+        (unsafe { nvmesim_transfers_open(&mut it.transfers) }, it)
+    }
+
+    #[inline]
+    pub fn store(&mut self, part: &Part, bytes: &[u8], room: &mut [u8]) -> PartTaken {
+        let (b, r) = ((bytes.as_ptr(), bytes.len()), (room.as_mut_ptr(), room.len()));
+        unsafe { nvmesim_transfers_store(&mut self.transfers, part, b.0, b.1, r.0, r.1) }
+    }
+}
+
+// As a handle.
+unsafe impl Send for Commands {}
+
+impl Drop for Commands {
+    fn drop(&mut self) {
+        unsafe { nvmesim_transfers_close(&mut self.transfers) }
+    }
+}
+
+plain_calls! {
+    Commands, transfers: Transfers;
+    count = nvmesim_transfers_count() -> usize;
+    has = nvmesim_transfers_has(cid: u16) -> bool;
+    begin = nvmesim_transfers_begin(entry: &[u8; 64], length: u32) -> u32;
+    next_request = nvmesim_transfers_next_request() -> NextRequest;
+    take = nvmesim_transfers_take(part: &Part) -> PartTaken;
+    end = nvmesim_transfers_end() -> u32;
 }
