@@ -1,5 +1,5 @@
 -- Responses for C.
-use Rattle.std.specs.Prelude.{ℕ, Bool, true, false, if◌then◌else◌, List, Option, Some, None, Result, Ok, Err}
+use Rattle.std.specs.Prelude.{ℕ, Bool, if◌then◌else◌, List, Option, Some, None, Result, Ok, Err}
 use Rattle.nvme_responses.specs.declared.refused.Refused.{Refused}
 use Rattle.nvme_responses.specs.declared.refused.Refused.TheVariants as refused
 use Rattle.nvme_responses.specs.declared.reply.Reply.{Reply}
