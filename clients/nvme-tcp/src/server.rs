@@ -14,6 +14,7 @@ use crate::target::{Effect, Handed, Target};
 use crate::transport::connection::{Connection, ROOM};
 use crate::transport::input::Rooms;
 use crate::transport::listening::{plain, Listener};
+use crate::transport::transfers::Transfers;
 use nvmesim::fabrics::Live;
 use std::cmp::Reverse;
 use std::collections::{HashMap, VecDeque};
@@ -231,9 +232,10 @@ impl<'a> Server<'a> {
             let (peer, local) = (plain(peer), socket.local_addr().map(plain));
             let is_set = socket.set_nonblocking(true).and_then(|()| socket.set_nodelay(true));
             let is_set = is_set.and_then(|()| end_when_lost(&socket));
-            if let (Ok(local), Ok(()), Ok(())) = (local, is_set, self.poll.add(&socket, name, TO_READ)) {
+            let is_added = is_set.and_then(|()| self.poll.add(&socket, name, TO_READ));
+            if let (Ok(local), Ok(()), Ok(transfers)) = (local, is_added, Transfers::new()) {
                 let queue = HostQueue::new(name, peer, local);
-                let connection = Connection::new(socket, queue);
+                let connection = Connection::new(socket, queue, transfers);
                 self.target.counters.accepted += 1;
                 self.connections.insert(name, Served { connection, interest: TO_READ, waits_for: None });
                 self.make_room()?;

@@ -90,13 +90,13 @@ pub struct Connection {
 }
 
 impl Connection {
-    pub fn new(socket: TcpStream, queue: HostQueue) -> Connection {
+    pub fn new(socket: TcpStream, queue: HostQueue, transfers: Transfers) -> Connection {
         Connection {
             socket,
             queue,
             framing: Framing::new(),
             is_ending: false,
-            transfers: Transfers::default(),
+            transfers,
             input: Input::default(),
             output: Output::default(),
             waits: false,
@@ -262,7 +262,8 @@ impl Connection {
                 self.answer(target, &entry, Answer::of(COMMAND_SEQUENCE))?;
             }
             Ok(Pointer::OnRequest(length)) => {
-                self.transfers.begin(*entry.bytes(), length);
+                // None is refused: its identifier is that of no other, and a queue has at most 64 entries.
+                self.transfers.begin(entry.bytes(), length).map_err(|_| pdu::OUT_OF_SEQUENCE)?;
                 self.request_data();
             }
             Ok(Pointer::InCapsule(range)) => self.carry_out(target, &entry, Data::ToController(&data[range]))?,
@@ -285,22 +286,23 @@ impl Connection {
     /// Asks for data of commands that wait for them.
     fn request_data(&mut self) {
         while let Some(it) = self.transfers.next_request() {
-            pdu::ready_to_transfer(&mut self.output, *self.framing.agreed(), it.cid, it.tag, it.length);
+            pdu::ready_to_transfer(&mut self.output, *self.framing.agreed(), it.cid, it.tag, it.length as usize);
         }
     }
 
     fn host_data(&mut self, target: &mut Target<'_>, layout: &Layout, is_sound: bool, unit: &[u8]) -> Result<(), Stop> {
         let data = pdu::data_in(layout, unit);
-        let HostData { cid, tag, offset } = HostData::of(first(unit), data.len() as u32)?;
-        let part = Part { cid, tag, offset: offset as usize, is_last: layout.is_last, is_sound, data };
-        if let Some(transfer) = self.transfers.take(&part)? {
-            let entry = transfer.entry.into();
-            if transfer.is_sound {
-                self.carry_out(target, &entry, Data::ToController(transfer.data(&part)))?;
+        let length = data.len() as u32;
+        let HostData { cid, tag, offset } = HostData::of(first(unit), length)?;
+        let part = Part { cid, tag, offset, length, is_last: layout.is_last, is_sound };
+        if let Some(transfer) = self.transfers.take(&part, data)? {
+            let entry = transfer.entry().into();
+            if transfer.is_sound() {
+                self.carry_out(target, &entry, Data::ToController(transfer.data(data)))?;
             } else {
                 self.answer(target, &entry, Answer::of(TRANSIENT_TRANSPORT))?;
             }
-            self.transfers.end(transfer);
+            self.transfers.give_back(transfer);
             self.request_data();
         }
         Ok(())
@@ -404,6 +406,7 @@ impl Connection {
     pub fn end(&mut self) {
         self.is_ending = true;
         self.queue.responses.end();
+        self.transfers.end();
         self.deadline = Some(Instant::now() + BEFORE_CLOSE);
     }
 
@@ -442,7 +445,7 @@ mod tests {
         let listener = TcpListener::bind("127.0.0.1:0").unwrap();
         let address = listener.local_addr().unwrap();
         let queue = HostQueue::new(1, address, address);
-        let mut it = Connection::new(TcpStream::connect(address).unwrap(), queue);
+        let mut it = Connection::new(TcpStream::connect(address).unwrap(), queue, Transfers::new().unwrap());
         let start = Instant::now();
         let at = |seconds| start + Duration::from_secs(seconds);
         let mut fabrics = Fabrics::new(&[0xa1], true).unwrap();

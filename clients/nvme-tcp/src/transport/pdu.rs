@@ -21,8 +21,6 @@ pub const MOST: usize = 255 + MOST_DATA + DIGEST;
 
 /// A PDU came out of its turn.
 pub const OUT_OF_SEQUENCE: Fatal = Fatal { status: 2, field: 0 };
-/// Data were sent that nobody asked for.
-pub const OUT_OF_RANGE: Fatal = Fatal { status: 4, field: 0 };
 
 /// Whether the digest of the header is right, if there is one.
 pub fn has_right_header(layout: &Layout, unit: &[u8]) -> bool {

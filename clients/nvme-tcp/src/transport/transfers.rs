@@ -1,99 +1,107 @@
-//! Commands whose data a host sends in answer to R2T.
+//! Memory for the data that a host sends in answer to R2T. The library decides which data are whose.
 
-use crate::bytes::u16_at;
 use crate::nvme::ENTRY;
-use crate::transport::pdu::{Fatal, OUT_OF_RANGE};
-use std::collections::VecDeque;
+use crate::transport::pdu::Fatal;
+use nvmesim::transfers::{self, Completed, TAGS};
+pub use nvmesim::transfers::{Part, Refused, Request};
+use nvmesim::OpenError;
+use std::mem;
 
-/// The most commands of a connection that have memory for their data at a time, in all 1 MiB. The others get their R2T
-/// later.
-const MOST_ACTIVE: usize = 8;
-
-/// A command whose data are in flight.
-pub struct Transfer {
-    pub entry: [u8; ENTRY],
-    data: Vec<u8>,
+/// The memory for the data of the command with a tag. It is kept for later commands: at most 1 MiB for all tags.
+#[derive(Default)]
+struct Room {
+    bytes: Vec<u8>,
+    /// The number of data of the command.
     length: usize,
-    /// Whether the digests of all data so far were right.
-    pub is_sound: bool,
+}
+
+impl Room {
+    /// All of it, which has space for the data of the command.
+    fn whole(&mut self) -> &mut [u8] {
+        if self.bytes.len() < self.length {
+            self.bytes.reserve_exact(self.length - self.bytes.len());
+            self.bytes.resize(self.length, 0);
+        }
+        &mut self.bytes
+    }
+}
+
+/// A command that has all its data.
+pub struct Transfer {
+    completed: Completed,
+    tag: usize,
+    /// The memory of its data, or none if they have come in one part.
+    bytes: Vec<u8>,
 }
 
 impl Transfer {
-    /// All its data, the last of which were in this part.
-    pub fn data<'d>(&'d self, last: &Part<'d>) -> &'d [u8] {
-        if self.data.is_empty() {
-            last.data
+    pub fn entry(&self) -> [u8; ENTRY] {
+        self.completed.entry
+    }
+
+    /// Whether the digests of all its data were right.
+    pub fn is_sound(&self) -> bool {
+        self.completed.is_sound
+    }
+
+    /// All its data, the last of which are these.
+    pub fn data<'d>(&'d self, last: &'d [u8]) -> &'d [u8] {
+        if self.bytes.is_empty() {
+            last
         } else {
-            &self.data
+            &self.bytes[..self.completed.length as usize]
         }
     }
-}
-
-/// What is asked of the host: the command, the tag of its data, and how many there are.
-#[derive(Clone, Copy, Debug, PartialEq, Eq)]
-pub struct Request {
-    pub cid: u16,
-    pub tag: u16,
-    pub length: usize,
-}
-
-/// Data of an H2CData PDU.
-pub struct Part<'d> {
-    pub cid: u16,
-    pub tag: u16,
-    pub offset: usize,
-    pub is_last: bool,
-    pub is_sound: bool,
-    pub data: &'d [u8],
 }
 
 /// The commands of a connection that have not got all their data.
-#[derive(Default)]
 pub struct Transfers {
-    active: [Option<Transfer>; MOST_ACTIVE],
-    waiting: VecDeque<([u8; ENTRY], usize)>,
-    /// Memory of transfers that have ended.
-    spare: Vec<Vec<u8>>,
+    commands: transfers::Transfers,
+    rooms: [Room; TAGS],
 }
 
 impl Transfers {
+    pub fn new() -> Result<Transfers, OpenError> {
+        Ok(Transfers { commands: transfers::Transfers::new()?, rooms: Default::default() })
+    }
+
     /// Takes a command that expects `length` bytes.
-    pub fn begin(&mut self, entry: [u8; ENTRY], length: usize) {
-        self.waiting.push_back((entry, length));
+    pub fn begin(&mut self, entry: &[u8; ENTRY], length: usize) -> Result<(), Refused> {
+        self.commands.begin(entry, length as u32)
     }
 
-    /// The next command to request data for, if there is memory.
+    /// The next command to request data for, if a tag is free.
     pub fn next_request(&mut self) -> Option<Request> {
-        let free = self.active.iter().position(Option::is_none)?;
-        let (entry, length) = self.waiting.pop_front()?;
-        let data = self.spare.pop().unwrap_or_default();
-        self.active[free] = Some(Transfer { entry, data, length, is_sound: true });
-        Some(Request { cid: u16_at(&entry, 2), tag: free as u16, length })
+        let request = self.commands.next_request()?;
+        self.rooms[usize::from(request.tag)].length = request.length as usize;
+        Some(request)
     }
 
-    /// Takes data, which come in order; the command, if it has all of them now. Data that have come in one part are not
-    /// copied.
-    pub fn take(&mut self, part: &Part<'_>) -> Result<Option<Transfer>, Fatal> {
-        let slot = self.active.get_mut(usize::from(part.tag)).ok_or(OUT_OF_RANGE)?;
-        let transfer = slot.as_mut().ok_or(OUT_OF_RANGE)?;
-        let end = part.offset + part.data.len();
-        let is_next = part.offset == transfer.data.len() && !part.data.is_empty() && end <= transfer.length;
-        if !is_next || u16_at(&transfer.entry, 2) != part.cid || part.is_last != (end == transfer.length) {
-            return Err(OUT_OF_RANGE);
+    /// Takes the data of a part; the command, if it has all of them now. Data that have come in one part are not copied.
+    pub fn take(&mut self, part: &Part, data: &[u8]) -> Result<Option<Transfer>, Fatal> {
+        let tag = usize::from(part.tag);
+        match self.rooms.get_mut(tag) {
+            Some(room) if data.len() < room.length => {
+                let completed = self.commands.store(part, data, room.whole())?;
+                Ok(completed.map(|completed| Transfer { completed, tag, bytes: mem::take(&mut room.bytes) }))
+            }
+            _ => {
+                let completed = self.commands.take(part)?;
+                Ok(completed.map(|completed| Transfer { completed, tag, bytes: Vec::new() }))
+            }
         }
-        transfer.is_sound &= part.is_sound;
-        if part.data.len() < transfer.length {
-            transfer.data.reserve_exact(transfer.length - part.offset);
-            transfer.data.extend(part.data);
-        }
-        Ok(if part.is_last { slot.take() } else { None })
     }
 
     /// Takes back the memory of a command that has its data.
-    pub fn end(&mut self, transfer: Transfer) {
-        let mut data = transfer.data;
-        data.clear();
-        self.spare.push(data);
+    pub fn give_back(&mut self, transfer: Transfer) {
+        if !transfer.bytes.is_empty() {
+            self.rooms[transfer.tag].bytes = transfer.bytes;
+        }
+    }
+
+    /// The connection ends: all commands are dropped, and no more are taken.
+    pub fn end(&mut self) {
+        self.commands.end();
     }
 }
 
@@ -101,50 +109,52 @@ impl Transfers {
 mod tests {
     use super::*;
 
-    fn part(tag: u16, offset: usize, data: &[u8], is_last: bool) -> Part<'_> {
-        Part { cid: 0, tag, offset, is_last, is_sound: true, data }
+    fn part(offset: u32, data: &[u8], is_last: bool) -> Part {
+        Part { cid: 0, tag: 0, offset, length: data.len() as u32, is_last, is_sound: true }
+    }
+
+    /// A command of `length` bytes that was asked for them.
+    fn asked(length: usize) -> Transfers {
+        let mut transfers = Transfers::new().unwrap();
+        transfers.begin(&[0; ENTRY], length).unwrap();
+        assert_eq!(transfers.next_request(), Some(Request { cid: 0, tag: 0, length: length as u32 }));
+        transfers
     }
 
     #[test]
-    fn data_come_in_their_order_and_no_further() {
-        let mut transfers = Transfers::default();
-        transfers.begin([0; ENTRY], 8);
-        assert!(transfers.take(&part(0, 0, &[1; 4], false)).is_err());
-        assert_eq!(transfers.next_request(), Some(Request { cid: 0, tag: 0, length: 8 }));
-        for wrong in [
-            part(0, 4, &[1; 4], false),
-            part(0, 0, &[1; 9], true),
-            part(0, 0, &[1; 4], true),
-            part(0, 0, &[1; 8], false),
-            part(0, 0, &[], false),
-            part(1, 0, &[1; 4], false),
-            part(9, 0, &[1; 4], false),
-        ] {
-            assert!(transfers.take(&wrong).is_err());
-        }
-        assert!(transfers.take(&part(0, 0, &[1; 4], false)).unwrap().is_none());
-        let last = part(0, 4, &[2; 4], true);
-        let whole = transfers.take(&last).unwrap().unwrap();
-        assert_eq!(whole.data(&last), [1, 1, 1, 1, 2, 2, 2, 2]);
+    fn data_are_collected_in_memory_that_is_kept() {
+        let mut transfers = asked(8);
+        assert!(transfers.take(&part(4, &[1; 4], false), &[1; 4]).is_err());
+        assert!(transfers.take(&part(0, &[1; 4], false), &[1; 4]).unwrap().is_none());
+        let whole = transfers.take(&part(4, &[2; 4], true), &[2; 4]).unwrap().unwrap();
+        assert_eq!((whole.data(&[2; 4]), whole.is_sound()), (&[1, 1, 1, 1, 2, 2, 2, 2][..], true));
+        let place = whole.bytes.as_ptr();
+        transfers.give_back(whole);
+        transfers.begin(&[0; ENTRY], 6).unwrap();
+        transfers.next_request().unwrap();
+        assert!(transfers.take(&part(0, &[3; 5], false), &[3; 5]).unwrap().is_none());
+        let whole = transfers.take(&part(5, &[4], true), &[4]).unwrap().unwrap();
+        assert_eq!((whole.data(&[4]), whole.bytes.as_ptr()), (&[3, 3, 3, 3, 3, 4][..], place));
     }
 
     #[test]
     fn data_of_one_part_stay_where_they_are() {
-        let mut transfers = Transfers::default();
-        transfers.begin([0; ENTRY], 8);
-        transfers.next_request().unwrap();
-        let all = part(0, 0, &[3; 8], true);
-        let whole = transfers.take(&all).unwrap().unwrap();
-        assert_eq!((whole.data(&all), whole.data.capacity()), (&[3; 8][..], 0));
+        let mut transfers = asked(8);
+        let whole = transfers.take(&part(0, &[3; 8], true), &[3; 8]).unwrap().unwrap();
+        assert_eq!((whole.data(&[3; 8]), whole.bytes.capacity()), (&[3; 8][..], 0));
+        transfers.give_back(whole);
+        assert!(transfers.rooms.iter().all(|room| room.bytes.capacity() == 0));
     }
 
     #[test]
-    fn memory_is_bounded() {
-        let mut transfers = Transfers::default();
-        (0..20).for_each(|_| transfers.begin([0; ENTRY], 4));
-        assert_eq!(std::iter::from_fn(|| transfers.next_request()).count(), MOST_ACTIVE);
-        assert!(transfers.take(&part(3, 0, &[0; 4], true)).unwrap().is_some());
-        assert_eq!(transfers.next_request().map(|it| it.tag), Some(3));
-        assert_eq!(transfers.waiting.len(), 11);
+    fn a_part_with_another_tag_takes_no_memory() {
+        let mut transfers = asked(8);
+        for tag in [1, 7, 8, u16::MAX] {
+            assert!(transfers.take(&Part { tag, ..part(0, &[1; 4], false) }, &[1; 4]).is_err());
+        }
+        assert!(transfers.rooms.iter().all(|room| room.bytes.capacity() == 0));
+        transfers.end();
+        assert_eq!((transfers.commands.count(), transfers.commands.has(0)), (0, false));
+        assert_eq!(transfers.begin(&[0; ENTRY], 8), Err(Refused::Ended));
     }
 }
