@@ -101,7 +101,8 @@ class Place:
                 declare(room, path, self.asker.is_program)
             words = [*self.rt.rtlib.guarded(), self.rt.rtlib.RATTLE, "check"]
             words += self.asker.words(["--jobs", "1"], keeps=False)
-            return self.checked([*words, "--incremental", self.kept], functions, seconds, room)
+            # Half of the search's limits: what is refused so counts only if the same copy is proved so as it is.
+            return self.checked([*words, "--margin", "--incremental", self.kept], functions, seconds, room)
 
     def saved(self):
         """The modules that checks saved, as files."""
