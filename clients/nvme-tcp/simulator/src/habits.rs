@@ -76,7 +76,7 @@ impl Manner {
             name: has("option", 2).then_some("nqn.2024-01.example:another"),
             advertised: has("option", 3).then_some("10.1.2.3:4444"),
             is_asked: has("operator", 7),
-            fails: has("fail", 1),
+            fails: has("fail", 2),
             uses_tools: has("tool", 3),
         }
     }

@@ -356,7 +356,7 @@ impl Session<'_> {
     }
 
     fn issue(&mut self) -> Result<(), Lost> {
-        if self.path.lies && once_in(600 * self.path.habits.errs) {
+        if self.path.lies && once_in(60 * self.path.habits.errs) {
             return self.flood();
         }
         if once_in(self.path.habits.errs) {

@@ -12,6 +12,7 @@ pub use ::std::*;
 mod chance;
 mod command;
 mod control;
+mod crafted;
 mod ending;
 #[allow(unsafe_code)]
 mod fiber;

@@ -31,6 +31,13 @@ impl Started {
         Started { process: world::start_process(machine, "other", move || act(given)), list: format!("{list:?}") }
     }
 
+    /// Starts a target over memory, that waits for an address.
+    pub fn begin_at(act: Act, address: &str) -> Started {
+        let given = words(&["--listen", address, "--wait", CONFIG]);
+        let process = world::start_process(0, "other", move || act(given));
+        Started { process, list: address.to_owned() }
+    }
+
     /// Waits until it serves or ends; whether it serves.
     pub fn serves(&self) -> bool {
         self.wait_for(|process| has_ended(process) || with(|it| it.processes[process].served.is_some()));
@@ -164,8 +171,11 @@ fn damage_state(act: Act) {
     let unknown = [&journal[..], &of_epoch(0x77, 2)].concat();
     let early = [&journal[..], &of_epoch(4, 999)].concat();
     let short = [&journal[..], &record(&[4, 0, 0])].concat();
+    // Of a controller that there is not.
+    let failing =
+        [&journal[..], &record(&[&[3u8][..], &2u64.to_le_bytes(), &[77, 0, 1, 0], &[0; 64]].concat())].concat();
     let unfinished = [&journal[..], &record(&[3, 2, 0, 0, 0, 0, 0, 0, 0, 1])].concat();
-    for bytes in [&damaged, &other, &journal[..3].to_vec(), &unknown, &early, &short, &unfinished] {
+    for bytes in [&damaged, &other, &journal[..3].to_vec(), &unknown, &early, &short, &unfinished, &failing] {
         begin(bytes);
         expect(act, &["--listen", ADDRESS, "--state", "/second", CONFIG], FAILED);
     }
@@ -183,6 +193,10 @@ fn damage_state(act: Act) {
     serve(act, &["--state", "/second", CONFIG]);
     with(|it| it.disks.remove(Path::new("/second/journal")));
     expect(act, &["--listen", ADDRESS, "--state", "/second", CONFIG], FAILED);
+    // Targets of the first version had a socket in place of a file.
+    begin(&journal);
+    put("/second/in-use", Kind::Socket, b"");
+    run(act, 0, &["--listen", ADDRESS, "--state", "/second", "--control", "/run/there", CONFIG]);
     begin(&journal);
     put("/second/identity", Kind::File, b"none\n");
     run(act, 0, &["--listen", ADDRESS, "--state", "/second", CONFIG, "--control", "/run/there"]);

@@ -138,6 +138,12 @@ impl Supervisor {
         words(&list)
     }
 
+    /// The script of the target that runs.
+    pub fn script(&self) -> Option<String> {
+        let keeps = self.scenario.keeps_run && !self.scenario.manner.records;
+        self.running.first().filter(|_| keeps).map(|it| it.script.clone())
+    }
+
     /// The recording of the target that runs.
     pub fn recording(&self) -> Option<String> {
         let records = self.scenario.keeps_run && self.scenario.manner.records;

@@ -1,5 +1,6 @@
 //! Command lines of the target that serve nothing, or are refused: each ends with its exit status.
 
+use crate::crafted;
 use crate::ending::has_ended;
 use crate::hosts::checker::check;
 use crate::hosts::pdu::digest;
@@ -119,6 +120,8 @@ pub fn use_all(supervisor: &mut Supervisor) {
     use_volumes(act);
     damage_volumes(act);
     expand_wrong(act);
+    crafted::expand_events(act);
+    crafted::misplace(act);
     starts::use_all(act);
     if check(|it| it.violations.is_empty()) {
         rivals(supervisor);
@@ -265,6 +268,13 @@ fn damage_volumes(act: Act) {
         run(act, 0, &["dump", "/damaged"]);
         run(act, 0, &["copy", "/damaged", "/other", "--force"]);
     }
+    let list = ["/copy"];
+    let target = Started::begin(act, 0, &list);
+    if target.serves() {
+        target.end();
+    }
+    put("/served", Kind::File, &content("/copy"));
+    crafted::check_superblocks(act, &good);
     put("/damaged", Kind::File, &good[..size / 2 / PAGE * PAGE]);
     expect(act, &["check", "/damaged"], REFUSED);
 }
@@ -328,11 +338,21 @@ fn rivals(supervisor: &mut Supervisor) {
     }
     expand_again(act, supervisor.recording());
     let list = if scenario.is_volume { vec![DEVICE] } else { vec!["--state", "/state", CONFIG] };
-    let heir = Started::begin(act, 0, &[&["--listen", &address, "--wait"], &list[..]].concat());
+    // The kept run is locked, though its name is gone.
+    if let Some(script) = supervisor.script() {
+        with(|it| it.disks.remove(Path::new(&script)));
+        expect(act, &["--listen", "127.0.0.1:7777", "--script", &script, "--force", CONFIG], FAILED);
+    }
+    with(|it| it.disks.hides_locks = true);
+    expect(act, &[&["--listen", "127.0.0.1:7777"], &list[..]].concat(), FAILED);
+    with(|it| it.disks.hides_locks = false);
+    let heirs = [Started::begin(act, 0, &[&["--wait"], &list[..]].concat()), Started::begin_at(act, &address)];
     world::pause(SECOND);
     supervisor.end(0);
-    if heir.serves() {
-        heir.end();
+    for heir in heirs {
+        if heir.serves() {
+            heir.end();
+        }
     }
 }
 

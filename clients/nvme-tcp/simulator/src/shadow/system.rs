@@ -55,7 +55,15 @@ pub fn end_when_lost(_: &impl AsRawFd) -> io::Result<()> {
 }
 
 pub fn reserve(_: &File, _: u64, _: u64) -> io::Result<()> {
-    Ok(())
+    let fails = with(|it| {
+        let fails = it.chances.failed_accept;
+        it.happens("failed reserve", fails)
+    });
+    if fails {
+        Err(io::ErrorKind::Unsupported.into())
+    } else {
+        Ok(())
+    }
 }
 
 pub fn punch_hole(file: &File, place: u64, count: u64) -> io::Result<()> {

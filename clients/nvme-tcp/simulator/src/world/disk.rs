@@ -138,12 +138,20 @@ pub struct Disks {
     next_open: u64,
     /// The one with the blocks that targets serve.
     pub served: Option<usize>,
+    /// Whether /proc/locks shows nothing, as in another namespace of processes.
+    pub hides_locks: bool,
 }
 
 impl Disks {
     pub fn new() -> Disks {
-        let mut disks =
-            Disks { inodes: Vec::new(), names: BTreeMap::new(), held: Vec::new(), next_open: 1, served: None };
+        let mut disks = Disks {
+            inodes: Vec::new(),
+            names: BTreeMap::new(),
+            held: Vec::new(),
+            next_open: 1,
+            served: None,
+            hides_locks: false,
+        };
         for folder in ["/", "/run", "/dev", "/etc", "/state", "."] {
             disks.create(Path::new(folder), Kind::Folder);
         }
@@ -199,7 +207,7 @@ impl Disks {
 
     /// The lines of /proc/locks of a machine.
     pub fn locks(&self, machine: usize) -> String {
-        let held = self.held.iter().filter(|it| it.machine == machine);
+        let held = self.held.iter().filter(|it| it.machine == machine && !self.hides_locks);
         let line = |(number, it): (usize, &Held)| {
             let (kind, process) = (if it.is_shared { "READ " } else { "WRITE" }, it.process + 100);
             format!("{number}: FLOCK  ADVISORY  {kind} {process} fe:00:{} 0 EOF\n", it.inode + 1)
