@@ -1,4 +1,4 @@
-"""A target that moves: two machines with Pacemaker, of which one serves a volume on a disk that both have."""
+"""A target that moves: two machines with Pacemaker, one of which serves a volume that DRBD mirrors, or a shared disk."""
 import contextlib
 import subprocess
 import time
@@ -26,6 +26,8 @@ LEASE = max(1, int(SLOWER))
 WRITERS = {0xa1: (0xa, range(0, 40)), 0xb2: (0xb, range(100, 140))}
 OUTSIDER, LATE_KEY, LATE_PLACES = 0xc3, 0xc, range(0, 140)
 
+# A guest that may be a host.
+INITIATOR = "a1"
 # Seconds in which a broken power switch sees whether a machine is off.
 UNSWITCHED = 50
 
@@ -67,7 +69,7 @@ class Moves(Pair):
         self.serves("t1")
 
     def wait_until(self, what: str, holds: Callable[[], bool], name: str) -> None:
-        """Waits for a condition, and shows a machine's console meanwhile: crm_mon takes a guest's time from the rest."""
+        """Waits for a condition, and shows a machine's console: crm_mon would take the guest's time from the rest."""
         last = time.monotonic() + SETTLED
         while not holds() and time.monotonic() < last:
             self.guests[name].rest(0.5)
@@ -77,16 +79,23 @@ class Moves(Pair):
         """The volume, or the copies of guests. The last is that of t2."""
         return [self.volume] if NAMESPACES else [self.folder / f"volume-{it}" for it in MACHINES]
 
-    def open_hosts(self) -> None:
-        """Two hosts share a reservation, and a third is fenced. All write from now on."""
+    def reserve(self) -> None:
+        """Two hosts share a reservation, and a third is fenced."""
         first, second, third = (Host(ADDRESS, it) for it in (*WRITERS, OUTSIDER))
         statuses = [first.register(0, 0xa), first.acquire(0xa, kind=3), second.register(0, 0xb),
                     third.register(0, LATE_KEY), first.acquire(0xa, LATE_KEY, action=1, kind=3)]
         self.wants("two hosts have a reservation, a third is fenced", statuses == [0] * 5)
         for it in (first, second, third):
             it.close()
+
+    def open_hosts(self) -> None:
+        """All three write from now on."""
+        self.reserve()
         self.writers = [Writer(ADDRESS, it, places) for it, (_, places) in WRITERS.items()]
         self.writers.append(Writer(ADDRESS, OUTSIDER, LATE_PLACES, is_fenced=True))
+        self.write_from_now()
+
+    def write_from_now(self) -> None:
         for it in (*self.writers, self.watch):
             it.start()
         self.wait_for_answers("t1", time.monotonic())
@@ -104,9 +113,8 @@ class Moves(Pair):
                    set(self.fencer.fenced) == ({"t1"} if is_fenced else set()))
         if is_fenced:
             self.guests["t2"].run("stonith_admin --history t1 --verbose | grep successful", SETTLED)
-        outages = ", ".join(f"{it.outage(begun):.1f}" for it in self.writers)
-        say(f"seconds from then to the first answer of t2, for hosts a1, b2 and c3: {outages}; the token is {TOKEN} "
-            f"ms, the lease {LEASE} s")
+        outages = ", ".join(f"{it.outage(begun):.1f} for {it.number:x}" for it in self.writers)
+        say(f"seconds from then to the first answer of t2: {outages}; the token is {TOKEN} ms, the lease {LEASE} s")
 
     def end(self) -> None:
         """The hosts end, and read what they wrote."""
@@ -119,23 +127,27 @@ class Moves(Pair):
         blocks = b"".join(host.read(it, 64).data for it in range(0, 256, 64))
         host.close()
         self.guests["t2"].run("cat /run/nvmetcp-disk/log")
-        for it in self.writers[:2]:
+        for it in self.permitted():
             faults = it.expected.faults(blocks)
             self.wants(f"host {it.number:x} reads what was answered, or what it asked for later {faults}", not faults)
+
+    def permitted(self) -> List[Writer]:
+        """The hosts that the reservation lets write."""
+        return [it for it in self.writers if not it.is_fenced]
 
     def judge(self) -> None:
         """What holds after the machines are gone: the blocks of the volume, and those of the kept scripts."""
         order = turns(self.watch.seen)
         self.wants(f"one target at a time has answered: {order}", order == ["t1", "t2"])
         blocks, unsure = self.copies()[-1].read_bytes()[BLOCKS_AT:], set()
-        for it in self.writers[:2]:
+        for it in self.permitted():
             self.wants(f"the volume has the blocks of host {it.number:x}", not it.expected.faults(blocks))
             unsure.update(it.expected.unsure())
         if self.settled and not self.fencer.fenced:
             first, second = (it.read_bytes() for it in self.copies())
             self.wants("both copies of the volume are the same", first == second)
         again = self.replay()
-        other = [it for it in range(BLOCKS) if again[BLOCK * it:BLOCK * (it + 1)] != blocks[BLOCK * it:BLOCK * (it + 1)]]
+        other = [at // BLOCK for at in range(0, BLOCK * BLOCKS, BLOCK) if again[at:at + BLOCK] != blocks[at:at + BLOCK]]
         self.wants(f"the scripts of t1 and t2 in a row leave the volume's blocks, except for {len(unsure)} whose last "
                    f"write has no answer {other}", set(other) <= unsure)
 
@@ -153,13 +165,13 @@ class Moves(Pair):
 
 
 @contextlib.contextmanager
-def machines(built: Path, folder: Path) -> Iterator[Moves]:
-    """Both machines with the target on t1, and hosts that write."""
-    with network_namespace(*MACHINES):
+def machines(built: Path, folder: Path, opens: Callable[[Moves], None] = Moves.open_hosts) -> Iterator[Moves]:
+    """Both machines with the target on t1, and what opens it: hosts that write."""
+    with network_namespace(*MACHINES, INITIATOR):
         it = Moves(built, folder)
         try:
             it.start()
-            it.open_hosts()
+            opens(it)
             yield it
             it.end()
         finally:

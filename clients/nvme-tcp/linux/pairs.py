@@ -22,6 +22,7 @@ NAMESPACES = bool(os.environ.get("NAMESPACES"))
 KEEP = "--script /share/run.nvme --force"
 # The resources: DRBD mirrors the disks of guests; the disk of namespaces is one that both have.
 RESOURCES = "targets.crm" if NAMESPACES else "drbd.crm"
+GROUP = "group target disk address"
 # The target and its address run on a machine.
 SERVES = r"address.*Started {}"
 
@@ -34,7 +35,7 @@ def adapted(text: str) -> str:
     text = re.sub(r"(timeout=|t2:)(\d+)s", lambda it: f"{it[1]}{int(int(it[2]) * SLOWER)}s", text)
     text = re.sub(r"(ping-timeout) (\d+)", lambda it: f"{it[1]} {min(int(int(it[2]) * SLOWER), 300)}", text)
     text = text.replace("token: TOKEN", f"token: {TOKEN}").replace("--trust-network", f"--trust-network {KEEP}")
-    return text if NAMESPACES else text.replace("group target disk address", "group target disk address meta target-role=Stopped")
+    return text if NAMESPACES else text.replace(GROUP, f"{GROUP} meta target-role=Stopped")
 
 
 def fill(share: Path) -> None:

@@ -1,0 +1,61 @@
+"""A host that is Linux: it has mounted the volume of a target that moves, and writes files meanwhile."""
+import functools
+import re
+import time
+from pathlib import Path
+from typing import Callable, Dict
+
+from linux.cluster import SETTLED
+from linux.machines import Guest, say
+from linux.moves import ADDRESS, INITIATOR, LATE_PLACES, OUTSIDER, Moves, machines
+from linux.network import tap
+from linux.writers import Writer
+
+CONNECT = f"nvme connect -t tcp -a {ADDRESS[0]} -s {ADDRESS[1]} -n $nqn $me --reconnect-delay=1 --ctrl-loss-tmo=1800"
+# Eight files in turn. A number is kept after fsync has returned.
+WRITE = "echo 0 >/room/synced; { n=0; while [ ! -e /room/end ]; do n=$((n + 1)); echo file $n | " \
+    "dd of=/disk/$((n % 8)) conv=fsync 2>/dev/null && echo $n >/room/synced; done; } &"
+ENDED = "touch /room/end; wait; n=$(cat /room/synced); umount /disk; mount -t ext4 /dev/nvme0n1 /disk"
+READ = 'lost=0; for m in $(seq $((n - 7)) $n); do [ "$(cat /disk/$((m % 8)))" = "file $m" ] || lost=$((lost + 1)); done'
+CHECK = "umount /disk && e2fsck -fn /dev/nvme0n1; echo status $?"
+
+
+def synced(guest: Guest) -> int:
+    """The number of files that the host has written."""
+    return int(re.findall(r"synced (\d+)", guest.run("echo synced $(cat /room/synced)", SETTLED))[-1])
+
+
+def open_linux(it: Moves, built: Path) -> None:
+    """Linux writes files, and another host is fenced."""
+    it.reserve()
+    guest = Guest(built, it.folder, INITIATOR, devices=[
+        "-netdev", f"tap,id=hosts,ifname={tap(INITIATOR)},script=no,downscript=no",
+        "-device", "e1000,netdev=hosts,mac=52:54:00:00:02:0a"])
+    it.guests[INITIATOR] = guest
+    guest.run("ip addr add 10.88.0.20/24 dev eth1; ip link set eth1 up")
+    guest.run(CONNECT, SETTLED)
+    text = guest.run("mkfs.ext4 -q -b 1024 /dev/nvme0n1 && mount -t ext4 /dev/nvme0n1 /disk; echo status $?", SETTLED)
+    it.wants("Linux has mounted the volume", "status 0" in text)
+    guest.run(WRITE)
+    it.writers = [Writer(ADDRESS, OUTSIDER, LATE_PLACES, is_fenced=True)]
+    it.write_from_now()
+
+
+def mounted(built: Path, folder: Path) -> None:
+    """Linux writes files on the volume while the machine with the target is killed."""
+    with machines(built, folder, functools.partial(open_linux, built=built)) as it:
+        guest = it.guests[INITIATOR]
+        guest.rest(5)
+        before = synced(guest)
+        say("t1 is killed")
+        begun = time.monotonic()
+        it.kill("t1")
+        it.moved(begun)
+        it.wait_until("Linux writes again", lambda: synced(guest) > before + 8, INITIATOR)
+        it.wants(f"files were written before, {before}", before > 0)
+        text = guest.run(f"{ENDED}; {READ}; echo lost $lost", SETTLED)
+        it.wants("each file that was synced is there", "lost 0" in text)
+        it.wants("e2fsck finds nothing wrong", "status 0" in guest.run(CHECK, SETTLED))
+
+
+MOUNTED: Dict[str, Callable[[Path, Path], None]] = {"moves-mounted": mounted}
