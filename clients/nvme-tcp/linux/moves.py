@@ -123,10 +123,10 @@ class Moves(Pair):
         for it in self.writers:
             kind = "conflicts" if it.is_fenced else "0:00"
             self.wants(f"all {len(it.answers)} answers to host {it.number:x} are {kind} {it.faults}", not it.faults)
+        self.guests["t2"].run("cat /run/nvmetcp-disk/log")
         host = Host(ADDRESS, 0xa1)
         blocks = b"".join(host.read(it, 64).data for it in range(0, 256, 64))
         host.close()
-        self.guests["t2"].run("cat /run/nvmetcp-disk/log")
         for it in self.permitted():
             faults = it.expected.faults(blocks)
             self.wants(f"host {it.number:x} reads what was answered, or what it asked for later {faults}", not faults)
