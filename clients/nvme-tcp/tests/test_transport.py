@@ -163,6 +163,39 @@ class Units(TargetTest):
         self.assertEqual([kind for kind, _ in kinds], [READY_TO_TRANSFER, RESPONSE])
         self.assertEqual(struct.unpack_from("<H", kinds[1][1], 22)[0] >> 1, 0x4003)
 
+    def test_an_identifier_of_a_held_command(self) -> None:
+        queue = self.host().queues[0]
+        self.target.ask("hold 1")
+        for _ in range(2):
+            queue.send_command(0x02, 1, struct.pack("<QI", 0, 0), length=512, cid=9)
+        conflict = queue.completion()
+        self.assertEqual((conflict.cid, conflict.status, conflict.data), (9, 0x4003, b""))
+        self.assertEqual(self.target.ask("go 1"), "go 1 1")
+        answer = queue.completion()
+        self.assertEqual((answer.cid, answer.status, answer.data), (9, 0, bytes(512)))
+        self.assertEqual((answer.sqhd - conflict.sqhd) % 64, 0)
+
+    def test_requests_take_entries_of_their_queue(self) -> None:
+        """A queue of four entries has three Asynchronous Event Requests and another command. A reset drops the requests."""
+        queue = Queue(self.target.port)
+        self.addCleanup(queue.close)
+        self.assertEqual(queue.connect(0, 0xa1, size=4).status, 0)
+        for _ in range(3):
+            self.assertEqual(queue.set_property(0x14, 0x460001).status, 0)
+            for cid in (100, 101, 102):
+                queue.send_command(0x0c, cid=cid)
+            queue.send_command(0x18, cid=101)
+            self.assertEqual(queue.completion()[:1], (0x4003,))
+            self.assertEqual(queue.call(0x18).status, 0)
+            self.assertEqual(queue.set_property(0x14, 0).status, 0)
+        self.assertEqual(queue.set_property(0x14, 0x460001).status, 0)
+        for cid in range(100, 104):
+            queue.send_command(0x0c, cid=cid)
+        queue.send_command(0x18)
+        with self.assertRaises(Ended) as ended:
+            queue.completion()
+        self.assertEqual(ended.exception.status, SEQUENCE)
+
     def test_a_host_that_ends_its_connection(self) -> None:
         queue = self.host().queues[0]
         queue.socket.sendall(struct.pack("<BBBBIHI", 2, 0, 24, 0, 24, 1, 0) + bytes(10))
