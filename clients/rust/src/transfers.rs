@@ -95,13 +95,15 @@ pub struct Completed {
 /// The commands of a connection that have not got all their data: at most 8 have an R2T, and 64 wait for theirs.
 pub struct Transfers {
     raw: Commands,
+    /// What `count` has returned, until a call may change it.
+    counted: Option<usize>,
 }
 
 impl Transfers {
     /// A connection without commands. It takes memory once.
     pub fn new() -> Result<Transfers, OpenError> {
         match Commands::open() {
-            (OK, raw) => Ok(Transfers { raw }),
+            (OK, raw) => Ok(Transfers { raw, counted: None }),
             _ => Err(OpenError::NoMemory),
         }
     }
@@ -109,17 +111,21 @@ impl Transfers {
     /// How many commands there are.
     #[inline]
     pub fn count(&mut self) -> usize {
-        self.raw.count()
+        match self.counted {
+            Some(count) => count,
+            None => *self.counted.insert(self.raw.count()),
+        }
     }
 
     /// Whether a command with this identifier is in flight.
     #[inline]
     pub fn has(&mut self, cid: u16) -> bool {
-        self.raw.has(cid)
+        self.count() != 0 && self.raw.has(cid)
     }
 
     /// A command that expects `length` bytes waits for its R2T.
     pub fn begin(&mut self, entry: &[u8; 64], length: u32) -> Result<(), Refused> {
+        self.counted = None;
         match self.raw.begin(entry, length) {
             OK => Ok(()),
             NO_DATA => Err(Refused::NoData),
@@ -132,6 +138,7 @@ impl Transfers {
     /// The R2T of the command that waits longest, if a tag is free.
     #[inline]
     pub fn next_request(&mut self) -> Option<Request> {
+        self.counted = None;
         let it = self.raw.next_request();
         (it.what == OK).then_some(Request { cid: it.cid, tag: it.tag, length: it.length })
     }
@@ -140,6 +147,7 @@ impl Transfers {
     /// nothing, and no byte of it may be used.
     #[inline]
     pub fn take(&mut self, part: &Part) -> Result<Option<Completed>, Fatal> {
+        self.counted = None;
         completed(&self.raw.take(part))
     }
 
@@ -147,11 +155,13 @@ impl Transfers {
     /// as many as it says, or go past the end of the room.
     #[inline]
     pub fn store(&mut self, part: &Part, bytes: &[u8], room: &mut [u8]) -> Result<Option<Completed>, Fatal> {
+        self.counted = None;
         completed(&self.raw.store(part, bytes, room))
     }
 
     /// The connection ends: all commands are dropped, and no more are taken.
     pub fn end(&mut self) {
+        self.counted = None;
         self.raw.end();
     }
 }

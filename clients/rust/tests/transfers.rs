@@ -48,6 +48,7 @@ fn data_come_in_their_order_and_no_further() {
     assert_eq!((transfers.store(&part(0, 0, 4, false), &[1; 3], &mut room), room), (RANGE, [0; 12]));
     assert_eq!(transfers.store(&part(0, 0, 4, false), &[1; 4], &mut room[..3]), RANGE);
     assert_eq!(transfers.store(&part(0, 0, 4, false), &[1; 4], &mut room), Ok(None));
+    assert_eq!((transfers.count(), transfers.has(1), transfers.has(2)), (1, true, false));
     let completed = Completed { entry: entry(1), length: 8, is_sound: true };
     assert_eq!(transfers.store(&part(0, 4, 4, true), &[2; 4], &mut room), Ok(Some(completed)));
     assert_eq!(room, [1, 1, 1, 1, 2, 2, 2, 2, 0, 0, 0, 0]);
@@ -67,7 +68,9 @@ fn a_wrong_digest_is_remembered() {
 #[test]
 fn tags_are_bounded_and_are_used_again() {
     let mut transfers = Transfers::new().unwrap();
+    assert_eq!((transfers.count(), transfers.has(0)), (0, false));
     (0..20).for_each(|cid| transfers.begin(&entry(cid), 4).unwrap());
+    assert_eq!((transfers.count(), transfers.has(0)), (20, true));
     let asked: Vec<Request> = std::iter::from_fn(|| transfers.next_request()).collect();
     assert_eq!(asked.len(), TAGS);
     assert!(asked.iter().zip(0..).all(|(it, at)| *it == Request { cid: at, tag: at, length: 4 }));
