@@ -4,6 +4,7 @@ from pathlib import Path
 from types import SimpleNamespace
 from unittest import mock
 
+from support.definitions.closed_copies import ClosedCopy
 from support.definitions.code_copies import CodeCopy
 from support.definitions.copies import Copy, Seeing, texts_of, verdicts_on
 from support.definitions.places import declare
@@ -29,6 +30,7 @@ REFUSED = ("note: src/NAME.rt:6:1: it is not proved that what it ensures holds (
 BROKEN = "./proofs/C1OneShut.antt:6:1: error: `witness`: the two values differ\n"
 
 
+@mock.patch.dict("support.definitions.trying.WAYS", clause=(Copy,))
 class Copies(OneCrate):
     def copy(self, name, witness, is_wrong=True):
         mutant = self.mutants[name]
@@ -60,6 +62,13 @@ class Copies(OneCrate):
         self.assertIn("low n = 1", texts["specs/C0OneLow.antt"])
         # A clause whose answer is in a file is left to a check of its function.
         self.assertIsNone(self.copy("low", "each#high"))
+
+    def test_variants_of_what_is_left(self):
+        new = "pub data Side : Type 0 where\n  Left : Side\n  Right : Side\n\nabbrev pub low : Side → ℕ\nlow Left = 1\n"
+        self.write({"specs/Low.antt": CRATE["specs/Low.antt"].replace("abbrev pub low : ℕ → ℕ\nlow n = 1\n", new)})
+        self.read()
+        self.assertIn("use Rattle.one.specs.Low.{Side, Left, Right}", self.copy("low", "each#low").texts()[
+            "specs/C0OneLow.antt"])
 
     def test_a_lemma(self):
         texts = self.copy("shut", "opened").texts()
@@ -169,6 +178,61 @@ fn again(n: u64) -> u64
 }
 """
 OPEN = "note: src/part/c1.rt:9:5: it is not proved that what it ensures holds (`returns`)\n"
+
+
+class ClosedCopies(OneCrate):
+    def copy(self, name, witness):
+        item = next(it for it in self.sources.items if it.name == witness)
+        made = ClosedCopy(self.sources, "one", item, self.mutants[name].item, self.mutants[name])
+        made.name = "c1"
+        return made if made.collect(Seeing(self.sources).of(made.definition)) else None
+
+    def test_a_lemma_of_it(self):
+        copy = self.copy("low", "each#low")
+        texts = copy.texts()
+        self.assertEqual(sorted(texts), ["proofs/C1OneLib.antt", "specs/C1OneLow.antt"])
+        lemma = texts["proofs/C1OneLib.antt"]
+        self.assertIn("use Rattle.one.specs.C1OneLow.{low}\n", lemma)
+        self.assertIn("\npub witness :\n    low 0 ≡ 1\nwitness = refl\n", lemma)
+        self.assertEqual(copy.import_line, "use Rattle.one.proofs.C1OneLib.{witness as c1}")
+
+    def test_what_is_opened(self):
+        text = CRATE["src/lib.rt"].replace("fn each", "#[tactic(auto, unfolding(crate::specs::Low::shut))]\nfn each")
+        self.write({"src/lib.rt": text.replace("low 0 ≡ 1", "shut 0 ≡ 4")})
+        self.read()
+        lemma = self.copy("shut", "each#low").lemma()
+        self.assertIn("use Rattle.one.specs.C1OneLow.{shut}", lemma)
+        self.assertIn("shut 0 ≡ 4\nunfolding shut\nwitness = refl", lemma)
+
+    def test_what_is_not_closed(self):
+        for new in ("low 0 ≡ 1 → low 0 ≡ 2", "low 0 < 3"):
+            self.write({"src/lib.rt": CRATE["src/lib.rt"].replace("low 0 ≡ 1", new)})
+            self.read()
+            self.assertIsNone(self.copy("low", "each#low"))
+        self.assertIsNone(self.copy("shut", "opening#shut"))
+
+    def test_variants(self):
+        self.write({"src/lib.rt": CRATE["src/lib.rt"].replace("low 0 ≡ 1", "Kind.One ≡ low 0"),
+                    "src/a/kind.rt": "//! Kinds.\n\n/// A kind.\npub enum Kind {\n    One,\n}\n"})
+        self.read()
+        line = "use Rattle.one.specs.declared.a.kind.Kind.TheVariants as Kind\n"
+        self.assertIn(line, self.copy("low", "each#low").lemma())
+
+    def test_a_function_instead(self):
+        # What is not computed as it is, is searched for.
+        asking = Asking(Prover(self.crate, {}), self.sources, self.some("low"))
+        first = next(asking.candidates(self.mutants["low"], False))
+        asking.sound[first] = False
+        self.assertEqual([type(it).__name__ for it in (first, next(asking.candidates(self.mutants["low"], False)))],
+                         ["ClosedCopy", "Copy"])
+
+    def test_refused(self):
+        copy = self.copy("low", "each#low")
+        said = ["./proofs/C1OneLib.antt:5:1: error: `witness`: the two values differ"]
+        found = copy.outcome(said, "")
+        self.assertEqual((found.kind, found.item.name), ("noticed", "each#low"))
+        self.assertEqual(copy.outcome([], "proved").kind, "proved")
+        self.assertIsNone(copy.outcome([], ""))
 
 
 class CodeCopies(OneCrate):

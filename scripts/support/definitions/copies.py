@@ -169,7 +169,8 @@ class Copy:
 
     def file_text(self, file):
         """A copy of a file."""
-        left = [it.name for it in file.items if it in self.left]
+        # Of a type its variants too.
+        left = [one for it in file.items if it in self.left for one in (it.name, *sorted(it.names - {*parts_of(it.name)}))]
         stem = file.path.rpartition(".")[0].replace("/", ".")
         uses = self.uses(file.text) + ([f"use Rattle.{file.crate}.{stem}.{{{', '.join(left)}}}"] if left else [])
         texts = {it: self.item_text(file, it) for it in file.items if it in self.kept}

@@ -11,6 +11,7 @@ from concurrent.futures import ThreadPoolExecutor
 from itertools import count, islice
 
 from support.definitions.batches import Witnesses, batches_of
+from support.definitions.closed_copies import ClosedCopy
 from support.definitions.code_copies import CodeCopy
 from support.definitions.copies import Copy, Seeing, verdicts_on
 from support.definitions.places import LONG, Place, unfinished
@@ -21,9 +22,11 @@ from support.proving import say
 # The most wrong definitions that share a check, how many witnesses of each are asked, and how often in one crate.
 MOST, FEW, ROUNDS = 24, 2, 2
 # The most copies that share a check, how many of what is wrong are worth one, since a check takes as long as some twenty
-# copies before it proves any; how many controls are many; how many witnesses are tried by copies, and the processor
-# seconds of a check.
-COPIES, WORTH, MANY, TIMES, CODE_TIMES, COPIES_LIMIT = 300, 40, 80, 6, 3, 1500
+# copies before it proves any; how many controls are many; how many of what is wrong are tried before any is recorded;
+# how many witnesses are tried by copies, and the processor seconds of a check.
+COPIES, WORTH, MANY, PART, TIMES, CODE_TIMES, COPIES_LIMIT = 300, 40, 80, 200, 6, 3, 1500
+# How a witness is copied: a clause as what is computed, or else as a function.
+WAYS = {"clause": (ClosedCopy, Copy), "proofs": (Copy,), "function": (CodeCopy,)}
 UNREAD = re.compile(r"\bsrc/(?:\S+/)?(c\d+)\.rt:\d+:\d+: error")
 
 
@@ -80,15 +83,16 @@ class Asking:
         what is none."""
         items = (it.item for it in self.witnesses.of.get(mutant.item, ()) if (it.item.kind == "function") == is_code)
         some = sorted(items, key=lambda it: self.ordering.order(it, mutant))
-        return islice(filter(None, (self.copy_of(it, mutant.item) for it in some)), self.past, None)
+        found = (next(filter(None, (self.copy_of(it, mutant.item, way) for way in WAYS[it.kind])), None) for it in some)
+        return islice(filter(None, found), self.past, None)
 
-    def copy_of(self, item, definition):
+    def copy_of(self, item, definition, way):
         """A copy of a witness with the definition as it is; nothing if none can be made, or it is refused."""
-        if (item, definition) not in self.copied:
-            made = (CodeCopy if item.kind == "function" else Copy)(self.sources, self.name, item, definition)
+        if (item, definition, way) not in self.copied:
+            made = way(self.sources, self.name, item, definition)
             can_be = not is_definition(item) and made.collect(self.seeing.of(definition))
-            self.copied[item, definition] = made if can_be else None
-        made = self.copied[item, definition]
+            self.copied[item, definition, way] = made if can_be else None
+        made = self.copied[item, definition, way]
         return made if self.sound.get(made, True) else None
 
     def try_copies(self, mutants, is_code=False):
@@ -222,9 +226,10 @@ class Trying:
         for asker in first:
             asking = self.asking(asker)
             for is_code in kinds:
-                for one, outcome in asking.try_copies(left, is_code).items():
-                    left.remove(one)
-                    yield one, outcome
+                for some in [left[at:at + PART] for at in range(0, len(left), PART)]:
+                    for one, outcome in asking.try_copies(some, is_code).items():
+                        left.remove(one)
+                        yield one, outcome
             for _ in range(0 if copies_alone else ROUNDS):
                 for one, outcome in self.in_batches(asking, left):
                     left.remove(one)
