@@ -233,6 +233,7 @@ class ClosedCopies(OneCrate):
         self.assertEqual((found.kind, found.item.name), ("noticed", "each#low"))
         self.assertEqual(copy.outcome([], "proved").kind, "proved")
         self.assertIsNone(copy.outcome([], ""))
+        self.assertIsNone(copy.outcome([said[0].replace("the two values differ", "it takes too many steps")], ""))
 
 
 class CodeCopies(OneCrate):

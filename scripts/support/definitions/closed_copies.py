@@ -14,6 +14,7 @@ TYPE = re.compile(TYPE_HEAD.pattern, re.M)
 # A variant of a type of code.
 VARIANT = re.compile(r"(?<![\w.-])([A-Z]\w+)\.[A-Z]")
 OPEN = re.compile(r"[→∀]|\busing\(|\bghost \w+:")
+DIFFER = re.compile(r"\bdiffer\b|\bexpected type\b|\btwo (?:types|values) are\b")
 ADVISED = re.compile(r"\bunfolding\(([^()]*)\)")
 
 
@@ -73,3 +74,9 @@ class ClosedCopy(Copy):
 
     def item_at(self, path, line, name):
         return self.witness if path == self.own_path else super().item_at(path, line, name)
+
+    def outcome(self, said, verdict):
+        """Two values that differ, and nothing that could not be computed."""
+        found = super().outcome(said, verdict)
+        is_given_up = found and found.kind == "noticed" and not DIFFER.search(found.words)
+        return None if is_given_up else found
