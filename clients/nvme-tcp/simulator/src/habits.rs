@@ -77,7 +77,8 @@ impl Manner {
             advertised: has("option", 3).then_some("10.1.2.3:4444"),
             is_asked: has("operator", 7),
             fails: has("fail", 2),
-            uses_tools: has("tool", 3),
+            // They take as long as a few seeds.
+            uses_tools: has("tool", 1) && seed % 2 == 0,
         }
     }
 }

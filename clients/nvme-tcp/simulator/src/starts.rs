@@ -13,8 +13,6 @@ use std::path::Path;
 /// How long a target may take to serve, and to notice what has changed.
 const LONGEST: u64 = 60 * SECOND;
 const ADDRESS: &str = "127.0.0.1:7777";
-/// The size of an image that has room for any configuration of a seed.
-const IMAGE_BYTES: usize = 16 << 20;
 /// The head of a record of the journal.
 const HEAD: usize = 12;
 
@@ -101,17 +99,18 @@ fn serve(act: Act, list: &[&str]) -> String {
 }
 
 /// All of them.
-pub fn use_all(act: Act) {
-    let steps = [use_places, use_images, damage_state, change_files, change_volume];
-    for step in steps {
+pub fn use_all(act: Act, blocks: usize) {
+    // The size of an image, in whole pages.
+    let size = (512 * blocks + 4095) / 4096 * 4096;
+    for step in [use_places, use_images, damage_state, change_files, change_volume] {
         if check(|it| it.violations.is_empty()) {
-            step(act);
+            step(act, size);
         }
     }
 }
 
 /// Sockets and outputs at places that there are not, or that others may use.
-fn use_places(act: Act) {
+fn use_places(act: Act, _: usize) {
     serve(act, &["--control", "/made/control", CONFIG]);
     serve(act, &["--control", "here", CONFIG]);
     serve(act, &["--record", "/run/there", "--force", CONFIG]);
@@ -124,12 +123,13 @@ fn use_places(act: Act) {
 }
 
 /// Images that are made, can't be written, or have the wrong size.
-fn use_images(act: Act) {
-    serve(act, &["--image", "/made.image", "--size", "16M", CONFIG]);
-    expect(act, &["--listen", ADDRESS, "--image", "/made.image", "--size", "20M", CONFIG], FAILED);
-    put("/odd", Kind::File, &vec![0; IMAGE_BYTES + 512]);
+fn use_images(act: Act, size: usize) {
+    let (right, larger) = (size.to_string(), (size + 4096).to_string());
+    serve(act, &["--image", "/made.image", "--size", &right, CONFIG]);
+    expect(act, &["--listen", ADDRESS, "--image", "/made.image", "--size", &larger, CONFIG], FAILED);
+    put("/odd", Kind::File, &vec![0; size + 512]);
     expect(act, &["--listen", ADDRESS, "--image", "/odd", "--direct", CONFIG], FAILED);
-    put("/fixed", Kind::File, &vec![0; IMAGE_BYTES]);
+    put("/fixed", Kind::File, &vec![0; size]);
     with(|it| {
         let inode = it.disks.find(Path::new("/fixed")).unwrap_or(0);
         it.disks.inodes[inode].is_fixed = true;
@@ -137,7 +137,7 @@ fn use_images(act: Act) {
     if !serve(act, &["--image", "/fixed", CONFIG]).contains("read-only") {
         complain("an image that can't be written is not told to be read-only".to_owned());
     }
-    put("/dev/mounted", Kind::BlockDevice, &vec![0; IMAGE_BYTES]);
+    put("/dev/mounted", Kind::BlockDevice, &vec![0; size]);
     with(|it| {
         let inode = it.disks.find(Path::new("/dev/mounted")).unwrap_or(0);
         it.disks.inodes[inode].is_mounted = true;
@@ -153,7 +153,7 @@ fn record(content: &[u8]) -> Vec<u8> {
 }
 
 /// State folders whose journal is damaged, torn, of another configuration, or gone.
-fn damage_state(act: Act) {
+fn damage_state(act: Act, _: usize) {
     serve(act, &["--state", "/first", CONFIG]);
     serve(act, &["--state", "/first", CONFIG]);
     let (identity, journal) = (content("/first/identity"), content("/first/journal"));
@@ -203,13 +203,13 @@ fn damage_state(act: Act) {
 }
 
 /// Another program changes the files of a target that serves: it ends.
-fn change_files(act: Act) {
-    put("/cut", Kind::File, &vec![0; IMAGE_BYTES]);
+fn change_files(act: Act, size: usize) {
+    put("/cut", Kind::File, &vec![0; size]);
     let it = Started::begin(act, 0, &["--image", "/cut", CONFIG]);
     if it.serves() {
         with(|it| {
             let inode = it.disks.find(Path::new("/cut")).unwrap_or(0);
-            it.disks.inodes[inode].set_length(4096);
+            it.disks.inodes[inode].set_length(512);
         });
     }
     it.notices("its image was cut");
@@ -243,8 +243,8 @@ fn change_files(act: Act) {
 }
 
 /// A volume is formatted anew from another machine while a target serves it.
-fn change_volume(act: Act) {
-    put("/dev/moved", Kind::BlockDevice, &vec![0; 20 << 20]);
+fn change_volume(act: Act, size: usize) {
+    put("/dev/moved", Kind::BlockDevice, &vec![0; size + (4 << 20)]);
     expect(act, &["format", "/dev/moved", "--config", CONFIG, "--lease", "2"], 0);
     let it = Started::begin(act, 1, &["/dev/moved"]);
     if it.serves() {

@@ -88,8 +88,7 @@ pub fn expand(act: Act, recording: &str, script: &str, is_whole: bool) {
 pub fn put(path: &str, kind: Kind, bytes: &[u8]) {
     with(|world| {
         let inode = world.disks.create(Path::new(path), kind);
-        world.disks.inodes[inode].set_length(bytes.len());
-        world.disks.inodes[inode].write(0, bytes);
+        world.disks.inodes[inode].fill(bytes);
     });
 }
 
@@ -122,7 +121,7 @@ pub fn use_all(supervisor: &mut Supervisor) {
     expand_wrong(act);
     crafted::expand_events(act);
     crafted::misplace(act);
-    starts::use_all(act);
+    starts::use_all(act, supervisor.scenario.blocks);
     if check(|it| it.violations.is_empty()) {
         rivals(supervisor);
     }
@@ -221,9 +220,10 @@ fn use_volumes(act: Act) {
     for (list, status) in lines {
         expect(act, list, status);
     }
-    // Larger than a volume needs, and not empty.
-    put("/dev/dirty", Kind::BlockDevice, &vec![0; content("/volume").len().max(20 << 20)]);
-    patch("/dev/dirty", 12 << 20, &[7]);
+    // Not empty.
+    let size = content("/volume").len();
+    put("/dev/dirty", Kind::BlockDevice, &vec![0; size]);
+    patch("/dev/dirty", size / 2, &[7]);
     expect(act, &["format", "/dev/dirty", "--config", CONFIG], REFUSED);
     expect(act, &["copy", "/volume", "/dev/dirty", "--force"], 0);
     expect(act, &["check", "/dev/dirty"], 0);

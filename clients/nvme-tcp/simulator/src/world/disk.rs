@@ -87,6 +87,12 @@ impl Inode {
         }
     }
 
+    /// Has these bytes, at once and for good.
+    pub fn fill(&mut self, bytes: &[u8]) {
+        (self.data, self.durable) = (bytes.to_vec(), bytes.to_vec());
+        self.unsynced.clear();
+    }
+
     /// Changes the length, at once and for good.
     pub fn set_length(&mut self, length: usize) {
         self.data.resize(length, 0);
