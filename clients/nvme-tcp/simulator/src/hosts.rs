@@ -275,7 +275,10 @@ impl Session<'_> {
             let is_cut = |it: &mut checker::Checker| names.iter().any(|name| it.cuts.contains(name));
             let is_disturbed = check(|it| it.cycled + 15 * SECOND > begun || is_cut(it));
             if !is_gone && !is_disturbed && !was_stopped(process, begun) {
-                check(|it| it.violate(format!("a connection of path {cntlid} ends without a reason")));
+                let said = with(|it| it.processes[process].said.clone());
+                let last: Vec<&str> = said.lines().rev().take(3).collect();
+                let text = format!("a connection of path {cntlid} ends without a reason; the target said {last:?}");
+                check(|it| it.violate(text));
             }
         };
         world::spawn("reason", Box::new(judge));
