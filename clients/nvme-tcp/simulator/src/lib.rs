@@ -42,5 +42,6 @@ pub fn planted(name: &str) -> bool {
 
 /// Runs the simulator by the words of its command line. `act` is what the target does with the words of its own.
 pub fn simulate(act: supervisor::Act) -> ::std::process::ExitCode {
+    heap::begin();
     command::main(act)
 }

@@ -32,9 +32,30 @@ fn parsed(line: &str) -> Option<Owned> {
     })
 }
 
+/// The value of each hexadecimal digit, and `NO_DIGIT` for other bytes.
+static DIGITS: [u8; 256] = digits();
+const NO_DIGIT: u8 = 0x80;
+
+const fn digits() -> [u8; 256] {
+    let (mut all, mut value) = ([NO_DIGIT; 256], 0);
+    while value < 16 {
+        all[b"0123456789abcdef"[value] as usize] = value as u8;
+        all[b"0123456789ABCDEF"[value] as usize] = value as u8;
+        value += 1;
+    }
+    all
+}
+
 fn bytes_of(digits: &str) -> Option<Vec<u8>> {
-    let digit = |byte: u8| (byte as char).to_digit(16).map(|it| it as u8);
-    digits.as_bytes().chunks(2).map(|it| Some(digit(it[0])? << 4 | digit(*it.get(1)?)?)).collect()
+    let pairs = digits.as_bytes().chunks_exact(2);
+    let (is_whole, mut all) = (pairs.remainder().is_empty(), 0);
+    let mut bytes = Vec::with_capacity(digits.len() / 2);
+    for it in pairs {
+        let (high, low) = (DIGITS[usize::from(it[0])], DIGITS[usize::from(it[1])]);
+        all |= high | low;
+        bytes.push(high << 4 | low);
+    }
+    (is_whole && all & NO_DIGIT == 0).then_some(bytes)
 }
 
 fn answered(result: Result<Answered, Refusal>) -> Result<Answered, String> {
@@ -138,6 +159,12 @@ mod tests {
         let data = |value| format!("store 1 65536 hex:{}{}\n", digits(value), digits(value + 1));
         let script = [entry("01"), data(7), entry("05"), data(9)].concat();
         assert_eq!(values_of(script.as_bytes()), BTreeSet::from([7, 8]));
+    }
+
+    #[test]
+    fn digits_are_read() {
+        assert_eq!(bytes_of("00ff5aA5"), Some(vec![0, 255, 0x5a, 0xa5]));
+        assert_eq!([bytes_of("0"), bytes_of("0g"), bytes_of("/0"), bytes_of("00 0")], [None, None, None, None]);
     }
 
     #[test]

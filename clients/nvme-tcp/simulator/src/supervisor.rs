@@ -83,7 +83,7 @@ impl Supervisor {
             let (path, kind) = if is_volume { (DEVICE, Kind::BlockDevice) } else { (IMAGE, Kind::File) };
             let inode = world.disks.create(Path::new(path), kind);
             world.disks.inodes[inode].set_length(if is_volume { BLOCKS_AT + size } else { size });
-            world.disks.served = Some(inode).filter(|_| !is_memory);
+            world.disks.served = Some((inode, if is_volume { BLOCKS_AT } else { 0 })).filter(|_| !is_memory);
             let written = world.disks.find(Path::new(CONFIG)).unwrap_or(0);
             let until = world.disks.inodes[written].written();
             world.disks.inodes[written].sync(until);
@@ -204,7 +204,7 @@ impl Supervisor {
 
     /// Each target that serves a volume has raised the epoch in its superblock.
     fn judge_epoch(&mut self) {
-        let epoch = with(|it| it.disks.served.map_or(0, |at| superblock::epoch(&it.disks.inodes[at].data)));
+        let epoch = with(|it| it.disks.served.map_or(0, |(at, _)| superblock::epoch(&it.disks.inodes[at].data)));
         if epoch <= self.epoch {
             check(|it| it.violate(format!("a target serves in epoch {epoch}, and another did in {}", self.epoch)));
         }
@@ -291,29 +291,26 @@ impl Supervisor {
         if self.scenario.manner.records {
             tools::expand(self.act, &recording_of(&it.script), &it.script, is_over);
         }
-        let (script, transcript, served, is_alone, now) = with(|world| {
-            let content = |path: &str| world.disks.content(path);
-            let transcript = content(&format!("{}.out", it.script));
-            let served = world.processes[it.process].served.take();
-            let bytes = world.disks.served.map(|at| world.disks.inodes[at].data.clone());
-            (content(&it.script), transcript, served, !it.may_lose_lease, bytes)
+        let (script, transcript, served) = with(|world| {
+            let transcript = world.disks.take(&format!("{}.out", it.script));
+            (world.disks.take(&it.script), transcript, world.processes[it.process].served.take())
         });
         // What a crash of a machine leaves of it is nothing, or the space that was reserved.
         if script.iter().any(|it| *it != 0) {
             self.check_run(it, &script);
         }
-        let from = if self.scenario.is_volume { BLOCKS_AT } else { 0 };
         let mut blocks = match served {
-            Some(_) if is_alone && self.scenario.manner.is_memory => vec![0; self.scenario.blocks * BLOCK],
-            Some(served) if is_alone => served[from..].to_vec(),
+            Some(_) if it.may_lose_lease => return,
+            Some(_) if self.scenario.manner.is_memory => vec![0; self.scenario.blocks * BLOCK],
+            Some(served) => served,
             _ => return,
         };
         match replay(&script, &transcript, &mut blocks) {
             Ok(count) => self.replayed += count,
             Err(text) => return check(|it| it.violate(format!("replay: {text}"))),
         }
-        let now = now.map_or(Vec::new(), |it| it[from..].to_vec());
-        if is_over && !self.scenario.manner.is_memory && now != blocks {
+        if is_over && !self.scenario.manner.is_memory && with(|it| it.disks.blocks() != blocks) {
+            let now = with(|it| it.disks.blocks().to_vec());
             let at = now.iter().zip(&blocks).position(|(one, other)| one != other).unwrap_or(0) / BLOCK;
             check(|it| it.violate(format!("replay: block {at} of the disk is not what the program has at the end")));
         }

@@ -75,7 +75,7 @@ pub struct Process {
     pub outcome: Option<Outcome>,
     /// What it wrote to standard error.
     pub said: String,
-    /// The bytes of the disk when it began to serve.
+    /// The blocks when it began to serve.
     pub served: Option<Vec<u8>>,
 }
 

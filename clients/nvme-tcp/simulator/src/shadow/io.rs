@@ -19,8 +19,7 @@ impl Write for Said {
                 said.push_str(&String::from_utf8_lossy(bytes));
             }
             if !self.is_error && world.processes[process].served.is_none() {
-                let bytes = world.disks.served.map(|it| world.disks.inodes[it].data.clone());
-                world.processes[process].served = Some(bytes.unwrap_or_default());
+                world.processes[process].served = Some(world.disks.blocks().to_vec());
             }
         });
         Ok(bytes.len())

@@ -3,6 +3,7 @@
 use super::World;
 use crate::chance::Random;
 use std::collections::{BTreeMap, VecDeque};
+use std::mem;
 use std::path::{Path, PathBuf};
 
 /// A power cut leaves each of these old or new.
@@ -103,6 +104,9 @@ impl Inode {
     /// Power is lost: of each write that was not synced any sectors are left, in any order.
     fn cut(&mut self, random: &mut Random) -> (u64, u64) {
         let (mut lost, mut torn) = (0, 0);
+        if self.unsynced.is_empty() && !self.is_kept_run {
+            return (lost, torn);
+        }
         let mut rest: Vec<_> = self.unsynced.drain(..).collect();
         while !rest.is_empty() {
             let (_, place, bytes) = rest.swap_remove(random.index(rest.len()));
@@ -115,7 +119,7 @@ impl Inode {
             lost += u64::from(choice == 1);
             torn += u64::from(choice == 2);
         }
-        self.data = self.durable.clone();
+        self.data.clone_from(&self.durable);
         (lost, torn)
     }
 }
@@ -142,8 +146,8 @@ pub struct Disks {
     names: BTreeMap<PathBuf, usize>,
     held: Vec<Held>,
     next_open: u64,
-    /// The one with the blocks that targets serve.
-    pub served: Option<usize>,
+    /// The one with the blocks that targets serve, and the place of the first.
+    pub served: Option<(usize, usize)>,
     /// Whether /proc/locks shows nothing, as in another namespace of processes.
     pub hides_locks: bool,
 }
@@ -229,9 +233,14 @@ impl Disks {
         self.held.retain(|it| it.process != process);
     }
 
-    /// The bytes of a file as processes see them.
-    pub fn content(&self, path: &str) -> Vec<u8> {
-        self.find(Path::new(path)).map_or(Vec::new(), |it| self.inodes[it].data.clone())
+    /// The bytes of a file that no process reads again.
+    pub fn take(&mut self, path: &str) -> Vec<u8> {
+        self.find(Path::new(path)).map_or(Vec::new(), |it| mem::take(&mut self.inodes[it].data))
+    }
+
+    /// The blocks that targets serve, as processes see them.
+    pub fn blocks(&self) -> &[u8] {
+        self.served.map_or(&[], |(inode, place)| &self.inodes[inode].data[place..])
     }
 }
 
