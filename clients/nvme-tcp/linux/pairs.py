@@ -68,9 +68,9 @@ class Pair:
         guest = self.guests[name]
         text = guest.run("sh /share/target-node; echo status $?", SETTLED)
         self.wants(f"{name} is set up", "status 0" in text)
-        # Pacemaker gives up ten seconds later if Corosync does not answer.
+        # Pacemaker gives up ten seconds later if Corosync does not answer, and starts again as Debian's unit lets it.
         guest.run("corosync; until corosync-cmapctl totem.token >/dev/null 2>&1; do sleep 1; done; "
-                  "pacemakerd >/dev/null 2>&1 &", SETTLED)
+                  "until pacemakerd >/dev/null 2>&1; do sleep 1; done &", SETTLED)
 
     def form(self) -> None:
         """Both machines join, and t1 loads the resources."""
