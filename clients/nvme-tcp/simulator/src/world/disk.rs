@@ -238,6 +238,11 @@ impl Disks {
         self.find(Path::new(path)).map_or(Vec::new(), |it| mem::take(&mut self.inodes[it].data))
     }
 
+    /// The bytes of a file, as processes see them.
+    pub fn content(&self, path: &str) -> Vec<u8> {
+        self.find(Path::new(path)).map_or(Vec::new(), |inode| self.inodes[inode].data.clone())
+    }
+
     /// The blocks that targets serve, as processes see them.
     pub fn blocks(&self) -> &[u8] {
         self.served.map_or(&[], |(inode, place)| &self.inodes[inode].data[place..])
