@@ -48,7 +48,7 @@ pub struct Manner {
     pub uses_tools: bool,
 }
 
-/// Whether a kind is chosen, which happens in so many seeds of twelve.
+/// Whether a kind is chosen, with a probability in twelfths.
 fn chosen(random: &mut Random, without: &[String], kind: &str, of_twelve: u64) -> bool {
     let is_chosen = random.below(12) < of_twelve;
     is_chosen && !without.iter().any(|it| it == kind)

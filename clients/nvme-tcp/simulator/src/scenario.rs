@@ -177,21 +177,13 @@ impl Scenario {
         let (slow, peace) = (slow[theme.network().unwrap_or(random.index(3))], [100, 400, 1_500][random.index(3)] * MILLISECOND);
         let (keeps_run, persists) = (!random.once_in(4), !random.once_in(3));
         let mut paths = Scenario::paths(&mut random, theme, (blocks, persists), &has);
+        theme.adapt(&mut random, &mut paths, &mut chances);
+        let options = if is_volume { Vec::new() } else { options };
         // The other themes are met the more often without further options and habits.
-        let (habits, mut manner) = match theme {
+        let (habits, manner) = match theme {
             Theme::Any => (Habits::new(seed, without), Manner::new(seed, without)),
             _ => (Habits { has_flow: true, ..Habits::default() }, Manner::default()),
         };
-        manner.is_memory &= !is_volume && blocks <= MOST_IN_MEMORY;
-        manner.binds &= paths.len() < MOST_CONTROLLERS;
-        let keeps_run = if manner.fails { chances.fail(seed) } else { keeps_run };
-        for path in &mut paths {
-            (path.habits, path.advertised) = (habits, manner.advertised);
-            path.name = manner.name.unwrap_or(NAME);
-        }
-        theme.adapt(&mut random, &mut paths, &mut chances);
-        let options = if is_volume || manner.is_memory { Vec::new() } else { options };
-        let writes_through = writes_through || manner.is_memory;
         Scenario {
             seed,
             commands: commands.min(theme.most_commands()),
@@ -209,6 +201,25 @@ impl Scenario {
             peace,
             manner,
         }
+        .adapted(habits)
+    }
+
+    /// With these habits of hosts, and with what the manner of its targets has of it.
+    fn adapted(mut self, habits: Habits) -> Scenario {
+        let manner = &mut self.manner;
+        manner.is_memory &= !self.is_volume && self.blocks <= MOST_IN_MEMORY;
+        manner.binds &= self.paths.len() < MOST_CONTROLLERS;
+        if manner.is_memory {
+            (self.options, self.writes_through) = (Vec::new(), true);
+        }
+        if manner.fails {
+            self.keeps_run = self.chances.fail(self.seed);
+        }
+        for path in &mut self.paths {
+            (path.habits, path.advertised) = (habits, manner.advertised);
+            path.name = manner.name.unwrap_or(NAME);
+        }
+        self
     }
 
     fn chances(random: &mut Random, has: &dyn Fn(&str) -> bool) -> Chances {

@@ -1,4 +1,4 @@
-//! Targets that are started beside those of the seed: with files that are damaged, or that another program changes
+//! Targets that are started besides those of the seed: with files that are damaged, or that another program changes
 //! while they serve.
 
 use crate::ending::has_ended;
@@ -116,10 +116,10 @@ fn use_places(act: Act, _: usize) {
     serve(act, &["--record", "/run/there", "--force", CONFIG]);
     serve(act, &["--script", "/run/there", "--force", CONFIG]);
     with(|it| {
-        let inode = it.disks.create(Path::new("/tmp"), Kind::Folder);
+        let inode = it.disks.create(Path::new("/shared"), Kind::Folder);
         it.disks.inodes[inode].is_open = true;
     });
-    expect(act, &["--listen", ADDRESS, "--control", "/tmp/control", CONFIG], FAILED);
+    expect(act, &["--listen", ADDRESS, "--control", "/shared/control", CONFIG], FAILED);
 }
 
 /// Images that are made, can't be written, or have the wrong size.
@@ -135,7 +135,7 @@ fn use_images(act: Act, size: usize) {
         it.disks.inodes[inode].is_fixed = true;
     });
     if !serve(act, &["--image", "/fixed", CONFIG]).contains("read-only") {
-        complain("an image that can't be written is not told to be read-only".to_owned());
+        complain("an image that can't be written is not reported as read-only".to_owned());
     }
     put("/dev/mounted", Kind::BlockDevice, &vec![0; size]);
     with(|it| {
@@ -181,19 +181,19 @@ fn damage_state(act: Act, _: usize) {
     }
     begin(&journal[..journal.len() - 3]);
     if !serve(act, &["--state", "/second", CONFIG]).contains("incomplete records") {
-        complain("a torn batch of the journal is not told".to_owned());
+        complain("a torn batch of the journal is not reported".to_owned());
     }
     // An old target appends a record of its epoch.
     begin(&[&journal[..], &of_epoch(4, 1)].concat());
     if !serve(act, &["--state", "/second", CONFIG]).contains("of an older epoch") {
-        complain("a record of an older epoch is not told".to_owned());
+        complain("a record of an older epoch is not reported".to_owned());
     }
     // The first version had no epochs.
     begin(&[&journal[..], &record(&[2])].concat());
     serve(act, &["--state", "/second", CONFIG]);
     with(|it| it.disks.remove(Path::new("/second/journal")));
     expect(act, &["--listen", ADDRESS, "--state", "/second", CONFIG], FAILED);
-    // Targets of the first version had a socket in place of a file.
+    // Targets of the first version had a socket instead of a file.
     begin(&journal);
     put("/second/in-use", Kind::Socket, b"");
     run(act, 0, &["--listen", ADDRESS, "--state", "/second", "--control", "/run/there", CONFIG]);

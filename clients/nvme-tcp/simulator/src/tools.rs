@@ -105,7 +105,7 @@ pub fn patch(path: &str, place: usize, bytes: &[u8]) {
     });
 }
 
-/// Everything that can be asked for when no target runs, and beside one that does.
+/// Everything that can be asked for when no target runs, and next to one that does.
 pub fn use_all(supervisor: &mut Supervisor) {
     with(|it| it.chances = Chances { yields: 10, ..Default::default() });
     let act = supervisor.act;
@@ -127,46 +127,48 @@ pub fn use_all(supervisor: &mut Supervisor) {
     }
 }
 
+/// Command lines with their exit statuses: those that are wrong, or print something and end.
+const PRINTED: [(&[&str], u8); 35] = [
+    (&["--help"], 0),
+    (&["--version"], 0),
+    (&["--where"], 0),
+    (&["--check", CONFIG], 0),
+    (&["--check", "/etc/wrong"], REFUSED),
+    (&["--check", "/etc/uuid"], REFUSED),
+    (&["--check", "/etc/strange"], REFUSED),
+    (&["--check", "/etc/none"], FAILED),
+    (&["--check"], BAD),
+    (&[], BAD),
+    (&["a", "b"], BAD),
+    (&["--bogus", "1", CONFIG], BAD),
+    (&["--listen"], BAD),
+    (&["--listen", "x", CONFIG], BAD),
+    (&["--advertise", "x", CONFIG], BAD),
+    (&["--dhchap", "sha256,null", CONFIG], BAD),
+    (&["--dhchap", "sha1,null", CONFIG], BAD),
+    (&["--script", "/run/a", "--record", "/run/b", CONFIG], BAD),
+    (&["--size", "4K", CONFIG], BAD),
+    (&["--size", "5", "--image", "/i", CONFIG], BAD),
+    (&["--size", "x", "--image", "/i", CONFIG], BAD),
+    (&["--cache", "1K", "--image", "/i", CONFIG], BAD),
+    (&["--cache", "4Q", "--image", "/i", CONFIG], BAD),
+    (&["--direct", CONFIG], BAD),
+    (&["--keys", "/etc/keys", CONFIG], BAD),
+    (&["--name", "x", CONFIG], BAD),
+    (&["--log", "x", CONFIG], BAD),
+    (&["--allow", "a1=1.2.3.4", CONFIG], BAD),
+    (&["--allow", "zz000000-0000-0000-0000-000000000000=1.2.3.4", CONFIG], BAD),
+    (&["--allow", "77000000-0000-0000-0000-000000000000=1.2.3.4", CONFIG], BAD),
+    (&["--listen", "0.0.0.0:1", CONFIG], BAD),
+    (&["--image", "/none", CONFIG], FAILED),
+    (&["--image", "/etc", CONFIG], FAILED),
+    (&["--image", "/some", "/etc/large"], REFUSED),
+    (&["--image", "/new", "--size", "4K", "/etc/large"], REFUSED),
+];
+
 /// Command lines that are wrong, or print something and end.
 fn use_options(act: Act) {
-    let lines: [(&[&str], u8); 35] = [
-        (&["--help"], 0),
-        (&["--version"], 0),
-        (&["--where"], 0),
-        (&["--check", CONFIG], 0),
-        (&["--check", "/etc/wrong"], REFUSED),
-        (&["--check", "/etc/uuid"], REFUSED),
-        (&["--check", "/etc/strange"], REFUSED),
-        (&["--check", "/etc/none"], FAILED),
-        (&["--check"], BAD),
-        (&[], BAD),
-        (&["a", "b"], BAD),
-        (&["--bogus", "1", CONFIG], BAD),
-        (&["--listen"], BAD),
-        (&["--listen", "x", CONFIG], BAD),
-        (&["--advertise", "x", CONFIG], BAD),
-        (&["--dhchap", "sha256,null", CONFIG], BAD),
-        (&["--dhchap", "sha1,null", CONFIG], BAD),
-        (&["--script", "/run/a", "--record", "/run/b", CONFIG], BAD),
-        (&["--size", "4K", CONFIG], BAD),
-        (&["--size", "5", "--image", "/i", CONFIG], BAD),
-        (&["--size", "x", "--image", "/i", CONFIG], BAD),
-        (&["--cache", "1K", "--image", "/i", CONFIG], BAD),
-        (&["--cache", "4Q", "--image", "/i", CONFIG], BAD),
-        (&["--direct", CONFIG], BAD),
-        (&["--keys", "/etc/keys", CONFIG], BAD),
-        (&["--name", "x", CONFIG], BAD),
-        (&["--log", "x", CONFIG], BAD),
-        (&["--allow", "a1=1.2.3.4", CONFIG], BAD),
-        (&["--allow", "zz000000-0000-0000-0000-000000000000=1.2.3.4", CONFIG], BAD),
-        (&["--allow", "77000000-0000-0000-0000-000000000000=1.2.3.4", CONFIG], BAD),
-        (&["--listen", "0.0.0.0:1", CONFIG], BAD),
-        (&["--image", "/none", CONFIG], FAILED),
-        (&["--image", "/etc", CONFIG], FAILED),
-        (&["--image", "/some", "/etc/large"], REFUSED),
-        (&["--image", "/new", "--size", "4K", "/etc/large"], REFUSED),
-    ];
-    for (list, status) in lines {
+    for (list, status) in PRINTED {
         expect(act, list, status);
     }
 }
@@ -189,35 +191,37 @@ fn use_outputs(act: Act) {
     }
 }
 
+/// Those that make, look at and copy volumes.
+const OF_VOLUMES: [(&[&str], u8); 24] = [
+    (&["format"], BAD),
+    (&["format", "/volume"], BAD),
+    (&["format", "/volume", "--config", "/etc/none"], FAILED),
+    (&["format", "/volume", "--config", "/etc/wrong"], REFUSED),
+    (&["format", "/volume", "--config", CONFIG, "--lease", "0"], BAD),
+    (&["format", "/volume", "--config", CONFIG, "--lease"], BAD),
+    (&["format", "/volume", "--config", CONFIG, "--bogus"], BAD),
+    (&["format", "/volume", "--config", CONFIG, "--size", "8K"], REFUSED),
+    (&["format", "/volume", "--config", CONFIG, "--lease", "2"], 0),
+    (&["format", "/volume", "--config", CONFIG], REFUSED),
+    (&["format", "/volume", "--config", CONFIG, "--force", "--wait"], 0),
+    (&["format", "/some", "--config", CONFIG], REFUSED),
+    (&["format", "/some", "--config", CONFIG, "--force"], REFUSED),
+    (&["format", "/etc", "--config", CONFIG], FAILED),
+    (&["check", "/volume"], 0),
+    (&["check", "/none"], FAILED),
+    (&["check", "/some"], REFUSED),
+    (&["check"], BAD),
+    (&["dump", "/volume"], 0),
+    (&["copy", "/volume", "/copy"], 0),
+    (&["copy", "/volume", "/copy"], REFUSED),
+    (&["copy", "/volume", "/volume"], REFUSED),
+    (&["copy", "/volume"], BAD),
+    (&["--image", "/image", "/volume"], BAD),
+];
+
 /// Volumes are made, looked at and copied.
 fn use_volumes(act: Act) {
-    let lines: [(&[&str], u8); 24] = [
-        (&["format"], BAD),
-        (&["format", "/volume"], BAD),
-        (&["format", "/volume", "--config", "/etc/none"], FAILED),
-        (&["format", "/volume", "--config", "/etc/wrong"], REFUSED),
-        (&["format", "/volume", "--config", CONFIG, "--lease", "0"], BAD),
-        (&["format", "/volume", "--config", CONFIG, "--lease"], BAD),
-        (&["format", "/volume", "--config", CONFIG, "--bogus"], BAD),
-        (&["format", "/volume", "--config", CONFIG, "--size", "8K"], REFUSED),
-        (&["format", "/volume", "--config", CONFIG, "--lease", "2"], 0),
-        (&["format", "/volume", "--config", CONFIG], REFUSED),
-        (&["format", "/volume", "--config", CONFIG, "--force", "--wait"], 0),
-        (&["format", "/some", "--config", CONFIG], REFUSED),
-        (&["format", "/some", "--config", CONFIG, "--force"], REFUSED),
-        (&["format", "/etc", "--config", CONFIG], FAILED),
-        (&["check", "/volume"], 0),
-        (&["check", "/none"], FAILED),
-        (&["check", "/some"], REFUSED),
-        (&["check"], BAD),
-        (&["dump", "/volume"], 0),
-        (&["copy", "/volume", "/copy"], 0),
-        (&["copy", "/volume", "/copy"], REFUSED),
-        (&["copy", "/volume", "/volume"], REFUSED),
-        (&["copy", "/volume"], BAD),
-        (&["--image", "/image", "/volume"], BAD),
-    ];
-    for (list, status) in lines {
+    for (list, status) in OF_VOLUMES {
         expect(act, list, status);
     }
     // Not empty.
@@ -327,16 +331,27 @@ fn rivals(supervisor: &mut Supervisor) {
             expect(act, &["--listen", "127.0.0.1:7777", "--image", IMAGE, CONFIG], FAILED);
         }
     }
+    ask(act, &control);
+    expand_again(act, supervisor.recording());
+    inherit(supervisor, &address);
+}
+
+/// Control lines that another process asks.
+fn ask(act: Act, control: &str) {
     let lines: [(&[&str], u8); 4] = [
-        (&["ctl", &control, "counts"], 0),
-        (&["ctl", &control, "nothing"], REFUSED),
+        (&["ctl", control, "counts"], 0),
+        (&["ctl", control, "nothing"], REFUSED),
         (&["ctl", "/run/none", "counts"], FAILED),
         (&["ctl"], BAD),
     ];
     for (list, status) in lines {
         expect(act, list, status);
     }
-    expand_again(act, supervisor.recording());
+}
+
+/// Targets that wait for what another has, until that ends.
+fn inherit(supervisor: &mut Supervisor, address: &str) {
+    let (act, scenario) = (supervisor.act, &supervisor.scenario);
     let list = if scenario.is_volume { vec![DEVICE] } else { vec!["--state", "/state", CONFIG] };
     // The kept run is locked, though its name is gone.
     if let Some(script) = supervisor.script() {
@@ -346,7 +361,7 @@ fn rivals(supervisor: &mut Supervisor) {
     with(|it| it.disks.hides_locks = true);
     expect(act, &[&["--listen", "127.0.0.1:7777"], &list[..]].concat(), FAILED);
     with(|it| it.disks.hides_locks = false);
-    let heirs = [Started::begin(act, 0, &[&["--wait"], &list[..]].concat()), Started::begin_at(act, &address)];
+    let heirs = [Started::begin(act, 0, &[&["--wait"], &list[..]].concat()), Started::begin_at(act, address)];
     world::pause(SECOND);
     supervisor.end(0);
     for heir in heirs {

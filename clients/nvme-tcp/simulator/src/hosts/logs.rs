@@ -35,7 +35,7 @@ fn u64_at(bytes: &[u8], at: usize) -> u64 {
     bytes[at..at + 8].iter().rev().fold(0, |sum, it| sum << 8 | u64::from(*it))
 }
 
-/// A Get Log Page of so many bytes from an offset on.
+/// A Get Log Page of `length` bytes from an offset on.
 pub fn page_command(page: u8, length: usize, offset: u64, retains: bool) -> Command {
     let count = length as u32 / 4 - 1;
     let low = u32::from(page) | if retains { RETAIN } else { 0 } | count << 16;
