@@ -49,6 +49,8 @@ impl Session<'_> {
     /// Disconnects the I/O queue, and connects another before the connection of the first is closed.
     fn disconnect(&mut self) -> Result<(), Lost> {
         let cid = self.io.disconnect()?;
+        // It may end while data go that the target has asked for before, and then the answer is not read.
+        let may_end = std::mem::replace(&mut self.may_end, true);
         loop {
             let completion = self.io.receive()?;
             if completion.cid == cid {
@@ -56,6 +58,7 @@ impl Session<'_> {
             }
             self.take(&completion)?;
         }
+        self.may_end = may_end;
         let (io, status) = self.open_queue()?;
         if status != 0 {
             return self.refuse(status, "Disconnect");
