@@ -174,7 +174,8 @@ impl Scenario {
         let has = |kind: &str| kinds.contains(&kind);
         let mut chances = Scenario::chances(&mut random, &has);
         let slow = [(MICROSECOND, 5 * MICROSECOND), (20 * MICROSECOND, MILLISECOND / 2), (0, 20 * MILLISECOND)];
-        let (slow, peace) = (slow[theme.network().unwrap_or(random.index(3))], [100, 400, 1_500][random.index(3)] * MILLISECOND);
+        let (slow, peace) =
+            (slow[theme.network().unwrap_or(random.index(3))], [100, 400, 1_500][random.index(3)] * MILLISECOND);
         let (keeps_run, persists) = (!random.once_in(4), !random.once_in(3));
         let mut paths = Scenario::paths(&mut random, theme, (blocks, persists), &has);
         theme.adapt(&mut random, &mut paths, &mut chances);
