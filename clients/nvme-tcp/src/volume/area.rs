@@ -114,6 +114,11 @@ pub fn read(area: &[u8]) -> Result<Kept, Refusal> {
     if let Some(batch) = newer {
         return Err(damaged(format!("segment {} has no checkpoint", batch.segment)));
     }
+    // Since a disk has written or read a page at a wrong place: which batches follow is not known.
+    let mut others = area.chunks_exact(SEGMENT).enumerate().filter(|(at, _)| *at != place);
+    if others.any(|(_, it)| batches_of(it).iter().any(|it| it.segment == head.segment)) {
+        return Err(damaged(format!("segment {} is at two places", head.segment)));
+    }
     let (mut bytes, pages) = (head.records.to_vec(), &area[place * SEGMENT..(place + 1) * SEGMENT]);
     let (mut page, mut number) = (FIRST_PAGE, 1);
     let next = |page: usize, number: u64| {
@@ -221,6 +226,31 @@ mod tests {
             let mut damaged = whole.clone();
             pages.iter().for_each(|it| damaged[it * PAGE + 40] ^= 1);
             assert_eq!(read(&damaged).map(|it| it.records.len()).map_err(|_| ()), wanted, "{pages:?}");
+        }
+    }
+
+    /// A disk reads or writes a page at a wrong place. Of the last batch that is the same as a power loss before it was
+    /// synced, if the page of another batch or nothing is there instead.
+    #[test]
+    fn a_page_at_a_wrong_place_is_noticed() {
+        let whole = area(&[1, 300, 2]);
+        let (records, last) = (read(&whole).unwrap().records, 64 + FIRST_PAGE + 1 + pages_of(300 * 21));
+        assert!(whole[last * PAGE..].starts_with(MAGIC) && whole[(last + 1) * PAGE] == 0);
+        let places = || (0..4).chain(64..last + 3).chain([128, 130, 192, 193, 194]);
+        for (from, to) in places().flat_map(|from| places().map(move |to| (from, to))) {
+            let mut wrong = whole.clone();
+            wrong.copy_within(from * PAGE..(from + 1) * PAGE, to * PAGE);
+            if let Ok(kept) = read(&wrong) {
+                let count = records.len() - if to == last && kept.records.len() != records.len() { 2 } else { 0 };
+                assert!(kept.records == records[..count], "{from} at {to}");
+            }
+        }
+        // The checkpoint of the next segment, both pages.
+        for to in [0, 64, 192] {
+            let mut wrong = whole.clone();
+            put(&mut wrong, to * PAGE, &checkpoint(8, &head()));
+            put(&mut wrong, (128 + FIRST_PAGE) * PAGE, &batch(8, 1, &record(Event::Cycle)));
+            assert!(read(&wrong).is_err(), "{to}");
         }
     }
 
