@@ -124,6 +124,8 @@ class Moves(Pair):
             kind = "conflicts" if it.is_fenced else "0:00"
             self.wants(f"all {len(it.answers)} answers to host {it.number:x} are {kind} {it.faults}", not it.faults)
         self.guests["t2"].run("cat /run/nvmetcp-disk/log")
+        if self.settled:
+            self.until("t2 is DRBD's primary", "t2", "cat /proc/drbd", "ro:Primary/")
         host = Host(ADDRESS, 0xa1)
         blocks = b"".join(host.read(it, 64).data for it in range(0, 256, 64))
         host.close()

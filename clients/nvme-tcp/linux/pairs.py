@@ -87,11 +87,13 @@ class Pair:
         return name in self.guests
 
     def until(self, what: str, name: str, line: str, pattern: str) -> None:
-        """Executes a line until its output has a pattern."""
-        guest, last, text = self.guests[name], time.monotonic() + SETTLED, ""
+        """Executes a line until its output has a pattern. The machine has most of its time for itself."""
+        guest, last, text, taken = self.guests[name], time.monotonic() + SETTLED, "", 0.0
         while not re.search(pattern, text) and time.monotonic() < last:
-            guest.rest(2)
+            guest.rest(max(2.0, 3 * taken))
+            begun = time.monotonic()
             text = guest.run(line, SETTLED)
+            taken = time.monotonic() - begun
         self.wants(what, re.search(pattern, text) is not None)
 
     def wants(self, what: str, holds: bool) -> None:
