@@ -125,6 +125,11 @@ impl Responses {
         raw::responses_stop(&mut self.raw);
     }
 
+    /// Whether it was stopped.
+    pub fn has_ended(&self) -> bool {
+        self.raw.stage > 1
+    }
+
     /// The identifiers of the commands without a response, in no order.
     pub fn outstanding(&self) -> &[u16] {
         &self.raw.outstanding[..usize::from(self.raw.count).min(64)]

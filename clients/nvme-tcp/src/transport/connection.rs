@@ -383,7 +383,7 @@ impl Connection {
     fn completion(&mut self, cid: u16, answer: &Answer) -> Option<[u8; 16]> {
         let Status { sct, sc } = answer.status;
         let completion = self.queue.responses.respond(&Reply { dw0: answer.dw0, dw1: answer.dw1, cid, sct, sc });
-        if completion.is_none() && self.closing != Some(Closing::Protocol) {
+        if completion.is_none() && !self.queue.responses.has_ended() {
             warn(format_args!("an answer to command {cid}, which does not wait for one, ends its connection"));
             self.closing = Some(Closing::Fault);
             self.end();
@@ -440,12 +440,31 @@ mod tests {
     use nvmesim::fabrics::{Fabrics, Judged};
     use std::net::TcpListener;
 
-    #[test]
-    fn a_proof_has_two_minutes() {
+    fn connection() -> Connection {
         let listener = TcpListener::bind("127.0.0.1:0").unwrap();
         let address = listener.local_addr().unwrap();
         let queue = HostQueue::new(1, address, address);
-        let mut it = Connection::new(TcpStream::connect(address).unwrap(), queue, Transfers::new().unwrap());
+        Connection::new(TcpStream::connect(address).unwrap(), queue, Transfers::new().unwrap())
+    }
+
+    #[test]
+    fn an_answer_that_nobody_waits_for_ends_its_connection() {
+        let (mut it, answer) = (connection(), Answer::of(SUCCESS));
+        assert_eq!(it.queue.responses.accept(7), Ok(false));
+        assert!(it.completion(7, &answer).is_some());
+        assert!(!it.is_ending && it.closing.is_none());
+        assert!(it.completion(7, &answer).is_none());
+        assert!(it.is_ending && it.closing == Some(Closing::Fault));
+        let mut it = connection();
+        assert_eq!(it.queue.responses.accept(7), Ok(false));
+        it.queue.responses.stop();
+        assert!(it.completion(7, &answer).is_none(), "after a termination request");
+        assert!(!it.is_ending && it.closing.is_none());
+    }
+
+    #[test]
+    fn a_proof_has_two_minutes() {
+        let mut it = connection();
         let start = Instant::now();
         let at = |seconds| start + Duration::from_secs(seconds);
         let mut fabrics = Fabrics::new(&[0xa1], true).unwrap();
