@@ -78,7 +78,7 @@ impl Manner {
             is_asked: has("operator", 7),
             fails: has("fail", 2),
             // They take as long as a few seeds.
-            uses_tools: has("tool", 1) && seed % 2 == 0,
+            uses_tools: has("tool", 1) && seed % 4 == 0,
         }
     }
 }
