@@ -18,7 +18,7 @@ const LARGE: usize = 16 << 10;
 /// The most large blocks of all processes; more are never freed.
 const MOST: usize = 4096;
 
-/// A block of this size is huge: the C library has the system map it.
+/// A block of this size is huge: the C library maps it.
 const HUGE: usize = 1 << 20;
 const M_MMAP_THRESHOLD: c_int = -3;
 
@@ -95,7 +95,7 @@ pub fn free_all(process: usize) {
     });
 }
 
-/// Has the system map huge blocks. Call this before there is one.
+/// From now on huge blocks are mapped, whatever was freed before. Call this before there is one.
 pub fn begin() {
     unsafe { mallopt(M_MMAP_THRESHOLD, HUGE as c_int) };
 }
