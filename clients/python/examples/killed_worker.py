@@ -10,7 +10,6 @@ from __future__ import annotations
 
 import json
 import os
-import re
 import subprocess
 import sys
 import tempfile
@@ -98,15 +97,15 @@ def main(given: List[str]) -> int:
         for it, script in enumerate(scripts):
             (folder / script).write_text(scene(hosts, it), encoding="utf-8")
         cluster = Cluster(folder, workers)
-        words = ["explore", *scripts, "--dask", cluster.address, "--statistics"]
-        show(f"$ python3 -m nvmesim {' '.join(words)} | grep -E '^==| outcomes$'")
+        words = ["explore", *scripts, "--dask", cluster.address]
+        show(f"$ python3 -m nvmesim {' '.join(words)} | grep outcomes$")
         begun = time.monotonic()
         explorer = subprocess.Popen([sys.executable, "-m", "nvmesim", *words], cwd=folder, stdout=subprocess.PIPE,
                                     text=True)
         cluster.kill(0, explorer)
         told, _ = explorer.communicate()
         cluster.close()
-    show("\n".join(it for it in told.splitlines() if re.search("^==| outcomes$", it)))
+    show("\n".join(it for it in told.splitlines() if it.endswith("outcomes")))
     show(f"# status {explorer.returncode}, {time.monotonic() - begun:.0f} s")
     return int(told.count(" orders of ") != scenes)
 
