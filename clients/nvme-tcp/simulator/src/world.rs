@@ -228,7 +228,7 @@ impl World {
         self.threads.get(self.current).map_or(HOSTS, |it| it.process)
     }
 
-    /// Stops the process that runs in its write to a medium, if it is to be; whether it is.
+    /// Stops the process that runs in its write to a medium, if a trouble wants that; whether it did.
     pub fn stop_in_write(&mut self) -> bool {
         let process = self.process();
         let time = self.processes[process].stops_in_write.take();

@@ -8,6 +8,8 @@ use crate::world::with;
 /// Statuses that any command of I/O may have: not attached, aborted, aborted by preemption, write protected, Transient
 /// Transport Error, Reservation Conflict, and inaccessible.
 const DENIALS: [u16; 7] = [0x02, 0x07, 0x1b, 0x20, 0x22, 0x83, 0x302];
+/// Statuses that any command on blocks has after a write or a sync that failed: Write Fault, Unrecovered Read Error.
+const FAILURES: [u16; 2] = [0x280, 0x281];
 
 /// Commands that change the write protection.
 #[derive(Default)]
@@ -64,7 +66,9 @@ impl Checker {
     /// A command that is wrong was answered.
     pub fn judge_wrong(&mut self, sent: &Sent, wanted: &[u16], completion: &Completion) {
         let status = completion.status;
-        if !wanted.contains(&status) && !DENIALS.contains(&status) {
+        let has_failed = with(|it| ["failed write", "failed sync"].iter().any(|kind| it.injected.contains_key(kind)));
+        let is_excused = DENIALS.contains(&status) || has_failed && FAILURES.contains(&status);
+        if !wanted.contains(&status) && !is_excused {
             self.violate(format!("a command has status {status:x}: {sent:?}"));
         }
         if status != 0 && !completion.data.is_empty() {
