@@ -92,7 +92,11 @@ pub extern "C" fn nvmesim_responses_forget(responses: &mut Responses, cid: u16) 
     ensures state { seen responses.new ≡ after_forget (seen responses.old) cid }
     ensures result { result ≡ forgotten (is_outstanding (seen responses.old) cid) }
 {
-    if responses.forget(cid) { codes::OK } else { codes::NO_COMMAND }
+    if responses.forget(cid) {
+        codes::OK
+    } else {
+        codes::NO_COMMAND
+    }
 }
 
 /// Connect has succeeded, with this SQSIZE. Connect is the first command that the queue counts.
