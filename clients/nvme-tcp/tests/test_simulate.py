@@ -14,7 +14,7 @@ sys.path.insert(0, str(HERE / "simulator"))
 
 import coverage
 
-SEEDS, MANY = (1, 2), 64
+SEEDS, MANY = (1, 2), 72
 COMMANDS = 300
 
 
