@@ -23,7 +23,7 @@ COUNTED = 1000000
 WRAPPED = "-Wl," + ",".join(f"--wrap={it}" for it in
                             ("malloc", "calloc", "realloc", "aligned_alloc", "posix_memalign", "free"))
 # The lines of the crate's file that may be unsafe, at most.
-UNSAFE = 310
+UNSAFE = 316
 
 
 class Trial:

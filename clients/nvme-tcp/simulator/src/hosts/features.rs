@@ -29,7 +29,8 @@ const SEQUENCE: u16 = 0x0c;
 const NOT_SAVEABLE: u16 = 0x10d;
 const NOT_CHANGEABLE: u16 = 0x10e;
 const OF_NO_NAMESPACE: u16 = 0x10f;
-const PROTECTION_STATUSES: [u16; 4] = [SUCCESS, INVALID_NAMESPACE, NOT_CHANGEABLE, CONFLICT];
+/// On a namespace that is detached, Invalid Field.
+const PROTECTION_STATUSES: [u16; 5] = [SUCCESS, INVALID_FIELD, INVALID_NAMESPACE, NOT_CHANGEABLE, CONFLICT];
 
 fn set(fid: u8, nsid: u32, value: u32) -> Command {
     Command { opcode: SET_FEATURES, nsid, words: words(&[fid.into(), value]), ..Command::default() }
@@ -198,7 +199,7 @@ impl Session<'_> {
         let number = check(|it| it.begin_protection(self.path.cntlid));
         let completion = self.expect(&set(PROTECTION, 1, 1), &PROTECTION_STATUSES)?;
         check(|it| it.protected(number, completion.status == SUCCESS));
-        let completion = self.expect(&get(PROTECTION, 1, below(4) as u32, 0), &[SUCCESS, INVALID_NAMESPACE])?;
+        let completion = self.expect(&get(PROTECTION, 1, below(4) as u32, 0), &PROTECTION_STATUSES)?;
         with(|it| it.note(&format!("write protection is {:x}", completion.value)));
         self.rest(MILLISECOND * below(20) as u64)?;
         self.unprotect()
