@@ -1,5 +1,7 @@
 """Reservation notifications: who is notified of which command, the log page, its event, and the mask."""
+import signal
 import struct
+import time
 from typing import List, Tuple
 
 from tests.host import CC, ENABLE, Host
@@ -71,6 +73,19 @@ attached 3 2
         for host in (b, other):
             self.assertEqual(self.page(host), (1, PREEMPTED, 0, 1))
         self.none(a, b, c, other, stranger)
+
+    def test_a_reset_drops_an_event(self) -> None:
+        """The request and the reset come at once. After the answer of the reset the request's identifier is free."""
+        a, b = self.registered(0xa1, 0xb2)
+        self.assertEqual([b.acquire(0xb2), b.acquire(0xb2, 0xa1, action=1)], [0, 0])
+        self.target.process.send_signal(signal.SIGSTOP)
+        self.request(a, 100)
+        reset = a.admin.send_command(0x7f, 0, struct.pack("<BxxxIQ", 0, CC, 0))
+        time.sleep(0.1)
+        self.target.process.send_signal(signal.SIGCONT)
+        self.assertEqual(a.admin.completion().cid, reset)
+        time.sleep(0.1)
+        self.assertEqual(a.admin.property(CC).value, 0)
 
     def test_a_preempt_that_changes_the_type(self) -> None:
         a, b, c = self.registered(0xa1, 0xb2, 0xc3)

@@ -203,11 +203,22 @@ impl Target<'_> {
             requests.into_iter().for_each(|cid| {
                 queue.responses.forget(cid);
             });
+            self.drop_answers(queue);
             self.forget_commands(index);
             self.effects.extend(io.into_iter().flatten().map(Effect::Close));
         }
         self.controllers[index].configure(&mut self.machine, value, entries)?;
         Ok(Answer::of(SUCCESS))
+    }
+
+    /// Drops the answers of a queue that wait to be sent, as events of a change whose record is not synced yet do: after
+    /// that of a reset, its host could take them for those of later commands.
+    fn drop_answers(&mut self, queue: &mut HostQueue) {
+        let connection = queue.connection();
+        self.effects.retain(|it| match it {
+            Effect::Answer(name, entry, _) if *name == connection => !queue.responses.forget(entry.command_id()),
+            _ => true,
+        });
     }
 }
 
