@@ -1,7 +1,6 @@
 -- What an input does to the associations and to its connection.
 use Rattle.std.proofs.Common.{
   ◌≡◌,
-  ◌≢◌,
   ◌⊎◌,
   inl,
   inr,
@@ -28,13 +27,12 @@ use Rattle.std.proofs.Common.{
 }
 use Rattle.std.specs.Prelude.{◌==◌, ◌&&◌, slice_get}
 use Rattle.std.proofs.lemmas.Option.{none-some, same_Some}
-use Rattle.std.proofs.lemmas.Bool.{eqb-true, eqb-false}
+use Rattle.std.proofs.lemmas.Bool.{eqb-false}
 use Rattle.nvme_wire.specs.declared.status.Status.{Status}
 use Rattle.nvme_fabrics.specs.declared.answer.Answer.{Answer}
 use Rattle.nvme_fabrics.specs.declared.command.Command.{Command}
 use Rattle.nvme_fabrics.specs.declared.command.Command.TheVariants as command
 use Rattle.nvme_fabrics.specs.declared.request.Request.{Request}
-use Rattle.nvme_fabrics.specs.declared.association.Association.{Association}
 use Rattle.nvme_fabrics.specs.declared.association.Controller.{Controller}
 use Rattle.nvme_fabrics.specs.declared.fabrics.Fabrics.{Fabrics}
 use Rattle.nvme_fabrics.specs.declared.session.Judged.{Judged}
@@ -65,6 +63,7 @@ use Rattle.nvme_fabrics.specs.Sessions.{
   without_queue_at,
   without_io_queues_at,
   entered,
+  admitted,
   placed,
   placed_by,
   put,
@@ -155,6 +154,39 @@ place-fits : (cs : List Controller) (r : Request) (j : Judged) (i : ℕ) → pla
     → fits_at (slice_get cs i) r j.is_enabled ≡ Ok tt
 unfolding place_of
 place-fits cs r j i e = in-fits cs r j i j.subsystem e
+
+-- what is admitted for a controller fits there, and is a request of the host that the Connect names
+pub record Admits (f : Fabrics) (d : List ℕ) (is_enabled : Bool) (r : Request) (i : ℕ) : Type 0 where
+  pub fits : fits_at (slice_get f.controllers i) r is_enabled ≡ Ok tt
+  pub named : r.host_id ≡ host_id_of d
+
+placed-admits : (f : Fabrics) (e d : List ℕ) (j : Judged) (asked r : Request) (i : ℕ) (x : Result Place Answer)
+    → request_of e d j.is_whole ≡ Ok asked → place_of f.controllers asked j ≡ x
+    → placed_by asked x ≡ Ok (r, place.Controller i) → Admits f d j.is_enabled r i
+placed-admits f e d j asked r i (Ok p) asks h is =
+    let both : (asked, p) ≡ (r, place.Controller i) = cc in
+    let same : asked ≡ r = ap (λ (x : Request × Place). x.0) both in
+    let there : p ≡ place.Controller i = ap (λ (x : Request × Place). x.1) both in
+    record {
+      fits = subst (λ x. fits_at (slice_get f.controllers i) x j.is_enabled ≡ Ok tt) same
+          (place-fits f.controllers asked j i (h ∙ ap Ok there));
+      named = ap (λ x. x.host_id) (sym same) ∙ asks-host e d j.is_whole asked asks;
+    }
+placed-admits f e d j asked r i (Err a) asks h is = absurd (cc)
+
+asked-admits : (f : Fabrics) (e d : List ℕ) (j : Judged) (r : Request) (i : ℕ) (x : Result Request Answer)
+    → request_of e d j.is_whole ≡ x → placed f j x ≡ Ok (r, place.Controller i) → Admits f d j.is_enabled r i
+asked-admits f e d j r i (Ok asked) h is =
+    placed-admits f e d j asked r i (place_of f.controllers asked j) h refl is
+asked-admits f e d j r i (Err a) h is = absurd (cc)
+
+pub admits : (f : Fabrics) (s : Session) (e d : List ℕ) (j : Judged) (r : Request) (i : ℕ)
+    → admitted f s e d j ≡ Ok (r, place.Controller i) → Admits f d j.is_enabled r i
+admits f session.NotConnected e d j r i is = asked-admits f e d j r i (request_of e d j.is_whole) refl is
+admits f (session.Authenticating q n) e d j r i is = absurd (cc)
+admits f (session.Queue n q) e d j r i is = absurd (cc)
+admits f session.Discovery e d j r i is = absurd (cc)
+admits f session.Ended e d j r i is = absurd (cc)
 
 -- Connect
 abbrev pub ByConnect : Fabrics → Session → List ℕ → Request → ℕ → Type 0

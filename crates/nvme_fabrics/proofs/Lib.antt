@@ -1,6 +1,6 @@
 mod BestOf
 mod Tables
 mod Changes
-mod RunLaws
-mod OwnHosts
+pub mod RunLaws
+pub mod OwnHosts
 mod Refusals

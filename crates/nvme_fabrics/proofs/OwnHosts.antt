@@ -1,10 +1,11 @@
 -- For `own_host`: a connection is a queue only of a controller of the host that its Connect named.
 use Rattle.std.proofs.Common.{
   ◌≡◌,
-  ◌⊎◌,
   inl,
   inr,
   ℕ,
+  zero,
+  suc,
   Bool,
   true,
   false,
@@ -12,19 +13,18 @@ use Rattle.std.proofs.Common.{
   List,
   [],
   ◌∷◌,
+  map,
   Option,
   None,
   Some,
-  Result,
   Ok,
-  Err,
   refl,
   sym,
   ap,
   subst,
   ◌∙◌,
 }
-use Rattle.std.specs.Prelude.{◌==◌, ◌&&◌, nat_le, slice_get, is_none}
+use Rattle.std.specs.Prelude.{◌==◌, slice_get}
 use Rattle.std.proofs.lemmas.Option.{none-some}
 use Rattle.std.proofs.lemmas.Bool.{eqb-true}
 use Rattle.nvme_fabrics.specs.declared.answer.Answer.{Answer}
@@ -36,6 +36,7 @@ use Rattle.nvme_fabrics.specs.declared.session.Session.{Session}
 use Rattle.nvme_fabrics.specs.declared.session.Session.TheVariants as session
 use Rattle.nvme_fabrics.specs.Answers.{in_data, checked}
 use Rattle.nvme_fabrics.specs.Associations.{
+  joined,
   is_same,
   is_of,
   with_queue,
@@ -46,6 +47,7 @@ use Rattle.nvme_fabrics.specs.Associations.{
   fits,
 }
 use Rattle.nvme_fabrics.specs.Places.{fits_at}
+use Rattle.nvme_fabrics.specs.Sessions.{no_association}
 use Rattle.nvme_fabrics.specs.Runs.{
   World,
   Input,
@@ -59,9 +61,17 @@ use Rattle.nvme_fabrics.specs.Runs.{
   beginning,
   world_after,
 }
-use Rattle.nvme_fabrics.specs.Laws.{host_in, host_at, HasNamed, HasBegun, OwnHost}
+use Rattle.nvme_fabrics.specs.Laws.{
+  host_in,
+  host_at,
+  HasNamed,
+  HasBegun,
+  OwnHost,
+  AdmittedHost,
+  ProvedHost,
+  GivenHosts,
+}
 use Rattle.nvme_fabrics.proofs.Tables.{
-  Smaller,
   owner_in,
   owner_on,
   owner_at,
@@ -77,12 +87,13 @@ use Rattle.nvme_fabrics.proofs.Changes.{
   Discovers,
   Waits,
   Enters_queue,
+  admits,
   connect-changes,
   authenticate-changes,
   execute-changes,
   close-changes,
 }
-use Rattle.nvme_fabrics.proofs.RunLaws.{session-moved, change-hosts, no-owner}
+use Rattle.nvme_fabrics.proofs.RunLaws.{session-moved, change-hosts, hosts-stay, no-owner}
 
 first-rule : {A : Type 0} (a : Answer) (b : Bool) (rules : List (Answer × Bool)) (x y : A)
     → checked ((a, b) ∷ rules) x ≡ Ok y → b ≡ true
@@ -257,3 +268,32 @@ own-always hosts has_keys (input ∷ run) =
 
 pub own-host : OwnHost
 own-host hosts has_keys run k i q is = (own-always hosts has_keys run).queues k i q is
+
+-- a request that fits at a controller is one of its host
+fits-host : (hosts : List (Option ℕ)) (has_keys : Bool) (run : List Input) (r : Request) (i : ℕ) (is_enabled : Bool)
+    → fits_at (slice_get (world_after hosts has_keys run).fabrics.controllers i) r is_enabled ≡ Ok tt
+    → host_at (world_after hosts has_keys run).fabrics i ≡ Some r.host_id
+fits-host hosts has_keys run r i is_enabled fits =
+    at-host (slice_get (world_after hosts has_keys run).fabrics.controllers i) r is_enabled fits
+    ((own-always hosts has_keys run).owned i)
+
+pub admitted-host : AdmittedHost
+admitted-host hosts has_keys run k i e d j r is =
+    let w : World = world_after hosts has_keys run in
+    let found = admits w.fabrics (w.sessions k) e d j r i is in
+    fits-host hosts has_keys run r i j.is_enabled found.fits ∙ ap Some found.named
+
+pub proved-host : ProvedHost
+proved-host hosts has_keys run k i is_enabled r is fits =
+    (fits-host hosts has_keys run r i is_enabled fits, (own-always hosts has_keys run).waits k i r is)
+
+host-first : (hosts : List (Option ℕ)) (i : ℕ)
+    → host_in (slice_get (map no_association hosts) i) ≡ joined (slice_get hosts i)
+host-first [] i = refl
+host-first (h ∷ hosts) zero = refl
+host-first (h ∷ hosts) (suc i) = host-first hosts i
+
+pub given-hosts : GivenHosts
+given-hosts hosts has_keys [] i = host-first hosts i
+given-hosts hosts has_keys (input ∷ run) i =
+    hosts-stay (world_after hosts has_keys run) input i ∙ given-hosts hosts has_keys run i

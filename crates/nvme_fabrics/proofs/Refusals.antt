@@ -1,10 +1,9 @@
 -- For `refused_keeps`: a refused Connect changes nothing.
-use Rattle.std.proofs.Common.{◌≡◌, ℕ, ◌+◌, Bool, true, false, cond, List, Result, Ok, Err, refl}
+use Rattle.std.proofs.Common.{◌≡◌, ℕ, ◌+◌, true, false, cond, Result, Ok, Err, refl}
 use Rattle.nvme_wire.specs.declared.status.Status.{Status}
 use Rattle.nvme_fabrics.specs.declared.answer.Answer.{Answer}
 use Rattle.nvme_fabrics.specs.declared.fabrics.Fabrics.{Fabrics}
 use Rattle.nvme_fabrics.specs.declared.request.Request.{Request}
-use Rattle.nvme_fabrics.specs.declared.session.Judged.{Judged}
 use Rattle.nvme_fabrics.specs.declared.session.Place.{Place}
 use Rattle.nvme_fabrics.specs.declared.session.Place.TheVariants as place
 use Rattle.nvme_fabrics.specs.declared.session.Session.{Session}

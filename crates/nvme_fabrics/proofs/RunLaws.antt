@@ -18,36 +18,20 @@ use Rattle.std.proofs.Common.{
   Option,
   None,
   Some,
-  Result,
-  Ok,
-  Err,
   refl,
   sym,
   ap,
   subst,
   ◌∙◌,
 }
-use Rattle.std.specs.Prelude.{◌==◌, slice_get, is_none}
-use Rattle.std.proofs.lemmas.Option.{none-some, same_Some}
+use Rattle.std.specs.Prelude.{◌==◌, slice_get}
+use Rattle.std.proofs.lemmas.Option.{none-some}
 use Rattle.std.proofs.lemmas.Bool.{eqb-true, eqb-false}
-use Rattle.nvme_fabrics.specs.declared.answer.Answer.{Answer}
 use Rattle.nvme_fabrics.specs.declared.request.Request.{Request}
-use Rattle.nvme_fabrics.specs.declared.association.Association.{Association}
-use Rattle.nvme_fabrics.specs.declared.association.Controller.{Controller}
 use Rattle.nvme_fabrics.specs.declared.fabrics.Fabrics.{Fabrics}
 use Rattle.nvme_fabrics.specs.declared.session.Session.{Session}
 use Rattle.nvme_fabrics.specs.declared.session.Session.TheVariants as session
-use Rattle.nvme_fabrics.specs.Answers.{checked, controller_busy, in_data}
-use Rattle.nvme_fabrics.specs.Associations.{is_same, is_of, is_same_text, io_fits, io_fits_in, fits}
-use Rattle.nvme_fabrics.specs.Places.{fits_at}
-use Rattle.nvme_fabrics.specs.Sessions.{
-  no_association,
-  no_associations,
-  is_connection,
-  connection_of,
-  live,
-  with_queue_at,
-}
+use Rattle.nvme_fabrics.specs.Sessions.{no_association, no_associations, is_connection, connection_of, live}
 use Rattle.nvme_fabrics.specs.Runs.{
   World,
   Input,
@@ -63,35 +47,17 @@ use Rattle.nvme_fabrics.specs.Runs.{
   world_after,
 }
 use Rattle.nvme_fabrics.specs.Laws.{
-  host_in,
   host_at,
-  Names,
-  HasNamed,
-  Begins,
-  HasBegun,
-  OwnHost,
   OneQueue,
   IsLive,
   IsNamed,
   StaysOrEnds,
   SameController,
   EndIsFinal,
-  Makes,
   NothingElse,
   SameHosts,
 }
-use Rattle.nvme_fabrics.proofs.Tables.{
-  Smaller,
-  owner_in,
-  owner_on,
-  owner_at,
-  same-keys,
-  smaller-same,
-  smaller-ended,
-  entered-names,
-  entered-hosts,
-  entered-owners,
-}
+use Rattle.nvme_fabrics.proofs.Tables.{owner_at, smaller-ended, entered-names, entered-hosts}
 use Rattle.nvme_fabrics.proofs.Changes.{
   Change,
   Stays,
@@ -99,11 +65,6 @@ use Rattle.nvme_fabrics.proofs.Changes.{
   Discovers,
   Waits,
   Enters_queue,
-  ByConnect,
-  Named,
-  ByProof,
-  Never,
-  NeverAt,
   connect-changes,
   authenticate-changes,
   execute-changes,

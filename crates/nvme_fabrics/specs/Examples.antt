@@ -1,30 +1,14 @@
 -- Commands and runs of the worked examples. Controllers 1 and 2 are of the hosts 0xa1 and 0xb2.
-use Rattle.std.specs.Prelude.{
-  ◌≡◌,
-  ℕ,
-  Bool,
-  true,
-  false,
-  List,
-  [],
-  ◌∷◌,
-  ◌++◌,
-  replicate,
-  Option,
-  Some,
-  None,
-}
+use Rattle.std.specs.Prelude.{ℕ, Bool, true, false, List, [], ◌∷◌, ◌++◌, replicate, Option, Some, None}
 use Rattle.nvme_wire.specs.declared.status.Status.{Status}
 use Rattle.nvme_fabrics.specs.declared.answer.Answer.{Answer}
-use Rattle.nvme_fabrics.specs.declared.association.Association.{Association}
-use Rattle.nvme_fabrics.specs.declared.association.Controller.{Controller}
 use Rattle.nvme_fabrics.specs.declared.fabrics.Fabrics.{Fabrics}
 use Rattle.nvme_fabrics.specs.declared.session.Judged.{Judged}
 use Rattle.nvme_fabrics.specs.declared.session.Session.{Session}
 use Rattle.nvme_fabrics.specs.declared.session.Session.TheVariants as session
 use Rattle.nvme_fabrics.specs.declared.session.Subsystem.TheVariants as subsystem
 use Rattle.nvme_fabrics.specs.Sessions.{connect}
-use Rattle.nvme_fabrics.specs.Runs.{World, Input, Connects, Authenticates, Executes, Closes, Ends, world_after}
+use Rattle.nvme_fabrics.specs.Runs.{Input, Connects, world_after}
 
 abbrev pub hosts : List (Option ℕ)
 hosts = Some 0xa1 ∷ Some 0xb2 ∷ replicate 14 None

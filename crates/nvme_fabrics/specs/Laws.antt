@@ -24,10 +24,12 @@ use Rattle.nvme_fabrics.specs.declared.request.Request.{Request}
 use Rattle.nvme_fabrics.specs.declared.session.Judged.{Judged}
 use Rattle.nvme_fabrics.specs.declared.session.Session.{Session}
 use Rattle.nvme_fabrics.specs.declared.session.Session.TheVariants as session
+use Rattle.nvme_fabrics.specs.declared.session.Place.TheVariants as place
 use Rattle.nvme_fabrics.specs.Answers.{controller_busy}
+use Rattle.nvme_fabrics.specs.Associations.{joined}
 use Rattle.nvme_fabrics.specs.Requests.{host_id_of}
-use Rattle.nvme_fabrics.specs.Places.{is_free, free_controller}
-use Rattle.nvme_fabrics.specs.Sessions.{connection_of, live, is_successful, connect}
+use Rattle.nvme_fabrics.specs.Places.{is_free, free_controller, fits_at}
+use Rattle.nvme_fabrics.specs.Sessions.{connection_of, live, is_successful, connect, admitted}
 use Rattle.nvme_fabrics.specs.Runs.{World, Input, Connects, Authenticates, Executes, Closes, Ends, after, world_after}
 
 abbrev pub host_in : Option Controller → Option ℕ
@@ -71,6 +73,28 @@ OwnHost = (hosts : List (Option ℕ)) (has_keys : Bool) (run : List Input) (k in
     → (world_after hosts has_keys run).sessions k ≡ session.Queue index qid
     → (host : ℕ) × ((host_at (world_after hosts has_keys run).fabrics index ≡ Some host)
     × HasBegun has_keys run k host)
+
+-- A Connect that is admitted for a controller names the host identifier of the controller's host.
+abbrev pub AdmittedHost : Type 0
+AdmittedHost = (hosts : List (Option ℕ)) (has_keys : Bool) (run : List Input) (k index : ℕ) (e d : List ℕ) (j : Judged)
+    (r : Request)
+    → admitted (world_after hosts has_keys run).fabrics ((world_after hosts has_keys run).sessions k) e d j
+    ≡ Ok (r, place.Controller index)
+    → host_at (world_after hosts has_keys run).fabrics index ≡ Some (host_id_of d)
+
+-- A request that a controller can grant when its host has authenticated itself is one of the controller's host, and a
+-- Connect of the connection named that host.
+abbrev pub ProvedHost : Type 0
+ProvedHost = (hosts : List (Option ℕ)) (has_keys : Bool) (run : List Input) (k index : ℕ) (is_enabled : Bool)
+    (r : Request)
+    → (world_after hosts has_keys run).sessions k ≡ session.Authenticating r index
+    → fits_at (slice_get (world_after hosts has_keys run).fabrics.controllers index) r is_enabled ≡ Ok tt
+    → (host_at (world_after hosts has_keys run).fabrics index ≡ Some r.host_id) × HasNamed run k r.host_id
+
+-- The hosts of the controllers are those that were given, after any inputs.
+abbrev pub GivenHosts : Type 0
+GivenHosts = (hosts : List (Option ℕ)) (has_keys : Bool) (run : List Input) (index : ℕ)
+    → host_at (world_after hosts has_keys run).fabrics index ≡ joined (slice_get hosts index)
 
 -- A queue's connection is the queue, and nothing else: no connection is two queues, and no queue has two connections.
 abbrev pub OneQueue : Type 0

@@ -1,8 +1,6 @@
 -- Runs of any inputs over any number of connections, the newest input first, for the laws.
-use Rattle.std.specs.Prelude.{ℕ, Bool, ◌==◌, if◌then◌else◌, List, [], ◌∷◌, Option, Some, None, slice_get}
+use Rattle.std.specs.Prelude.{ℕ, Bool, ◌==◌, if◌then◌else◌, List, [], ◌∷◌, Option}
 use Rattle.nvme_wire.specs.declared.status.Status.{Status}
-use Rattle.nvme_fabrics.specs.declared.association.Association.{Association}
-use Rattle.nvme_fabrics.specs.declared.association.Controller.{Controller}
 use Rattle.nvme_fabrics.specs.declared.fabrics.Fabrics.{Fabrics}
 use Rattle.nvme_fabrics.specs.declared.session.Judged.{Judged}
 use Rattle.nvme_fabrics.specs.declared.session.Session.{Session}

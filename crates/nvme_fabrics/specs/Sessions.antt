@@ -11,8 +11,6 @@ use Rattle.std.specs.Prelude.{
   nat_le,
   if◌then◌else◌,
   List,
-  [],
-  ◌∷◌,
   map,
   slice_get,
   Option,

@@ -2,6 +2,9 @@
 
 ghost use Rattle.nvme_fabrics.specs.Laws.{
   OwnHost,
+  AdmittedHost,
+  ProvedHost,
+  GivenHosts,
   OneQueue,
   IsLive,
   IsNamed,
@@ -19,6 +22,13 @@ ghost use Rattle.nvme_fabrics.specs.Laws.{
 /// that host has authenticated itself if hosts have keys.
 fn own_host()
     ensures { OwnHost }
+{}
+
+/// What a connection asks for before it is a queue is of its own host too, and hosts are those that were given.
+fn hosts_before_queues()
+    ensures admitted { AdmittedHost }
+    ensures proved { ProvedHost }
+    ensures given { GivenHosts }
 {}
 
 /// No connection is two queues, and no queue has two connections.

@@ -1,4 +1,4 @@
-use Rattle.std.proofs.Common.{◌≡◌, ◌<◌, ◌≤◌, ◌+◌, ℕ, List, length, arith, sym, ap, ◌∙◌}
+use Rattle.std.proofs.Common.{◌≤◌, length, arith, sym, ap, ◌∙◌}
 use Rattle.std.specs.Prelude.{None}
 use Rattle.nvme_fabrics.specs.Places.{index_of}
 use Rattle.nvme_fabrics.proofs.BestOf.{one_more, none_left}

@@ -1,7 +1,6 @@
 use Rattle.std.proofs.Common.{◌≡◌, map, arith, sym, ap, ◌∙◌, length-set, refl}
 use Rattle.std.specs.Prelude.{None}
 use Rattle.std.proofs.lemmas.List.{take_more_set, map_more, take_all}
-use Rattle.nvme_fabrics.specs.declared.association.Controller.{Controller}
 use Rattle.nvme_fabrics.specs.Sessions.{no_association}
 use Rattle.nvme_fabrics.proofs.fabrics.Fabrics.new.Goals as goal
 
