@@ -41,10 +41,10 @@ use Rattle.nvme_theorem_runs.proofs.ReadingRuns.{
 }
 use Rattle.nvme_theorem_runs.proofs.Unfolding.{computing}
 
-both-laid : IsLaidOut both_write.world both_write.device.content
+pub both-laid : IsLaidOut both_write.world both_write.device.content
 both-laid = laid (held_by_a1 1) (zeroes 1 ∷ []) (zeroes 1 ∷ [])
 
-abbrev now_of : Subsystem
+abbrev pub now_of : Subsystem
 now_of = fault_free_left both_write front
 
 abbrev next_of : Subsystem
@@ -60,24 +60,25 @@ three-calls : (fault_free_calls both_write front ≡ Writes 0 (replicate 512 0) 
 unfolding computing
 three-calls = (refl, refl, refl)
 
-first-calls : AreCallsOfRun true both_write front (fault_free_seen both_write front) now_of
+pub first-calls : AreCallsOfRun true both_write front (fault_free_seen both_write front) now_of
     (Writes 0 (replicate 512 0) (Ok tt) ∷ [])
 first-calls = subst (λ cs. AreCallsOfRun true both_write front (fault_free_seen both_write front) now_of cs)
     three-calls.0 (run_calls_exist both_write front both-laid).0
 
-own-calls : AreCallsOfStep true now_of (Execute 2 0) (fault_free_step now_of (Execute 2 0)).seen next_of []
+pub own-calls : AreCallsOfStep true now_of (Execute 2 0) (fault_free_step now_of (Execute 2 0)).seen next_of []
 own-calls = subst (λ cs. AreCallsOfStep true now_of (Execute 2 0) (fault_free_step now_of (Execute 2 0)).seen next_of
     cs) three-calls.1
     (step-calls now_of (Execute 2 0) now-laid)
 
-last-calls : AreCallsOfRun true next_of (PowerCycle ∷ []) (fault_free_seen next_of (PowerCycle ∷ []))
+pub last-calls : AreCallsOfRun true next_of (PowerCycle ∷ []) (fault_free_seen next_of (PowerCycle ∷ []))
     (fault_free_left next_of (PowerCycle ∷ [])) []
 last-calls = subst (λ cs. AreCallsOfRun true next_of (PowerCycle ∷ []) (fault_free_seen next_of (PowerCycle ∷ []))
     (fault_free_left next_of (PowerCycle ∷ [])) cs) three-calls.2
     (run_calls_exist next_of (PowerCycle ∷ []) (left-laid now_of (Execute 2 0 ∷ []) now-laid)).0
 
-abbrev the_cut : IsCutAt true both_write front (Execute 2 0) (PowerCycle ∷ []) (fault_free_seen both_write all_events)
-    (fault_free_left both_write all_events) (Writes 0 (replicate 512 0) (Ok tt) ∷ [])
+abbrev pub the_cut : IsCutAt true both_write front (Execute 2 0) (PowerCycle ∷ [])
+    (fault_free_seen both_write all_events) (fault_free_left both_write all_events)
+    (Writes 0 (replicate 512 0) (Ok tt) ∷ [])
 the_cut = record {
   given = fault_free_seen both_write front;
   gives = (fault_free_step now_of (Execute 2 0)).seen;
@@ -112,7 +113,7 @@ each_event_at_work = record {
 }
 
 -- a run of one event, cut there
-abbrev alone : (s : Subsystem) (event : Event) → IsLaidOut s.world s.device.content
+abbrev pub alone : (s : Subsystem) (event : Event) → IsLaidOut s.world s.device.content
     → IsCutAt true s [] event [] ((fault_free_step s event).seen ∷ []) (fault_free_step s event).left
     (event_calls s event)
 alone s event on = record {
@@ -131,7 +132,7 @@ alone s event on = record {
   joined = sym (append-nil (event_calls s event));
 }
 
-first-bytes : (first_of (namespace_bytes both_write 1) ≡ 1) ×
+pub first-bytes : (first_of (namespace_bytes both_write 1) ≡ 1) ×
     (first_of (namespace_bytes (fault_free_step both_write (Execute 1 0)).left 1) ≡ 0)
 unfolding computing
 first-bytes = (refl, refl)

@@ -6,6 +6,7 @@ pub mod ReadingRuns
 pub mod PreemptingRuns
 pub mod MediumRuns
 pub mod EachEventRuns
+pub mod WireRuns
 pub mod PowerRuns
 pub mod QueueRuns
 pub mod RunningRuns

@@ -4,6 +4,7 @@ pub mod Reading
 pub mod Preempting
 pub mod Medium
 pub mod EachEvent
+pub mod Wire
 pub mod Power
 pub mod Queues
 pub mod Running

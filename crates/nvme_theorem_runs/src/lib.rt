@@ -10,3 +10,4 @@ mod power;
 mod preempting;
 mod queues;
 mod runs;
+mod wire;

@@ -1,0 +1,4 @@
+pub mod Owners
+pub mod Wire
+pub mod Openings
+pub mod ExampleSessions

@@ -1,0 +1,38 @@
+//! Laws over any inputs of the associations and any run of the subsystem. Each is the contract of an empty function.
+
+ghost use Rattle.nvme_target.specs.Laws.{
+  EventsAreOfNamedHosts,
+  FencingHoldsOverTheWire,
+  SecrecyHoldsOverTheWire,
+  TargetItselfTouchesNothing,
+  CausesAreOfOneController,
+  OpeningHasItsHosts,
+  HostsStay,
+};
+
+/// What a connection causes happens at a controller whose host that connection has named.
+pub fn events_are_of_named_hosts()
+    ensures { EventsAreOfNamedHosts }
+{}
+
+/// A reservation fences the connections of the hosts that it excludes, at each single event of any run.
+pub fn fencing_holds_over_the_wire()
+    ensures writes { FencingHoldsOverTheWire }
+    ensures reads { SecrecyHoldsOverTheWire }
+{}
+
+/// What no connection causes writes nothing.
+pub fn target_itself_touches_nothing()
+    ensures { TargetItselfTouchesNothing }
+{}
+
+/// A cause is of one controller.
+pub fn causes_are_of_one_controller()
+    ensures { CausesAreOfOneController }
+{}
+
+/// The hosts of an accepted configuration are those of its controllers, and stay so.
+pub fn hosts_are_those_of_the_configuration()
+    ensures opening { OpeningHasItsHosts }
+    ensures stays { HostsStay }
+{}
