@@ -1,0 +1,9 @@
+mod Listed
+mod Pointers
+mod Areas
+mod Placed
+mod OwnData
+mod Returned
+mod Stores
+mod Executions
+mod Fields
