@@ -13,7 +13,7 @@
  *  - No pointer is NULL, even with a count of 0. Each is aligned, and valid for as many values as the count, or the
  *    call, says. What a call writes through a pointer overlaps none of its other arguments. A bool is false or true.
  *  - Borrowed bytes (nvmesim_open_lent) are left alone until nvmesim_close, or until the opening is refused; those of a
- *    room (nvmesim_execute_over) until the call returns.
+ *    room (nvmesim_execute_over, nvmesim_complete_over) until the call returns.
  *  - malloc, realloc and free work as specified.
  *
  * All other misuse has an answer: a struct that is not open, an address outside the memory, any command.
@@ -76,17 +76,8 @@ enum {
     NVMESIM_HAS_EVENT = 36,     /* a line of the text is an event, which a configuration can't have */
     NVMESIM_EMPTY = 37,         /* the configuration has no controller */
     NVMESIM_TOO_LONG = 38,      /* the text has more than 4,194,304 bytes */
-    NVMESIM_IN_MEMORY = 39      /* the blocks are in memory, so none are brought; nvmetcp.h has others */
-};
-
-/* Which event it is, of a nvmesim_event. */
-enum {
-    NVMESIM_EVENT_STORE = 1,      /* as nvmesim_store does */
-    NVMESIM_EVENT_WRITE32 = 2,    /* nvmesim_write32 */
-    NVMESIM_EVENT_READ32 = 3,     /* nvmesim_read32, of which there is no line */
-    NVMESIM_EVENT_FETCH = 4,      /* nvmesim_fetch */
-    NVMESIM_EVENT_EXECUTE = 5,    /* nvmesim_execute */
-    NVMESIM_EVENT_POWER_CYCLE = 6 /* nvmesim_power_cycle */
+    NVMESIM_IN_MEMORY = 39,     /* the blocks are in memory, so none are brought; nvmetcp.h has others */
+    NVMESIM_OVERLAPS = 51       /* the data and the slot of the entry overlap */
 };
 
 /* The result of an event. Fields that do not belong to the answer are 0. */
@@ -135,6 +126,27 @@ typedef struct nvmesim_executed_over {
     uint64_t at_hand;      /* the number of blocks at the front of the room that the disk has, or has to get */
     nvmesim_answer answer; /* the result of the event */
 } nvmesim_executed_over;
+
+/* The result of nvmesim_place. */
+typedef struct nvmesim_placed {
+    uint64_t entry_at; /* the address of the entry */
+    size_t index;      /* the place of the command among those that are fetched and not executed */
+    uint32_t tail;     /* the tail that was written to the doorbell */
+    uint32_t what;     /* NVMESIM_TOOK, or why nothing has happened, and the other fields are 0 */
+} nvmesim_placed;
+
+/* The result of nvmesim_complete. */
+typedef struct nvmesim_completed {
+    nvmesim_answer answer; /* the result of the execution; unless it is NVMESIM_POSTED, the other fields are 0 */
+    uint32_t head;         /* the head that was written to the doorbell of the completion queue */
+    uint16_t cqid;         /* the completion queue */
+} nvmesim_completed;
+
+/* The result of nvmesim_complete_over. */
+typedef struct nvmesim_completed_over {
+    uint64_t at_hand;            /* as of nvmesim_executed_over */
+    nvmesim_completed completed; /* the result of the events */
+} nvmesim_completed_over;
 
 /* A queue, as its controller has it. Fields that do not belong to the answer are 0, here and below. */
 typedef struct nvmesim_queue {
@@ -232,32 +244,6 @@ typedef struct nvmesim_notices {
     uint32_t kept;
 } nvmesim_notices;
 
-/* An event of a script. Fields that its kind does not have are ignored. */
-typedef struct nvmesim_event {
-    uint64_t at;     /* the address of a store, the offset of a register, or the place of the command to execute */
-    uint32_t kind;   /* one of NVMESIM_EVENT_STORE .. */
-    uint32_t value;  /* what is written to a register */
-    uint16_t cntlid; /* the controller */
-    uint16_t qid;    /* the queue that is fetched from */
-} nvmesim_event;
-
-/* The result of writing a text to a buffer. If it is not NVMESIM_OK, the buffer is unchanged. */
-typedef struct nvmesim_written {
-    size_t length; /* the length of the text at the front of the buffer; 0 if there is none */
-    uint32_t what; /* NVMESIM_OK, or why it is not */
-} nvmesim_written;
-
-/* The result of parsing a configuration. */
-typedef struct nvmesim_read {
-    size_t controllers; /* the number at the front of their array; 0 if it is refused, here and below */
-    size_t namespaces;
-    size_t attached;
-    size_t line;   /* the number of the line at fault, from 1; 0 if none is */
-    size_t column; /* the column in that line, in bytes from 1; 0 if there is none */
-    size_t length; /* the length of the reason at the front of its buffer; 0 if there is none */
-    uint32_t what; /* NVMESIM_OK, or why it is refused */
-} nvmesim_read;
-
 /* The version of the library. */
 uint32_t nvmesim_version(void);
 
@@ -326,12 +312,31 @@ nvmesim_answer nvmesim_execute(nvmesim *sim, uint16_t cntlid, size_t i);
 nvmesim_executed_over nvmesim_execute_over(nvmesim *sim, nvmesim_bytes room, uint16_t cntlid, size_t i, uint64_t first,
                                            uint64_t brought, bool flushes);
 
+/* The host of a controller places a command: it stores the entry (64 bytes) at the tail of the submission queue, as the
+ * doorbell last had it, and then `count` bytes of data at data_at, and writes the tail doorbell; the controller
+ * fetches. These are the events, with no other in between; without data there is no store of data. TOOK, and the
+ * controller has fetched this very command, as the last of its list. Or NO_CONTROLLER, CLOSED; NOT_READY, NO_QUEUE;
+ * BUSY if a command waits at the queue, a completion at its completion queue, or the controller has 64 commands;
+ * OUTSIDE if some of the data are outside the memory; OVERLAPS if some are in the slot of the entry. Then nothing has
+ * happened. */
+nvmesim_placed nvmesim_place(nvmesim *sim, uint16_t cntlid, uint16_t qid, const uint8_t *entry, uint64_t data_at,
+                             const uint8_t *data, size_t count);
+
+/* Completes the i-th, from 0, of the commands that a controller has fetched and not executed: it is executed, and if a
+ * completion was posted, its host loads the completion (16 bytes) and writes the head doorbell after it. These are the
+ * events, with no other in between. POSTED, with the status, and the completion is that of this very command; or
+ * NO_SUCH, CQ_FULL, NO_CONTROLLER, CLOSED, and the completion is not written. The doorbell shows all completions before
+ * this one as consumed too. */
+nvmesim_completed nvmesim_complete(nvmesim *sim, uint16_t cntlid, size_t i, uint8_t *completion);
+
+/* The same over blocks of a disk, which are brought as for nvmesim_execute_over: its answers too. */
+nvmesim_completed_over nvmesim_complete_over(nvmesim *sim, nvmesim_bytes room, uint16_t cntlid, size_t i,
+                                             uint64_t first, uint64_t brought, bool flushes, uint8_t *completion);
+
 /* One command from its entry (64 bytes) to its completion queue entry (16 bytes), if the order of events does not
- * matter: store at the tail of the submission queue, as the doorbell last had it, tail doorbell, fetch, execute,
- * load of the completion, head doorbell. These are the events, with no other in between. POSTED, with the status,
- * and the completion is that of this very command; or NOT_READY, NO_QUEUE, NO_CONTROLLER, CLOSED, or BUSY if a
- * command waits at the queue, a completion at its completion queue, or the controller has 64 commands; then nothing
- * has happened, and the completion is not written. */
+ * matter: nvmesim_place without data, and nvmesim_complete. POSTED, with the status, and the completion is that of this
+ * very command; or NO_CONTROLLER, CLOSED, NOT_READY, NO_QUEUE, BUSY as there: then nothing has happened, and the completion is not
+ * written. */
 nvmesim_answer nvmesim_submit(nvmesim *sim, uint16_t cntlid, uint16_t qid, const uint8_t *entry, uint8_t *completion);
 
 /* Power is lost in all of the subsystem, and comes back: CYCLED, or CLOSED. */
@@ -404,51 +409,10 @@ void nvmesim_take_notice(nvmesim_notices *notices);
  * 47. */
 size_t nvmesim_status_name(uint8_t sct, uint8_t sc, uint8_t *bytes, size_t count);
 
-/* The calls below are about texts: configurations, scripts, transcripts and sessions, as the programs read and write
- * them. Texts are not NUL-terminated, and each line that is written to a buffer ends with a line feed. */
-
-/* Parses a configuration, the lines of a script before its `start`, and checks it for a medium of medium_blocks blocks
- * and namespaces of at most max_blocks blocks. `start` may be missing, and only blank lines and comments may follow it.
- * Arrays of 16, 8 and 128 values suffice for each configuration that is accepted, and 512 bytes for most reasons.
- *
- * NVMESIM_OK, and the arrays begin with what nvmesim_open takes. Or, in this order: TOO_LONG; BAD_LINE, of the first
- * line that is no line of a script or is not allowed at its place; TOO_MANY, BAD_ID, BAD_SIZE, DOES_NOT_FIT, of the
- * first line that breaks the rule; HAS_EVENT, of the first event; EMPTY; or NO_ROOM if an array is too short. NO_MEMORY
- * may come instead of each. The arrays are then unchanged, and the reason is written to its buffer if it fits: what the
- * programs print after the name of the file and a colon, such as "3:9: word 2: C, a number below 2^16, not 'a'". */
-nvmesim_read nvmesim_read_configuration(const uint8_t *text, size_t text_count, uint64_t max_blocks,
-                                        uint64_t medium_blocks, nvmesim_controller *controllers,
-                                        size_t controller_count, nvmesim_namespace *namespaces,
-                                        size_t namespace_count, nvmesim_attached *attached, size_t attached_count,
-                                        uint8_t *reason, size_t reason_count);
-
-/* The lines that describe a configuration, each with its line feed, without `start`: OK, or NO_ROOM, NO_MEMORY.
- * Parsed again, they give the same. No configuration that is accepted has more than 8,192 bytes. */
-nvmesim_written nvmesim_configuration_lines(const nvmesim_controller *controllers, size_t controller_count,
-                                            const nvmesim_namespace *namespaces, size_t namespace_count,
-                                            const nvmesim_attached *attached, size_t attached_count, uint8_t *lines,
-                                            size_t line_count);
-
-/* The script line of an event, with its line feed; the bytes are those of a store: OK, or NO_ROOM, or NO_LINE if no
- * line expresses it: READ32, a store of no bytes, a place above 65,535, another kind. A line has at most 64 bytes
- * and two for each byte that is stored. */
-nvmesim_written nvmesim_event_line(const nvmesim_event *event, const uint8_t *bytes, size_t count, uint8_t *line,
-                                   size_t line_count);
-
-/* The transcript line of an event's result, with its line feed: OK, or NO_ROOM, or NO_LINE if no line expresses the
- * event, or the event never has this answer. A line has at most 64 bytes. */
-nvmesim_written nvmesim_answer_line(const nvmesim_event *event, const nvmesim_answer *answer, uint8_t *line,
-                                    size_t line_count);
-
-/* Answers a query line without its line feed, such as "?queues 1", as a session of `nvmelive` over the same subsystem
- * does, with a line feed; no host has a driver here. A refusal is an answer too: "! line 3 word 2: there is no such
- * controller" if `number` is 3. OK; or NO_LINE if the line does not begin with `?`, NO_ROOM, NO_MEMORY, CLOSED. Every
- * answer fits into 262,240 bytes. */
-nvmesim_written nvmesim_look(nvmesim *sim, uint64_t number, const uint8_t *line, size_t count, uint8_t *answer,
-                             size_t answer_count);
-
 #ifdef __cplusplus
 }
 #endif
+
+#include "nvmesim_texts.h"
 
 #endif

@@ -1,6 +1,7 @@
 /* nvmetcp: NVMe/TCP as a part of libnvmesim, for a program that is a controller's end of connections: what the PDUs of
- * a connection are, byte by byte, which connection is a queue of which controller, and which data are whose. The
- * program has the sockets, computes the digests, knows keys and addresses, and executes what the commands say.
+ * a connection are, byte by byte, which connection is a queue of which controller, which data are whose, and where they
+ * are in the memory of a controller's host. The program has the sockets, computes the digests, knows keys and addresses,
+ * and executes what the commands say.
  *
  * The rules of nvmesim.h hold here too. Only these calls write a struct nvmesim_connection, nvmesim_session,
  * nvmesim_fabrics or nvmesim_transfers once it is what its comment says; each has one call at a time.
@@ -18,6 +19,8 @@
  *     nvmesim_fabrics_authenticate.
  * For a command whose data come by R2T: nvmesim_transfers_begin. Then, and whenever one is complete, send an R2T for
  * each nvmesim_transfers_next_request, and for each H2CData call nvmesim_transfers_take or nvmesim_transfers_store.
+ * For a command that the subsystem executes: store its data at nvmesim_buffers_start, and what nvmesim_buffers_place
+ * makes of its entry in the queue. Store the bytes of nvmesim_buffers_list before a controller is enabled.
  */
 #ifndef NVMETCP_H
 #define NVMETCP_H
@@ -270,6 +273,12 @@ typedef struct nvmesim_part_taken {
     uint8_t entry[64]; /* the submission queue entry of the command that is complete */
 } nvmesim_part_taken;
 
+/* Data buffers in the 4 MiB of memory that a controller has with its host: 128 KiB for a command that is executed as
+ * soon as it is fetched, and 8 KiB each for 16 held commands, with the numbers 1 to 16. */
+enum {
+    NVMESIM_BUFFER_AT_ONCE = 0
+};
+
 /* PDUs: the layout of a host's PDU by its first 8 bytes, and the fields of an ICReq (128
  * bytes), all of which is granted, of an H2CData with `length` bytes of data, and of an H2CTermReq. OK, or BAD_PDU. */
 nvmesim_pdu_layout nvmesim_pdu_layout_of(const nvmesim_pdu_agreed *agreed, const uint8_t *head);
@@ -323,6 +332,26 @@ void nvmesim_responses_stop(nvmesim_responses *responses);
 
 /* The last word of an entry with this status: its phase tag, which is 0, and the status field. */
 uint16_t nvmesim_responses_status(uint8_t sct, uint8_t sc);
+
+/* The address of data of `length` bytes in a buffer, a multiple of 4; 4 MiB, which is no address, if they don't fit or
+ * there is no such buffer. */
+uint64_t nvmesim_buffers_start(uint32_t buffer, uint64_t length);
+
+/* Sets PSDT 0 and the PRP entries of an entry (64 bytes) of the Admin Queue or another, whose data have `length` bytes in
+ * a buffer. A command that moves more bytes than that gets entries that it can't use: it is answered Data
+ * Transfer Error, unless a rule before denies it. */
+void nvmesim_buffers_place(uint8_t *entry, bool is_admin, uint32_t buffer, uint64_t length);
+
+/* Whether the command of an entry (64 bytes), if it succeeds, writes all `length` bytes of its data. If not, clear data
+ * that come from the controller before it is executed: else they may end with bytes of earlier commands. */
+bool nvmesim_buffers_is_filled(const uint8_t *entry, bool is_admin, uint64_t length);
+
+/* Writes the PRP list (248 bytes), and returns its address. Whatever else is stored, it has to stay there. */
+uint64_t nvmesim_buffers_list(uint8_t *list);
+
+/* The addresses of the queues with an identifier up to 4, a page each. No two, the list and the buffers share a byte. */
+uint64_t nvmesim_buffers_submission_queue(uint16_t qid);
+uint64_t nvmesim_buffers_completion_queue(uint16_t qid);
 
 /* Begins a subsystem without associations, whose controllers have these hosts, by rising CNTLID from 1; with has_keys
  * hosts have to authenticate themselves. OK; or ALREADY_OPEN, TOO_MANY, NO_MEMORY, and nothing has changed. The close

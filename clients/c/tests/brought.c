@@ -59,6 +59,31 @@ static void refusals(nvmesim *sim) {
     CHECK(nvmesim_execute_over(sim, room, 1, 1, 0, 2, true).answer.what == NVMESIM_NO_SUCH && has(1, 2));
 }
 
+/* A command is completed over a room; what is refused changes nothing, the room and the completion included. */
+static void completes(nvmesim *sim) {
+    nvmesim memory = NVMESIM_NONE;
+    nvmesim_bytes room = {bytes, sizeof bytes};
+    uint8_t completion[16] = {7};
+#define OVER(of, first) nvmesim_complete_over(of, room, 1, 0, first, 1, true, completion)
+    fill(1, 2);
+    CHECK(OVER(&memory, 0).completed.answer.what == NVMESIM_CLOSED);
+    CHECK(open_two(&memory) == NVMESIM_OK);
+    CHECK(OVER(&memory, 0).completed.answer.what == NVMESIM_IN_MEMORY);
+    nvmesim_close(&memory);
+    CHECK(OVER(sim, disk.blocks).completed.answer.what == NVMESIM_OUTSIDE);
+    CHECK(OVER(sim, 0).completed.answer.what == NVMESIM_NO_SUCH && has(1, 2) && completion[0] == 7);
+    fetch(sim, READ);
+    nvmesim_completed_over over = OVER(sim, disk.blocks - 2);
+    CHECK(over.at_hand == 1 && over.completed.answer.sct == 2 && over.completed.answer.sc == 0x81);
+    CHECK(over.completed.cqid == 1 && over.completed.head == tail && completion[8] == tail && completion[0] == 0);
+    fill(3, 4);
+    fetch(sim, WRITE);
+    over = OVER(sim, disk.blocks - 2);
+    CHECK(over.at_hand == 2 && over.completed.answer.sc == 0 && has(1, 5) && completion[8] == tail);
+    CHECK(nvmesim_completion_queue(sim, 1, 1).head == tail && nvmesim_completion_queue(sim, 1, 1).tail == tail);
+#undef OVER
+}
+
 /* Reads: of what was brought, of one block of two, and of none. */
 static void reads(nvmesim *sim) {
     uint8_t read[2 * BLOCK];
@@ -119,6 +144,7 @@ void brought(void) {
     reads(&sim);
     CHECK(nvmesim_write32(&sim, 1, DOORBELLS + 12, tail).what == NVMESIM_WROTE);
     writes(&sim);
+    completes(&sim);
     nvmesim_close(&sim);
     CHECK(!sim.is_open);
 }

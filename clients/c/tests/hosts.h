@@ -39,6 +39,9 @@ nvmesim_answer by_calls(nvmesim *sim, uint16_t cntlid, uint16_t qid, uint32_t at
 /* Enables a controller and creates a pair of I/O queues. */
 void up(nvmesim *sim, uint16_t cntlid);
 
+/* Tests commands that are placed, and completed later. */
+void placing(void);
+
 /* Tests what fetched commands need. */
 void needs(void);
 
@@ -49,6 +52,7 @@ void brought(void);
 void pdus(void);
 void connections(void);
 void responses(void);
+void buffers(void);
 void transfers(void);
 
 #endif

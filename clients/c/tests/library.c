@@ -438,12 +438,14 @@ int main(int count, char **words) {
     full();
     submitting();
     no_turn();
+    placing();
     looks();
     needs();
     brought();
     pdus();
     connections();
     responses();
+    buffers();
     transfers();
     reservations();
     names();

@@ -1,8 +1,8 @@
 //! The calls of libnvmesim that take pointers, as `nvmesim.h` and `nvmetcp.h` declare them. `raw.rs` makes them.
 
 use crate::layout::{
-    Answer, Bytes, Change, Connection, Disk, Event, ExecutedOver, Fabrics, HostId, HostView, Notices, PartTaken, Read,
-    Sim, Taken, Transfers, Written,
+    Answer, Bytes, Change, Connection, Disk, Event, Fabrics, HostId, HostView, Notices, PartTaken, Placed, Read, Sim,
+    Taken, Transfers, Written,
 };
 use crate::transfers::Part;
 use crate::{Attachment, Controller, Namespace};
@@ -30,16 +30,15 @@ extern "C" {
     opening!(nvmesim_open_brought, disk: Disk);
     pub fn nvmesim_close(sim: *mut Sim);
     pub fn nvmesim_store(sim: *mut Sim, cntlid: u16, address: u64, bytes: *const u8, count: usize) -> Answer;
-    pub fn nvmesim_execute_over(
+    pub fn nvmesim_place(
         sim: *mut Sim,
-        room: Bytes,
         cntlid: u16,
-        i: usize,
-        first: u64,
-        brought: u64,
-        flushes: bool,
-    ) -> ExecutedOver;
-    pub fn nvmesim_submit(sim: *mut Sim, cntlid: u16, qid: u16, entry: *const u8, completion: *mut u8) -> Answer;
+        qid: u16,
+        entry: *const u8,
+        data_at: u64,
+        data: *const u8,
+        count: usize,
+    ) -> Placed;
     pub fn nvmesim_load(sim: *mut Sim, cntlid: u16, address: u64, bytes: *mut u8, count: usize) -> u32;
     pub fn nvmesim_read_blocks(sim: *mut Sim, nsid: u32, slba: u64, bytes: *mut u8, count: usize) -> u32;
     pub fn nvmesim_status_name(sct: u8, sc: u8, bytes: *mut u8, count: usize) -> usize;

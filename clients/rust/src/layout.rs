@@ -1,7 +1,8 @@
-//! The structs of `nvmesim.h` and `nvmetcp.h`, with their layout in memory.
+//! The structs of `nvmesim.h`, `nvmesim_texts.h` and `nvmetcp.h`, with their layout in memory.
 
 use crate::pdu::Agreed;
 use crate::{Attachment, Controller, Namespace};
+use std::marker::PhantomData;
 use std::os::raw::c_void;
 
 #[repr(C)]
@@ -16,6 +17,20 @@ pub struct Bytes {
     pub count: usize,
 }
 
+/// The bytes of a room, as a call borrows them.
+#[repr(C)]
+pub struct Lent<'r> {
+    at: *mut u8,
+    count: usize,
+    life: PhantomData<&'r mut [u8]>,
+}
+
+impl<'r> Lent<'r> {
+    pub fn of(bytes: &'r mut [u8]) -> Self {
+        Lent { at: bytes.as_mut_ptr(), count: bytes.len(), life: PhantomData }
+    }
+}
+
 #[repr(C)]
 pub struct Disk {
     pub blocks: u64,
@@ -25,6 +40,27 @@ pub struct Disk {
 pub struct ExecutedOver {
     pub at_hand: u64,
     pub answer: Answer,
+}
+
+#[repr(C)]
+pub struct Placed {
+    pub entry_at: u64,
+    pub index: usize,
+    pub tail: u32,
+    pub what: u32,
+}
+
+#[repr(C)]
+pub struct Completed {
+    pub answer: Answer,
+    pub head: u32,
+    pub cqid: u16,
+}
+
+#[repr(C)]
+pub struct CompletedOver {
+    pub at_hand: u64,
+    pub completed: Completed,
 }
 
 #[repr(C)]

@@ -90,6 +90,8 @@
 )]
 #![warn(missing_docs)]
 
+pub mod buffers;
+mod commands;
 pub mod connection;
 pub mod fabrics;
 mod foreign;
@@ -103,6 +105,7 @@ mod raw;
 pub mod responses;
 pub mod transfers;
 
+pub use commands::{Completed, Placed};
 use layout::Answer;
 use layout::{Blocks, Disk};
 pub use lines::{answer_line, event_line, read_configuration, Answered, ConfigError, ConfigFault, Event, LineError};
@@ -221,6 +224,8 @@ pub enum Refusal {
     NoNamespace,
     /// The blocks are in memory, so none are brought.
     InMemory,
+    /// The data and the slot of the entry overlap.
+    Overlaps,
 }
 
 /// The result of a fetch.
@@ -354,17 +359,9 @@ impl<'a> Subsystem<'a> {
         room: &mut [u8],
         brought: Brought,
     ) -> Result<(Executed, u64), Refusal> {
-        let over = self.handle.execute_over(cntlid, i, room, brought);
+        let Brought { first, blocks, flushes } = brought;
+        let over = self.handle.execute_over(layout::Lent::of(room), cntlid, i, first, blocks, flushes);
         Ok((over.answer.checked()?.executed(), over.at_hand))
-    }
-
-    /// One command from its submission queue entry to its completion queue entry: the host stores it at the tail of the
-    /// queue and writes the doorbell, the controller fetches and executes it, and the host reads its completion and
-    /// writes the head doorbell. Nothing may wait at these queues; else nothing happens.
-    pub fn submit(&mut self, cntlid: u16, qid: u16, entry: &[u8; 64]) -> Result<(Completion, [u8; 16]), Refusal> {
-        let mut completion = [0; 16];
-        let answer = self.handle.submit(cntlid, qid, entry, &mut completion).checked()?;
-        Ok((answer.completion(), completion))
     }
 
     /// Power is lost in all of the subsystem, and comes back.
@@ -416,6 +413,7 @@ fn refusal(number: u32) -> Refusal {
         30 => Refusal::Busy,
         31 => Refusal::NoNamespace,
         39 => Refusal::InMemory,
+        51 => Refusal::Overlaps,
         _ => Refusal::MediumFault,
     }
 }
@@ -479,6 +477,7 @@ impl fmt::Display for Refusal {
             Refusal::Busy => "something waits at the queue",
             Refusal::NoNamespace => "there is no such namespace",
             Refusal::InMemory => "the blocks are in memory",
+            Refusal::Overlaps => "the data and the entry overlap",
         })
     }
 }

@@ -5,15 +5,15 @@
 
 use crate::foreign::*;
 use crate::layout::{
-    Admitted, Answer, Blocks, Bytes, Change, Command, Connection, Event, Executed, ExecutedOver, Fabrics,
-    FabricsAnswer, Hold, HostId, HostView, Judged, LiveSession, Needed, NextRequest, Notices, PartTaken, Parts,
-    PduFields, PduLayout, Queue, QueueConnection, Read, Registered, Request, Session, Sim, Taken, Transfers, Verdict,
-    Written,
+    Admitted, Answer, Blocks, Bytes, Change, Command, Completed, CompletedOver, Connection, Event, Executed,
+    ExecutedOver, Fabrics, FabricsAnswer, Hold, HostId, HostView, Judged, Lent, LiveSession, Needed, NextRequest,
+    Notices, PartTaken, Parts, PduFields, PduLayout, Placed, Queue, QueueConnection, Read, Registered, Request,
+    Session, Sim, Taken, Transfers, Verdict, Written,
 };
 use crate::pdu::Agreed;
 use crate::responses::{Raw, Reply};
 use crate::transfers::Part;
-use crate::{Attachment, Brought, Controller, Namespace};
+use crate::{Attachment, Controller, Namespace};
 #[cfg(target_arch = "x86_64")]
 use std::arch::x86_64::{_mm_prefetch, _MM_HINT_T0};
 use std::marker::PhantomData;
@@ -41,6 +41,10 @@ plain_calls! {
     read32 = nvmesim_read32(cntlid: u16, offset: u64) -> Answer;
     fetch = nvmesim_fetch(cntlid: u16, qid: u16) -> Answer;
     execute = nvmesim_execute(cntlid: u16, i: usize) -> Answer;
+    execute_over = nvmesim_execute_over(room: Lent<'_>, cntlid: u16, i: usize, first: u64, blocks: u64, flushes: bool) -> ExecutedOver;
+    complete = nvmesim_complete(cntlid: u16, i: usize, completion: &mut [u8; 16]) -> Completed;
+    complete_over = nvmesim_complete_over(room: Lent<'_>, cntlid: u16, i: usize, first: u64, blocks: u64, flushes: bool, completion: &mut [u8; 16]) -> CompletedOver;
+    submit = nvmesim_submit(cntlid: u16, qid: u16, entry: &[u8; 64], completion: &mut [u8; 16]) -> Answer;
     power_cycle = nvmesim_power_cycle() -> Answer;
     submission_queue = nvmesim_submission_queue(cntlid: u16, qid: u16) -> Queue;
     completion_queue = nvmesim_completion_queue(cntlid: u16, qid: u16) -> Queue;
@@ -88,13 +92,9 @@ impl<'a> Handle<'a> {
         unsafe { nvmesim_store(&mut self.sim, cntlid, address, bytes.as_ptr(), bytes.len()) }
     }
 
-    pub fn execute_over(&mut self, cntlid: u16, i: usize, room: &mut [u8], it: Brought) -> ExecutedOver {
-        let room = Bytes { at: room.as_mut_ptr(), count: room.len() };
-        unsafe { nvmesim_execute_over(&mut self.sim, room, cntlid, i, it.first, it.blocks, it.flushes) }
-    }
-
-    pub fn submit(&mut self, cntlid: u16, qid: u16, entry: &[u8; 64], completion: &mut [u8; 16]) -> Answer {
-        unsafe { nvmesim_submit(&mut self.sim, cntlid, qid, entry.as_ptr(), completion.as_mut_ptr()) }
+    #[inline]
+    pub fn place(&mut self, cntlid: u16, qid: u16, entry: &[u8; 64], data_at: u64, data: &[u8]) -> Placed {
+        unsafe { nvmesim_place(&mut self.sim, cntlid, qid, entry.as_ptr(), data_at, data.as_ptr(), data.len()) }
     }
 
     pub fn load(&mut self, cntlid: u16, address: u64, bytes: &mut [u8]) -> u32 {
@@ -204,7 +204,7 @@ pub fn connection_take(connection: &mut Connection, bytes: &[u8]) -> Taken {
     unsafe { nvmesim_connection_take(connection, bytes.as_ptr(), bytes.len()) }
 }
 
-/// Declares the calls on PDUs and connections, which take numbers and references, and makes each a function.
+/// Declares the calls of a controller's end of connections that take numbers and references, and makes each a function.
 macro_rules! pdu_calls {
     ($($name:ident = $call:ident($($word:ident: $kind:ty),+) -> $result:ty;)+) => {
         extern "C" {
@@ -239,6 +239,12 @@ pdu_calls! {
     responses_end = nvmesim_responses_end(at: &mut Raw) -> ();
     responses_stop = nvmesim_responses_stop(at: &mut Raw) -> ();
     responses_status = nvmesim_responses_status(sct: u8, sc: u8) -> u16;
+    buffers_start = nvmesim_buffers_start(buffer: u32, length: u64) -> u64;
+    buffers_place = nvmesim_buffers_place(entry: &mut [u8; 64], is_admin: bool, buffer: u32, length: u64) -> ();
+    buffers_is_filled = nvmesim_buffers_is_filled(entry: &[u8; 64], is_admin: bool, length: u64) -> bool;
+    buffers_list = nvmesim_buffers_list(list: &mut [u8; 248]) -> u64;
+    buffers_submission_queue = nvmesim_buffers_submission_queue(qid: u16) -> u64;
+    buffers_completion_queue = nvmesim_buffers_completion_queue(qid: u16) -> u64;
 }
 
 /// Associations that are open.

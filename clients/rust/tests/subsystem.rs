@@ -1,8 +1,8 @@
 //! Tests over the library itself.
 
 use nvmesim::{
-    status_name, Attachment, Config, Controller, Executed, Fetched, Holder, Namespace, Need, OpenError, Refusal,
-    Registrant, Subsystem,
+    status_name, Attachment, Completed, Config, Controller, Executed, Fetched, Holder, Namespace, Need, OpenError,
+    Placed, Refusal, Registrant, Subsystem,
 };
 
 fn config() -> Config {
@@ -127,6 +127,26 @@ fn a_command_in_one_call() {
     assert_eq!((fetched.len(), fetched[0].qid, fetched[0].marked), (1, 1, false));
     assert_eq!(subsystem.fetched(2), Ok(vec![]));
     assert_eq!(subsystem.fetched(3), Err(Refusal::NoController));
+}
+
+#[test]
+fn a_command_in_two_calls() {
+    let mut subsystem = Subsystem::open(&config(), &[0; 4 * 512]).unwrap();
+    up(&mut subsystem, 1);
+    let (first, second) = (entry(1, 1, 0x10000, 3, 0), entry(1, 1, 0x11000, 2, 0));
+    assert_eq!(subsystem.place(1, 1, &first, 0x2000, &[0]), Err(Refusal::Overlaps));
+    let placed = subsystem.place(1, 1, &first, 0x10000, &[0x5a; 512]);
+    assert_eq!(placed, Ok(Placed { entry_at: 0x2000, index: 0, tail: 1 }));
+    assert_eq!(subsystem.place(1, 1, &second, 0x11000, &[0x5b; 512]).map(|it| it.index), Ok(1));
+    let completed = subsystem.complete(1, 1).unwrap();
+    assert!(matches!(completed.executed, Executed::Posted(it) if it.is_success()));
+    assert_eq!((completed.cqid, completed.head, completed.entry[8], completed.entry[14]), (1, 1, 2, 1));
+    let none = Completed { executed: Executed::NoSuch, entry: [0; 16], head: 0, cqid: 0 };
+    assert_eq!((subsystem.complete(1, 1), subsystem.complete(3, 0)), (Ok(none), Err(Refusal::NoController)));
+    assert_eq!(subsystem.complete(1, 0).map(|it| it.head), Ok(2));
+    let mut blocks = [0; 1024];
+    subsystem.read_blocks(1, 2, &mut blocks).unwrap();
+    assert_eq!((blocks[0], blocks[1023]), (0x5b, 0x5a));
 }
 
 #[test]

@@ -8,6 +8,10 @@ use Rattle.std.proofs.Common.{
   [],
   ◌∷◌,
   ◌++◌,
+  ◌==◌,
+  Bool,
+  false,
+  length,
   Option,
   None,
   Some,
@@ -30,25 +34,22 @@ use Rattle.nvme_lent.specs.CallLaws.{AreReads}
 use Rattle.nvme_lent.specs.OwnOrLent.{bytes_of, step_of, extent_of, IsInMemory}
 use Rattle.nvme_lent.specs.declared.either.OwnOrLent.{OwnOrLent}
 use Rattle.nvme_lent.proofs.CallLaws.{lent_bytes_stay, bytes_follow, reads_leave}
-use Rattle.nvme_machine.specs.declared.bare.BareExecuted.TheVariants.{Posted, NoSuch, CqFull}
+use Rattle.nvme_machine.specs.declared.bare.BareExecuted.TheVariants.{Posted}
 use Rattle.nvme_machine.specs.declared.bare.BareSeen.{BareSeen}
-use Rattle.nvme_machine.specs.declared.bare.BareSeen.TheVariants.{
-  Stored,
-  Outside,
-  Wrote,
-  Value,
-  Fetched,
-  Executed,
-  Cycled,
-  NoController,
-}
+use Rattle.nvme_machine.specs.declared.bare.BareSeen.TheVariants.{Executed}
 use Rattle.nvme_machine.specs.declared.event.Event.TheVariants.{Execute}
-use Rattle.nvme_machine.specs.declared.seen.Fetched.TheVariants.{Took, Idle}
 use Rattle.nvme_machine.specs.Bare.{seen_with}
+use Rattle.nvme_machine.specs.Controllers.{Controller}
+use Rattle.nvme_machine.specs.Subsystems.{controller_at}
 use Rattle.nvme_machine.proofs.CallLaws.{run_calls_are_computed}
 use Rattle.nvme_subsys.specs.Looking.{LooksBy}
 use Rattle.nvme_library.specs.declared.answer.Answer.{Answer}
+use Rattle.nvme_library.specs.declared.completing.Completed.{Completed}
+use Rattle.nvme_library.specs.declared.placing.Placed.{Placed}
+use Rattle.nvme_library.specs.declared.turn.Reply.{Reply}
 use Rattle.nvme_library.specs.declared.turn.Turn.{Turn}
+use Rattle.nvme_library.specs.Completing.{CompletesBy, Consumes, reply_at}
+use Rattle.nvme_library.specs.Events.{Executing}
 use Rattle.nvme_library.specs.Holding.{Inside}
 use Rattle.nvme_library.specs.LentLaws.{
   ExecutionsStayInPlace,
@@ -58,7 +59,9 @@ use Rattle.nvme_library.specs.LentLaws.{
   PowerCyclesLeaveTheMedium,
   LooksLeaveTheMedium,
 }
-use Rattle.nvme_library.specs.Submitting.{Completes, Consumes}
+use Rattle.nvme_library.specs.Placing.{PlacesBy, PlacesTo, StoresData}
+use Rattle.nvme_library.specs.Submitting.{Finishes}
+use Rattle.nvme_library.specs.Turns.{place_of}
 
 pub executions_stay_in_place : ExecutionsStayInPlace
 executions_stay_in_place cntlid i old new seen h = lent_bytes_stay old.medium new.medium h.calls.calls h.calls.made
@@ -86,38 +89,43 @@ bytes_stay_the_content cntlid i old new seen memory h laid before after is =
 
 -- A turn: the events before and after the execution make no call.
 
-consumed : (seen : BareSeen) (k : ℕ) (turn : Turn) (old new : Inside) (before left : List ℕ)
-    → Consumes seen k turn old before left new → extent_of new.medium ≡ extent_of old.medium
-consumed (Executed (Posted o)) k turn old new before left h = ap extent_of h.rings.1.1
-consumed (Executed NoSuch) k turn old new before left h = ap (λ (s : Inside). extent_of s.medium) h.1
-consumed (Executed CqFull) k turn old new before left h = ap (λ (s : Inside). extent_of s.medium) h.1
-consumed Stored k turn old new before left h = ap (λ (s : Inside). extent_of s.medium) h.1
-consumed Outside k turn old new before left h = ap (λ (s : Inside). extent_of s.medium) h.1
-consumed Wrote k turn old new before left h = ap (λ (s : Inside). extent_of s.medium) h.1
-consumed (Value v) k turn old new before left h = ap (λ (s : Inside). extent_of s.medium) h.1
-consumed (Fetched took) k turn old new before left h = ap (λ (s : Inside). extent_of s.medium) h.1
-consumed Cycled k turn old new before left h = ap (λ (s : Inside). extent_of s.medium) h.1
-consumed NoController k turn old new before left h = ap (λ (s : Inside). extent_of s.medium) h.1
+consumed : (seen : BareSeen) (reply : Option Reply) (k : ℕ) (old new : Inside) (before left : List ℕ)
+    → Consumes seen reply k old before left new → extent_of new.medium ≡ extent_of old.medium
+consumed (Executed (Posted o)) (Some reply) k old new before left h = ap extent_of h.rings.1.1
+consumed other reply k old new before left h = ap (λ (s : Inside). extent_of s.medium) h.1
 
-completed : (seen : BareSeen) (k : ℕ) (turn : Turn) (old new : Inside) (answer : Answer) (before left : List ℕ)
-    → Completes seen k turn old answer before left new
-    → extent_of new.medium ≡ extent_of old.medium
-completed (Fetched Took) k turn old new answer before left h =
-    consumed h.seen k turn h.executed new before left h.consumes
-    ∙ executions_stay_in_place k turn.index old h.executed h.seen h.executes
-completed (Fetched Idle) k turn old new answer before left h = ap (λ (s : Inside). extent_of s.medium) h.2
-completed (Executed x) k turn old new answer before left h = ap (λ (s : Inside). extent_of s.medium) h.2
-completed Stored k turn old new answer before left h = ap (λ (s : Inside). extent_of s.medium) h.2
-completed Outside k turn old new answer before left h = ap (λ (s : Inside). extent_of s.medium) h.2
-completed Wrote k turn old new answer before left h = ap (λ (s : Inside). extent_of s.medium) h.2
-completed (Value v) k turn old new answer before left h = ap (λ (s : Inside). extent_of s.medium) h.2
-completed Cycled k turn old new answer before left h = ap (λ (s : Inside). extent_of s.medium) h.2
-completed NoController k turn old new answer before left h = ap (λ (s : Inside). extent_of s.medium) h.2
+completed : (k i : ℕ) (old new : Inside) (result : Completed) (before left : List ℕ)
+    → CompletesBy (Executing k i) k i old result before left new → extent_of new.medium ≡ extent_of old.medium
+completed k i old new result before left h =
+    consumed h.seen (reply_at (controller_at old.state k) i) k h.executed new before left h.consumes
+    ∙ executions_stay_in_place k i old h.executed h.seen h.executes
+
+finished : (b : Bool) (k : ℕ) (placed : Placed) (old new : Inside) (answer : Answer) (before left : List ℕ)
+    → Finishes b k placed old answer before left new → extent_of new.medium ≡ extent_of old.medium
+finished false k placed old new answer before left h = ap (λ (s : Inside). extent_of s.medium) h.2
+finished true k placed old new answer before left h = completed k placed.index old new h.0 before left h.1
+
+filled : (bytes : List ℕ) (k at : ℕ) (old new : Inside) → StoresData k at bytes old new → new.medium ≡ old.medium
+filled [] k at old new h = ap (λ (s : Inside). s.medium) h
+filled (byte ∷ rest) k at old new h = h.1.1
+
+placed-by : (r : Result Turn ℕ) (k qid : ℕ) (entry : List ℕ) (at : ℕ) (bytes : List ℕ) (old new : Inside)
+    (placed : Placed) → PlacesBy r k qid entry at bytes old placed new → new.medium ≡ old.medium
+placed-by (Err why) k qid entry at bytes old new placed h = ap (λ (s : Inside). s.medium) h.1
+placed-by (Ok turn) k qid entry at bytes old new placed h =
+    let f = h.fetches in
+    f.fetches.1 ∙ f.rings.1.1 ∙ filled bytes k at f.stored f.filled f.fills ∙ f.stores.1.1
+
+placed-to : (o : Option Controller) (k qid : ℕ) (entry : List ℕ) (at : ℕ) (bytes : List ℕ) (old new : Inside)
+    (placed : Placed) → PlacesTo o k qid entry at bytes old placed new → new.medium ≡ old.medium
+placed-to None k qid entry at bytes old new placed h = ap (λ (s : Inside). s.medium) h.1
+placed-to (Some c) k qid entry at bytes old new placed h =
+    placed-by (place_of c qid at (length bytes)) k qid entry at bytes old new placed h
 
 pub turns_stay_in_place : TurnsStayInPlace
-turns_stay_in_place k qid turn entry old new answer before left h =
-    let fetched = h.fetches.fetches.1 ∙ h.fetches.rings.1.1 ∙ h.fetches.stores.1.1 in
-    completed h.seen k turn h.fetched new answer before left h.completes ∙ ap extent_of fetched
+turns_stay_in_place k qid entry old new answer before left h =
+    finished (h.placed.what == 4) k h.placed h.fetched new answer before left h.finishes
+    ∙ ap extent_of (placed-to (controller_at old.state k) k qid entry 0 [] old h.fetched h.placed h.places)
 
 -- Reads of blocks make only read calls.
 

@@ -25,7 +25,7 @@ refused-is room (Lent m) why h = ap refused_room h
 refused-is room (Brought m) why h = ap refused_room h.0
 
 -- wholeness is of the controllers alone
-whole-same : (s t : Subsystem) → t.controllers ≡ s.controllers → AreWhole s → AreWhole t
+pub whole-same : (s t : Subsystem) → t.controllers ≡ s.controllers → AreWhole s → AreWhole t
 unfolding controller_at
 whole-same s t same all = λ k c at. all k c (ap (λ cs. numbered cs k) (sym same) ∙ at)
 

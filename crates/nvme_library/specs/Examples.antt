@@ -13,6 +13,7 @@ use Rattle.nvme_library.specs.Answers.{closed}
 use Rattle.nvme_library.specs.Events.{Cycling, Happens}
 use Rattle.nvme_library.specs.Holding.{Inside}
 use Rattle.nvme_library.specs.Opening.{OpensOver}
+use Rattle.nvme_library.specs.Turns.{data_fault}
 
 -- a controller of this host, and a namespace of one block
 abbrev pub one_block : ℕ → Configuration
@@ -45,6 +46,16 @@ abbrev pub CopyIsNotLent : Type 0
 CopyIsNotLent =
     (c : Configuration) → (bytes : LentBytes) → (new : Inside) → (copy : MemMedium) → new.medium ≡ Own copy
     → OpensOver c bytes.items (script_capacity 1) (Some bytes) new → ⊥
+
+-- Data that end before the slot of an entry, or begin after it, can be stored with it. Data that share a byte with it
+-- can't, nor can data that leave the memory; no data can always.
+pub record DataAreApart : Type 0 where
+  pub none : data_fault 0x2000 0x2000 0 ≡ None
+  pub before : data_fault 0x2000 0x1fff 1 ≡ None
+  pub after : data_fault 0x2000 0x2040 1 ≡ None
+  pub first : data_fault 0x2000 0x1fff 2 ≡ Some 51
+  pub last : data_fault 0x2000 0x203f 1 ≡ Some 51
+  pub past : data_fault 0x2000 4194303 2 ≡ Some 18
 
 -- An event on a closed handle is answered `closed` and leaves it closed; no other answer comes, and it does not open.
 pub record ClosedStaysClosed : Type 0 where

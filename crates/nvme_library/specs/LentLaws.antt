@@ -11,11 +11,10 @@ use Rattle.nvme_machine.specs.Bare.{seen_with}
 use Rattle.nvme_machine.specs.EventCalls.{CallingAt}
 use Rattle.nvme_machine.specs.Subsystems.{controller_at}
 use Rattle.nvme_library.specs.declared.answer.Answer.{Answer}
-use Rattle.nvme_library.specs.declared.turn.Turn.{Turn}
 use Rattle.nvme_library.specs.Events.{Executing, Cycling}
 use Rattle.nvme_library.specs.Holding.{Inside}
 use Rattle.nvme_library.specs.Looking.{LooksAt}
-use Rattle.nvme_library.specs.Submitting.{TakesTurn}
+use Rattle.nvme_library.specs.Submitting.{SubmitsTo}
 
 -- An execution, and a host's turn, leave the borrowed bytes at their address, with their length.
 abbrev pub ExecutionsStayInPlace : Type 0
@@ -25,8 +24,8 @@ ExecutionsStayInPlace =
 
 abbrev pub TurnsStayInPlace : Type 0
 TurnsStayInPlace =
-    (k qid : ℕ) → (turn : Turn) → (entry : List ℕ) → (old new : Inside) → (answer : Answer) → (before left : List ℕ)
-    → TakesTurn k qid turn entry old answer before left new → extent_of new.medium ≡ extent_of old.medium
+    (k qid : ℕ) → (entry : List ℕ) → (old new : Inside) → (answer : Answer) → (before left : List ℕ)
+    → SubmitsTo k qid entry old answer before left new → extent_of new.medium ≡ extent_of old.medium
 
 -- Blocks in memory are after an execution what the calls of its command leave.
 abbrev pub ExecutionsReachTheBytes : Type 0

@@ -1,6 +1,8 @@
 pub mod Access
 pub mod Answers
 pub mod CallExamples
+pub mod Completing
+pub mod CompletingOver
 pub mod DiskLaws
 pub mod Events
 pub mod Examples
@@ -14,6 +16,7 @@ pub mod Needs
 pub mod Noticing
 pub mod Opening
 pub mod Over
+pub mod Placing
 pub mod Queues
 pub mod Reading
 pub mod Submitting

@@ -69,6 +69,8 @@ pub const EMPTY: u32 = 37;
 pub const TOO_LONG: u32 = 38;
 /// The blocks of the subsystem are in memory, so that none are brought.
 pub const IN_MEMORY: u32 = 39;
+/// The data and the slot of the entry overlap.
+pub const OVERLAPS: u32 = 51;
 
 /// A host stores bytes in its memory.
 pub const EVENT_STORE: u32 = 1;

@@ -12,6 +12,7 @@ ghost use Rattle.nvme_library.specs.Examples.{
   HostlessDoesNotOpen,
   CopyIsNotLent,
   ClosedStaysClosed,
+  DataAreApart,
 };
 
 /// A controller of host 5 and a namespace of one block open over any medium of one block, but not over an empty one. A
@@ -32,6 +33,11 @@ pub fn calls_are_made()
     ensures disk { FlushesOverADisk }
     ensures cycle { CyclingMakesNoCall }
     ensures look { LooksMakeTheirReads }
+{}
+
+/// Data are stored with an entry only if they are in the memory, and none of them in the slot of the entry.
+pub fn data_are_apart()
+    ensures { DataAreApart }
 {}
 
 /// An event on a closed handle is answered `closed`, and the handle stays closed.

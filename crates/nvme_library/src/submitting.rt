@@ -1,29 +1,14 @@
 //! One command, from its entry to its completion.
 
-ghost use Rattle.nvme_machine.specs.Subsystems.{controller_at};
-ghost use Rattle.nvme_machine.specs.Controllers.{after_store, wrote};
-ghost use Rattle.nvme_library.specs.Events.{Reacting};
-ghost use Rattle.nvme_library.specs.Turns.{tail_doorbell};
-ghost use Rattle.nvme_library.specs.Submitting.{
-  Submits,
-  AlwaysAnswers,
-  SubmitsTo,
-  TakesTurn,
-  Does,
-  Fetching,
-  Completing,
-  Completes,
-  Consumes,
-};
+ghost use Rattle.std.specs.Prelude.{◌≡◌, ◌==◌};
+ghost use Rattle.nvme_library.specs.Submitting.{AlwaysAnswers, Finishes, Submits, SubmitsTo};
 
 use crate::answer::Answer;
 use crate::codes;
+use crate::completing::complete_in;
 use crate::handle::Handle;
 use crate::held::Held;
-use crate::looking::load_from;
-use crate::turn::{Turn, head_doorbell, tail_doorbell, turn_of};
-use nvme_machine::{BareExecuted, BareSeen, Fetched};
-use nvme_subsys::Event;
+use crate::placing::{Placed, place_in};
 use std::alloc::Global;
 
 /// A host takes its turn at a pair of empty queues. It stores a command at the tail of the submission queue and writes
@@ -53,7 +38,7 @@ pub extern "C" fn nvmesim_submit(
     answer
 }
 
-/// Submits a command, if a turn is possible.
+/// Places a command, and completes it if it was taken.
 fn submit_to(
     subsystem: &mut Held,
     cntlid: u16,
@@ -61,89 +46,20 @@ fn submit_to(
     entry: &[u8; 64],
     completion: &mut [u8; 16],
 ) -> Answer
-    ensures { SubmitsTo (controller_at subsystem.old.state cntlid) cntlid qid entry.now subsystem.old result
-        completion.old completion.new subsystem.new }
+    ensures { SubmitsTo cntlid qid entry.now subsystem.old result completion.old completion.new subsystem.new }
 {
-    let Some(controller) = subsystem.controller(cntlid) else {
-        return Answer::plain(codes::NO_CONTROLLER);
-    };
-    match turn_of(controller, qid) {
-        Ok(turn) => take_turn(subsystem, cntlid, qid, turn, entry, completion),
-        Err(why) => Answer::plain(why),
-    }
+    let placed = place_in(subsystem, cntlid, qid, entry, 0, &[]);
+    finish(subsystem, cntlid, placed, completion)
 }
 
-/// The events of a turn.
-fn take_turn(
-    subsystem: &mut Held,
-    cntlid: u16,
-    qid: u16,
-    turn: Turn,
-    entry: &[u8; 64],
-    completion: &mut [u8; 16],
-) -> Answer
-    ensures { TakesTurn cntlid qid turn entry.now subsystem.old result completion.old completion.new
+/// Completes a command if it was taken.
+fn finish(subsystem: &mut Held, cntlid: u16, placed: Placed, completion: &mut [u8; 16]) -> Answer
+    ensures { Finishes (placed.what == 4) cntlid placed subsystem.old result completion.old completion.new
         subsystem.new }
 {
-    let seen = fetch(subsystem, cntlid, qid, turn, entry);
-    finish(subsystem, cntlid, turn, seen, completion)
-}
-
-/// The host stores the entry and writes the tail doorbell, and the controller fetches.
-fn fetch(subsystem: &mut Held, cntlid: u16, qid: u16, turn: Turn, entry: &[u8; 64]) -> BareSeen
-    ensures { Fetching cntlid qid turn entry.now subsystem.old result subsystem.new }
-{
-    store_entry(subsystem, cntlid, turn, entry);
-    ring_tail(subsystem, cntlid, qid, turn);
-    subsystem.react(Event::Fetch(cntlid, qid))
-}
-
-/// The host stores the entry at the tail.
-fn store_entry(subsystem: &mut Held, cntlid: u16, turn: Turn, entry: &[u8; 64])
-    ensures { Does (Reacting cntlid (after_store turn.entry_at entry.now)) subsystem.old subsystem.new }
-{
-    subsystem.react(Event::Store(cntlid, turn.entry_at, entry));
-}
-
-/// The host writes the tail doorbell.
-fn ring_tail(subsystem: &mut Held, cntlid: u16, qid: u16, turn: Turn)
-    ensures { Does (Reacting cntlid (wrote (tail_doorbell qid) turn.tail)) subsystem.old subsystem.new }
-{
-    subsystem.react(Event::Write32(cntlid, tail_doorbell(qid), turn.tail));
-}
-
-/// Executes the command if one was fetched.
-fn finish(
-    subsystem: &mut Held,
-    cntlid: u16,
-    turn: Turn,
-    seen: BareSeen,
-    completion: &mut [u8; 16],
-) -> Answer
-    ensures { Completes seen cntlid turn subsystem.old result completion.old completion.new subsystem.new }
-{
-    if let BareSeen::Fetched(Fetched::Took) = seen {
-        complete(subsystem, cntlid, turn, completion)
+    if placed.what == codes::TOOK {
+        complete_in(subsystem, cntlid, placed.index, completion).answer
     } else {
-        Answer::of(seen)
-    }
-}
-
-/// The controller executes the command, and the host consumes its completion.
-fn complete(subsystem: &mut Held, cntlid: u16, turn: Turn, completion: &mut [u8; 16]) -> Answer
-    ensures { Completing cntlid turn subsystem.old result completion.old completion.new subsystem.new }
-{
-    let seen = subsystem.execute(cntlid, turn.index);
-    consume(subsystem, cntlid, turn, seen, completion);
-    Answer::of(seen)
-}
-
-/// If a completion was posted, the host reads it and writes the head doorbell.
-fn consume(subsystem: &mut Held, cntlid: u16, turn: Turn, seen: BareSeen, completion: &mut [u8; 16])
-    ensures { Consumes seen cntlid turn subsystem.old completion.old completion.new subsystem.new }
-{
-    if let BareSeen::Executed(BareExecuted::Posted(_)) = seen {
-        load_from(subsystem, cntlid, turn.completion_at, completion);
-        subsystem.react(Event::Write32(cntlid, head_doorbell(turn.cqid), turn.head));
+        Answer::plain(placed.what)
     }
 }

@@ -1,4 +1,5 @@
 pub mod Answers
+pub mod Buffers
 pub mod Connections
 pub mod Examples
 pub mod Fabrics

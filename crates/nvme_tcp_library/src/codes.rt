@@ -87,3 +87,7 @@ pub const COMMAND_SET_PROPERTY: u32 = 4;
 pub const PLACE_CONTROLLER: u32 = 1;
 /// A Connect is for a discovery controller.
 pub const PLACE_DISCOVERY: u32 = 2;
+
+/// The data buffer of a command that is executed as soon as it is fetched. That of the n-th held command has the number
+/// n + 1.
+pub const BUFFER_AT_ONCE: u32 = 0;

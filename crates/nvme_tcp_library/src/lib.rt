@@ -1,9 +1,10 @@
-//! NVMe/TCP as a part of the library for C: PDUs, connections, which connection is a queue of which controller, and
-//! which data are whose. An export repeats the contract of the call that it makes. No export has a `requires`, since
-//! nothing would check that C meets it.
+//! NVMe/TCP as a part of the library for C: PDUs, connections, which connection is a queue of which controller, which
+//! data are whose, and their place in the memory of a controller's host. An export repeats the contract of the call
+//! that it makes. No export has a `requires`, since nothing would check that C meets it.
 #![tactic(auto)]
 
 pub mod answers;
+pub mod buffers;
 mod codes;
 pub mod connecting;
 pub mod connections;

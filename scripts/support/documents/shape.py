@@ -40,6 +40,9 @@ MANY_PARAMETERS: Dict[Tuple[str, str], Tuple[int, str]] = {
     ("crates/nvme_library/src/opening.rt", "opening::nvmesim_open_brought"):
         (8, "what C hands over: lists and their lengths"),
     ("crates/nvme_library/src/over.rt", "over::nvmesim_execute_over"): (8, "what C hands over: a room and its blocks"),
+    ("crates/nvme_library/src/completing_over.rt", "completing_over::nvmesim_complete_over"):
+        (9, "what C hands over: a room, its blocks and a buffer"),
+    ("crates/nvme_library/src/placing.rt", "placing::nvmesim_place"): (7, "what C hands over: an entry and its data"),
     ("crates/nvme_script/src/program.rt", "program::run_over"): (7, LENT),
     ("crates/nvme_script/src/run.rt", "run::run_event"): (8, LENT),
     ("crates/nvme_script/src/run.rt", "run::run_events"): (7, LENT),

@@ -10,7 +10,7 @@ from support import proving, toolchain
 # The interface's number, as in nvmesim.h: that of the shared object's name.
 VERSION = "3"
 CRATES = ("nvme_library", "nvme_tcp_library")
-HEADERS = ("nvmesim.h", "nvmetcp.h")
+HEADERS = ("nvmesim.h", "nvmesim_texts.h", "nvmetcp.h")
 MOST_TOLD = 4000
 PKGCONFIG = """prefix=${{pcfiledir}}/../..
 includedir=${{prefix}}/include

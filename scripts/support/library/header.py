@@ -1,4 +1,4 @@
-"""Compares nvmesim.h and nvmetcp.h with their crates: exports, their parameters, structs and numbers."""
+"""Compares nvmesim.h, nvmesim_texts.h and nvmetcp.h with their crates: exports, their parameters, structs and numbers."""
 import re
 
 from support.library.building import CRATES, HEADERS
@@ -16,13 +16,15 @@ TYPES = {
     "&mut [Controller]": ["nvmesim_controller *", "size_t"], "&mut [Namespace]": ["nvmesim_namespace *", "size_t"],
     "&mut [Attached]": ["nvmesim_attached *", "size_t"], "&Event": ["const nvmesim_event *"],
     "&Answer": ["const nvmesim_answer *"], "Written": ["nvmesim_written"], "Read": ["nvmesim_read"],
-    "HostView": ["nvmesim_host_view"], "Disk": ["nvmesim_disk"], "ExecutedOver": ["nvmesim_executed_over"], "&HostView": ["const nvmesim_host_view *"], "&Change": ["const nvmesim_change *"],
+    "HostView": ["nvmesim_host_view"], "Disk": ["nvmesim_disk"], "ExecutedOver": ["nvmesim_executed_over"], "Placed": ["nvmesim_placed"],
+    "Completed": ["nvmesim_completed"], "CompletedOver": ["nvmesim_completed_over"],
+    "&HostView": ["const nvmesim_host_view *"], "&Change": ["const nvmesim_change *"],
     "&RawNotices": ["const nvmesim_notices *"], "&mut RawNotices": ["nvmesim_notices *"], "&mut [u8; 64]": ["uint8_t *"],
     "[Notice; 64]": ["nvmesim_notice[64]"], "[u32; 8]": ["uint32_t[8]"],
     "&Agreed": ["const nvmesim_pdu_agreed *"], "Agreed": ["nvmesim_pdu_agreed"], "LayoutSeen": ["nvmesim_pdu_layout"],
     "PduFields": ["nvmesim_pdu_fields"], "&[u8; 8]": ["const uint8_t *"], "&[u8; 16]": ["const uint8_t *"],
     "&[u8; 24]": ["const uint8_t *"], "&[u8; 128]": ["const uint8_t *"], "&mut [u8; 24]": ["uint8_t *"],
-    "&mut [u8; 128]": ["uint8_t *"], "&[u8; 1024]": ["const uint8_t *"], "[u8; 128]": ["uint8_t[128]"],
+    "&mut [u8; 128]": ["uint8_t *"], "&mut [u8; 248]": ["uint8_t *"], "&[u8; 1024]": ["const uint8_t *"], "[u8; 128]": ["uint8_t[128]"],
     "[u8; 256]": ["uint8_t[256]"], "[u32; 16]": ["uint32_t[16]"], "&[HostId]": ["const nvmesim_host_id *", "size_t"],
     "&RawConnection": ["const nvmesim_connection *"], "&mut RawConnection": ["nvmesim_connection *"],
     "&mut Responses": ["nvmesim_responses *"], "&RawReply": ["const nvmesim_reply *"], "[u16; 64]": ["uint16_t[64]"],
@@ -39,7 +41,8 @@ STRUCTS = {"Answer": "nvmesim_answer", "Controller": "nvmesim_controller", "Name
            "Attached": "nvmesim_attached", "Queue": "nvmesim_queue", "Command": "nvmesim_command",
            "Needed": "nvmesim_needed", "Hold": "nvmesim_hold", "Registrant": "nvmesim_registered", "Event": "nvmesim_event",
            "Written": "nvmesim_written", "Read": "nvmesim_read", "HostView": "nvmesim_host_view",
-           "Change": "nvmesim_change", "Disk": "nvmesim_disk", "ExecutedOver": "nvmesim_executed_over", "Notice": "nvmesim_notice", "RawNotices": "nvmesim_notices",
+           "Change": "nvmesim_change", "Disk": "nvmesim_disk", "ExecutedOver": "nvmesim_executed_over", "Placed": "nvmesim_placed",
+           "Completed": "nvmesim_completed", "CompletedOver": "nvmesim_completed_over", "Notice": "nvmesim_notice", "RawNotices": "nvmesim_notices",
            "Agreed": "nvmesim_pdu_agreed", "LayoutSeen": "nvmesim_pdu_layout", "PduFields": "nvmesim_pdu_fields",
            "RawConnection": "nvmesim_connection", "Taken": "nvmesim_taken", "Verdict": "nvmesim_verdict",
            "Responses": "nvmesim_responses", "RawReply": "nvmesim_reply",

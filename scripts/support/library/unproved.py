@@ -31,7 +31,7 @@ VALUES = {"Global": "alloc", "&mut Handle": "&mut sim", "u8": "n as u8", "u16": 
           "&Change": "&change", "&HostView": "&view", "&RawNotices": "&notices", "&mut RawNotices": "&mut notices",
           "&mut [u8; 64]": "&mut page", "&Agreed": "&agreed", "&[u8; 8]": "&head", "&[u8; 16]": "&posted",
           "&[u8; 24]": "&header", "&[u8; 128]": "&request", "&mut [u8; 24]": "&mut header",
-          "&mut [u8; 128]": "&mut request", "&[u8; 1024]": "&data", "&[HostId]": "&hosts",
+          "&mut [u8; 128]": "&mut request", "&mut [u8; 248]": "&mut list", "&[u8; 1024]": "&data", "&[HostId]": "&hosts",
           "&RawConnection": "&connection", "&mut RawConnection": "&mut connection",
           "&mut Responses": "&mut responses", "&RawReply": "&reply",
           "&mut FabricsHandle": "&mut fabrics", "&RawSession": "&session", "&mut RawSession": "&mut session",
@@ -69,6 +69,7 @@ fn main(rt: HostRuntime) -> io::Result<ExitCode> {{
     let mut page = [0u8; 64];
     let agreed = Agreed {{ header_digests: n == 3, data_digests: n == 4, alignment: n as u8 }};
     let (head, posted, mut header, mut request) = ([n as u8; 8], [n as u8; 16], [n as u8; 24], [n as u8; 128]);
+    let mut list = [n as u8; 248];
     let (data, hosts) = ([n as u8; 1024], [HostId {{ low: n as u64, high: n as u64 }}]);
     let mut connection = RawConnection {{ count: n, length: n as u32, data_offset: n as u32, data_length: n as u32,
         kind: n as u8, header: n as u8, stage: n as u8, is_last: n == 3, header_digest: n == 4, data_digest: n == 5,
@@ -213,7 +214,7 @@ def archive(top: Path) -> Path:
             kit.is_free.set()
             for name, folder in copies(top, room).items():
                 kit.crates[name].folder = str(folder)
-            used = (TCP, "nvme_pdu", "nvme_connection", "nvme_transfers", "nvme_responses")
+            used = (TCP, "nvme_pdu", "nvme_connection", "nvme_transfers", "nvme_responses", "nvme_data_buffers")
             kit.crates[CRATE].deps += [kit.crates[it] for it in used]
             unproved.kept_module(kit, CRATE, room)
         except (unproved.NotBuilt, unproved.toolchain.NoToolchain) as error:
