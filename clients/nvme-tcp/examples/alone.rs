@@ -6,14 +6,11 @@
 #[path = "../src"]
 mod sources {
     pub mod bytes;
-    pub mod target {
-        pub mod window;
-    }
 }
 
+use nvmesim::buffers::{self, DataBuffer};
 use nvmesim::{Attachment, Config, Controller, Executed, Fetched, Namespace, Refusal, Subsystem};
 use sources::bytes::put;
-use sources::target::window::{self, Room};
 use std::time::{Duration, Instant};
 
 const BLOCKS: u64 = 32768;
@@ -32,10 +29,10 @@ impl Queue<'_> {
     fn run(&mut self, entry: &[u8; 64], data: &[u8], read: &mut [u8]) -> Result<(), Refusal> {
         let (qid, subsystem) = (self.qid, &mut self.subsystem);
         let doorbell = DOORBELLS + 8 * u64::from(qid);
-        subsystem.store(1, window::submission_queue(qid) + 64 * self.tail, entry)?;
+        subsystem.store(1, buffers::submission_queue(qid) + 64 * self.tail, entry)?;
         self.tail = (self.tail + 1) % ENTRIES;
         if !data.is_empty() {
-            subsystem.store(1, Room::AT_ONCE.start(data.len()), data)?;
+            subsystem.store(1, DataBuffer::AT_ONCE.start(data.len()), data)?;
         }
         subsystem.write32(1, doorbell, self.tail as u32)?;
         assert_eq!(subsystem.fetch(1, qid)?, Fetched::Took);
@@ -45,7 +42,7 @@ impl Queue<'_> {
         }
         subsystem.write32(1, doorbell + 4, self.tail as u32)?;
         if !read.is_empty() {
-            subsystem.load(1, Room::AT_ONCE.start(read.len()), read)?;
+            subsystem.load(1, DataBuffer::AT_ONCE.start(read.len()), read)?;
         }
         Ok(())
     }
@@ -71,17 +68,17 @@ fn opened(bytes: &mut [u8]) -> Result<Queue<'_>, Box<dyn std::error::Error>> {
         attached: vec![Attachment { nsid: 1, cntlid: 1 }],
     };
     let mut subsystem = Subsystem::open_lent(&config, bytes)?;
-    let (submission, completion) = (window::submission_queue(0) as u32, window::completion_queue(0) as u32);
+    let (submission, completion) = (buffers::submission_queue(0) as u32, buffers::completion_queue(0) as u32);
     let last = ENTRIES as u32 - 1;
     for (offset, value) in [(0x24, last << 16 | last), (0x28, submission), (0x30, completion), (0x14, 0x0046_0001)] {
         subsystem.write32(1, offset, value)?;
     }
-    let (list, pages) = window::prp_list();
+    let (list, pages) = buffers::prp_list();
     subsystem.store(1, list, &pages)?;
     let mut admin = Queue { subsystem, qid: 0, tail: 0 };
     let size = last << 16 | 1;
-    admin.run(&entry(0x05, 0, (window::completion_queue(1), 0), &[size, 1]), &[], &mut [])?;
-    admin.run(&entry(0x01, 0, (window::submission_queue(1), 0), &[size, 1 << 16 | 1]), &[], &mut [])?;
+    admin.run(&entry(0x05, 0, (buffers::completion_queue(1), 0), &[size, 1]), &[], &mut [])?;
+    admin.run(&entry(0x01, 0, (buffers::submission_queue(1), 0), &[size, 1 << 16 | 1]), &[], &mut [])?;
     Ok(Queue { subsystem: admin.subsystem, qid: 1, tail: 0 })
 }
 
@@ -100,7 +97,9 @@ fn main() -> Result<(), Box<dyn std::error::Error>> {
             let slba = (place >> 33) % (BLOCKS / blocks) * blocks;
             let words = [slba as u32, 0, blocks as u32 - 1];
             let opcode = if writes { 1 } else { 2 };
-            queue.run(&entry(opcode, 1, Room::AT_ONCE.pointers(length), &words), &data, &mut read)?;
+            let mut entry = entry(opcode, 1, (0, 0), &words);
+            DataBuffer::AT_ONCE.place(&mut entry, false, length);
+            queue.run(&entry, &data, &mut read)?;
             done += 1;
         }
     }

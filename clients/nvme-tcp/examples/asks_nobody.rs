@@ -10,9 +10,6 @@ mod sources {
     pub mod digest;
     #[allow(unsafe_code)]
     pub mod system;
-    pub mod target {
-        pub mod window;
-    }
     pub mod transport {
         pub mod output;
         pub mod pdu;
@@ -24,7 +21,7 @@ use sources::system::{Interest, Poll};
 use sources::transport::output::Output;
 use sources::transport::pdu;
 use sources::transport::pdu::{Agreed, HostData, Kind, Layout};
-use sources::{bytes, digest, target, transport};
+use sources::{bytes, digest, transport};
 use std::collections::HashMap;
 use std::convert::Infallible;
 use std::io::{Read, Result, Write};

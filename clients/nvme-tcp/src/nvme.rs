@@ -9,6 +9,9 @@ pub mod status;
 pub const BLOCK: u64 = 512;
 pub const ENTRY: usize = 64;
 
+/// The size of a page of a host's memory, CC.MPS 0.
+pub const MEMORY_PAGE: usize = 4096;
+
 /// The highest namespace identifier, and the most blocks of a namespace.
 pub const MOST_NAMESPACES: u32 = 8;
 pub const MOST_BLOCKS: u64 = 65_536;

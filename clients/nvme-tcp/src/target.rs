@@ -6,7 +6,6 @@ pub mod deallocating;
 pub mod holding;
 pub mod machine;
 pub mod notices;
-pub mod window;
 
 use crate::admin::access::Access;
 use crate::admin::health::Health;

@@ -1,17 +1,19 @@
 // Loaded into the target by LD_PRELOAD, it logs the system calls on the target's files.
 //
 // CALLS_TOLD names a file that gets a line for each: `writes PLACE COUNT` before a pwrite and `wrote PLACE COUNT` after
-// it, `syncs` before an fdatasync and `synced` after it, `reserves MODE PLACE COUNT` before an fallocate. CALLS_GATE
-// may name a pipe. A pwrite, or a write or writev of 16 KiB, waits there until it gets a byte. So does an fdatasync at
-// CALLS_SYNC_GATE. CALLS_REFUSAL may be an errno, by which each fallocate is refused. With CALLS_PART, a
-// writev takes a part of the bytes, or is interrupted; `puts COUNT FIRST SECOND` is how many of which. A long write
-// then takes a while, so that more bytes are queued after it.
+// it, `syncs` before an fdatasync and `synced` after it, `reserves MODE PLACE COUNT` before an fallocate; and
+// `appends COUNT` and `fsyncs` for calls on the file that CALLS_JOURNAL names. CALLS_GATE may name a pipe. A pwrite, or
+// a write or writev of 16 KiB, waits there until it gets a byte. So does an fdatasync at CALLS_SYNC_GATE. CALLS_REFUSAL
+// may be an errno, by which each fallocate is refused. With CALLS_PART, a writev takes a part of the bytes, or is
+// interrupted; `puts COUNT FIRST SECOND` is how many of which. A long write then takes a while, so that more bytes are
+// queued after it.
 #define _GNU_SOURCE
 #include <dlfcn.h>
 #include <errno.h>
 #include <fcntl.h>
 #include <stdio.h>
 #include <stdlib.h>
+#include <sys/stat.h>
 #include <sys/types.h>
 #include <sys/uio.h>
 #include <unistd.h>
@@ -42,6 +44,12 @@ static void tell(const char *what, long long first, long long second, long long 
         abort();
 }
 
+static int is_journal(int file) {
+    struct stat journal, found;
+    return getenv("CALLS_JOURNAL") && stat(getenv("CALLS_JOURNAL"), &journal) == 0 && fstat(file, &found) == 0 &&
+           journal.st_dev == found.st_dev && journal.st_ino == found.st_ino;
+}
+
 ssize_t pwrite64(int file, const void *bytes, size_t count, off64_t place) {
     ssize_t (*next)(int, const void *, size_t, off64_t) = dlsym(RTLD_NEXT, "pwrite64");
     tell("writes", place, count, -1);
@@ -64,6 +72,13 @@ int fdatasync(int file) {
     return done;
 }
 
+int fsync(int file) {
+    int (*next)(int) = dlsym(RTLD_NEXT, "fsync");
+    if (is_journal(file))
+        tell("fsyncs", -1, -1, -1);
+    return next(file);
+}
+
 int fallocate(int file, int mode, off_t place, off_t count) {
     int (*next)(int, int, off_t, off_t) = dlsym(RTLD_NEXT, "fallocate");
     const char *refusal = getenv("CALLS_REFUSAL");
@@ -79,6 +94,8 @@ ssize_t write(int file, const void *bytes, size_t count) {
     ssize_t (*next)(int, const void *, size_t) = dlsym(RTLD_NEXT, "write");
     if (getenv("CALLS_PART") && count >= 65536)
         usleep(20000);
+    if (file != told && is_journal(file))
+        tell("appends", count, -1, -1);
     if (count >= 16384)
         wait_at(gate);
     return next(file, bytes, count);

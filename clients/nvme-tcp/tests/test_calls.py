@@ -158,6 +158,24 @@ class Takeover(CallsTest):
         self.assertIn("another target has taken its folder over", (self.folder / "errors").read_text())
 
 
+class Starts(CallsTest):
+    """A target starts over the journal of one that was killed, whose last record may not be synced."""
+
+    def environment(self) -> dict:
+        self.state = self.kept / "state"
+        self.options = ["--state", str(self.state)]
+        return {"CALLS_JOURNAL": str(self.state / "journal")}
+
+    def test_what_is_there_is_synced_first(self) -> None:
+        """Else a power loss could tear a record, and leave the one after it: such a journal is refused."""
+        self.target.kill()
+        before = len(self.told())
+        with mock.patch.dict(os.environ, {"LD_PRELOAD": str(self.library), "CALLS_TOLD": str(self.told_in),
+                                          "CALLS_JOURNAL": str(self.state / "journal")}):
+            self.target.start()
+        self.assertEqual([words[0] for words in self.told()[before:]], ["fsyncs", "appends", "fsyncs"])
+
+
 class Records(CallsTest):
     """A record of the journal is not synced for a while: the target serves, and answers nothing that came after it."""
 

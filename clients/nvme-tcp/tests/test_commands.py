@@ -44,6 +44,26 @@ class Blocks(TargetTest):
         self.assertEqual((longer.status, longer.data), (0, b"\5" * 512 + bytes(1536)), "zeros, and no data from before")
         self.assertEqual(host.identify(2, length=4096).data[:8], struct.pack("<II", 1, 0))
 
+    def test_commands_stay_in_their_data(self) -> None:
+        """Each command moves the first bytes of its own data, or none if it would move more than there are."""
+        host, content = self.host(), random.Random(5).randbytes(131072)
+        # Each second page begins with addresses of pages, which a controller might take for a PRP list.
+        addresses = struct.pack("<512Q", *range(3 << 20, (3 << 20) + (512 << 12), 1 << 12))
+        self.assertEqual(host.write(0, content), 0)
+        for blocks in (1, 8, 9, 16, 17, 24, 25, 128, 256):
+            moved = BLOCK * blocks
+            for length in (511, 512, 513, 4096, 4097, 8192, 8196, 12288, 65536, 131072):
+                read = host.read(0, blocks, length=length)
+                data = content[:4096] + (addresses * 31)[:length - 4096] if length > 4096 else content[:length]
+                words = struct.pack("<QI", 1000, blocks - 1)
+                written = host.queues[0].call(0x01, 1, words, data, in_capsule=False).status
+                with self.subTest(blocks=blocks, length=length):
+                    if moved > length:
+                        self.assertEqual((read.status, read.data, written), (0x004 | DNR, b"", 0x004 | DNR))
+                    else:
+                        self.assertEqual((read.status, read.data), (0, content[:moved] + bytes(length - moved)))
+                        self.assertEqual((written, host.read(1000, blocks).data), (0, data[:moved]))
+
     def test_no_data_of_another_host_are_returned(self) -> None:
         """The data of a failed command are not sent."""
         a, b = self.host(), self.host(0xb2)

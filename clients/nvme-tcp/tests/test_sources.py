@@ -13,7 +13,7 @@ HERE = Path(__file__).resolve().parent.parent
 # processor, mapped memory, the system calls.
 UNSAFE = sorted([HERE.parent / "rust/src/raw.rs", *(HERE / f"simulator/src/{it}.rs" for it in ("fiber", "heap")),
                  *(HERE / f"src/{it}.rs" for it in ("authentication/libcrypto", "digest/processor", "memory", "system"))])
-MOST_LINES = 316
+MOST_LINES = 322
 
 
 class Sources(unittest.TestCase):

@@ -18,6 +18,8 @@ use std::sync::Arc;
 
 /// The most bytes that are read of what another target has appended.
 const MOST_OF_OTHERS: u64 = 64 << 10;
+/// What a power loss leaves of each of these is old or new.
+const SECTOR: usize = 512;
 /// Why a journal that isn't whole is refused.
 const WAS_USED: &str = "a target has used this folder, and what it kept is lost: put the journal back from a copy, or \
                         begin anew with another folder";
@@ -56,6 +58,9 @@ pub fn open(mut folder: Folder, configuration: &Configuration) -> io::Result<(Jo
     if torn != 0 {
         file.set_len(end as u64)?;
     }
+    // A target that was killed may not have synced its last batch. If power is lost before the sync after the next
+    // record, that batch must not be torn while the record is whole: it would be damaged, and the folder refused.
+    file.sync_all()?;
     file.write_all(&Record { epoch, event: Event::Start }.bytes())?;
     file.sync_all()?;
     let length = join(&mut records, &read_from(&mut file, end as u64)?, epoch)?;
@@ -89,7 +94,8 @@ fn read_or_begin(file: &mut File, folder: &Folder, configuration: &Configuration
     if let Some(version) = newer_version(&bytes) {
         return Err(changed(format!("the journal has format {version}, which is newer than this program")));
     }
-    if !heads.iter().any(|head| head.starts_with(&bytes)) {
+    let is_torn = folder.identity.is_none() && heads.iter().any(|head| is_torn(&bytes, head));
+    if !is_torn && !heads.iter().any(|head| head.starts_with(&bytes)) {
         return Err(changed("the journal is of another configuration".to_owned()));
     }
     if folder.identity.is_some() {
@@ -100,6 +106,12 @@ fn read_or_begin(file: &mut File, folder: &Folder, configuration: &Configuration
     file.sync_all()?;
     File::open(&folder.path)?.sync_all()?;
     Ok((heads[0].clone(), heads[0].len()))
+}
+
+/// Whether bytes are what a power loss leaves of a head that was never synced: some sectors of it are zeros.
+fn is_torn(bytes: &[u8], head: &[u8]) -> bool {
+    let is_left = |(it, whole): (&[u8], &[u8])| whole.starts_with(it) || it.iter().all(|byte| *byte == 0);
+    bytes.len() <= head.len() && bytes.chunks(SECTOR).zip(head.chunks(SECTOR)).all(is_left)
 }
 
 fn read_from(file: &mut File, place: u64) -> io::Result<Vec<u8>> {
@@ -165,6 +177,19 @@ impl Own {
 #[cfg(test)]
 mod tests {
     use super::*;
+
+    #[test]
+    fn a_torn_head_is_known() {
+        let head: Vec<u8> = (0..1300).map(|it| it as u8 | 1).collect();
+        for sectors in [0..1, 1..2, 2..3, 0..3] {
+            let mut torn = head.clone();
+            torn[SECTOR * sectors.start..head.len().min(SECTOR * sectors.end)].fill(0);
+            assert!(is_torn(&torn, &head) && is_torn(&torn[..700], &head), "{sectors:?}");
+            torn[600] = 2;
+            assert!(!is_torn(&torn, &head));
+        }
+        assert!(!is_torn(&[&head[..], &[0]].concat(), &head), "it is longer");
+    }
 
     #[test]
     fn what_another_target_appends_at_a_start() {

@@ -10,7 +10,7 @@ use crate::journal::batch;
 use crate::journal::checkpoint::Checkpoint;
 use crate::nvme::entry::SubmissionEntry;
 use crate::nvme::ENTRY;
-use crate::target::window::MOST_DATA;
+use nvmesim::buffers::MOST_DATA;
 use std::io::{self, ErrorKind};
 
 /// What a journal begins with, before the version that it was begun in. The second version has no batches, and records

@@ -14,11 +14,11 @@ use crate::journal::record::Event;
 use crate::nvme::entry::SubmissionEntry;
 use crate::nvme::status::SUCCESS;
 use crate::nvme::{
-    MOST_ENTRIES, NAMESPACE_ATTACHMENT, RESERVATION_ACQUIRE, RESERVATION_REGISTER, SET_FEATURES, WRITE_PROTECTION,
+    MEMORY_PAGE, MOST_ENTRIES, NAMESPACE_ATTACHMENT, RESERVATION_ACQUIRE, RESERVATION_REGISTER, SET_FEATURES,
+    WRITE_PROTECTION,
 };
 use crate::target::controller::{Controller, Data, ENABLE};
 use crate::target::machine::Machine;
-use crate::target::window::PAGE;
 use crate::target::Target;
 use nvmesim::{Holder, OpenError, Registrant, Subsystem};
 
@@ -102,7 +102,7 @@ impl Replay<'_, '_> {
         let mut data = data.clone();
         if (qid, entry.opcode()) == (0, NAMESPACE_ATTACHMENT) {
             // A record ends with the last controller of the list.
-            data.resize(data.len().max(PAGE as usize), 0);
+            data.resize(data.len().max(MEMORY_PAGE), 0);
         }
         self.succeeds(usize::from(cntlid).wrapping_sub(1), qid, entry, &data)
     }
@@ -131,7 +131,7 @@ impl Replay<'_, '_> {
 
     /// Attaches a namespace to a controller, or detaches it, by a command of another; whether it could.
     fn attach(&mut self, issuer: usize, index: usize, nsid: u32, select: u32) -> Outcome<bool> {
-        let mut list = vec![0; PAGE as usize];
+        let mut list = vec![0; MEMORY_PAGE];
         put(&mut list, 0, &1u16.to_le_bytes());
         put(&mut list, 2, &self.controllers[index].cntlid.to_le_bytes());
         self.succeeds(issuer, 0, &entry_of(NAMESPACE_ATTACHMENT, nsid, select, 0), &list)
@@ -349,7 +349,7 @@ mod tests {
                 7..=10 => (1, entry_of(RESERVATION_ACQUIRE, nsid, action | rtype, 0), keys),
                 11 | 12 => (1, entry_of(RESERVATION_RELEASE, nsid, (action % 2) | rtype, 0), keys),
                 13 | 14 => {
-                    let mut list = vec![0; PAGE as usize];
+                    let mut list = vec![0; MEMORY_PAGE];
                     put(&mut list, 0, &[1, 0, 1 + self.below(3) as u8, 0]);
                     (0, entry_of(NAMESPACE_ATTACHMENT, nsid, action % 2, 0), list)
                 }

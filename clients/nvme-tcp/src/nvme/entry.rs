@@ -102,12 +102,6 @@ impl SubmissionEntry {
         self.0[SGL_IDENTIFIER]
     }
 
-    /// Sets PSDT to 0: the data pointer is PRPs.
-    #[inline]
-    pub fn use_prps(&mut self) {
-        self.0[1] &= !PSDT;
-    }
-
     #[inline]
     pub fn set_prps(&mut self, first: u64, second: u64) {
         put(&mut self.0, PRP1, &first.to_le_bytes());
@@ -236,8 +230,5 @@ mod tests {
         let other = it.on_blocks(8, 1 << 33, 255);
         assert_eq!((other.opcode(), other.command_id(), other.namespace_id()), (8, 0x1234, 9));
         assert_eq!((other.slba(), other.nlb(), other.sgl_address()), (1 << 33, 255, 0));
-        let mut it = SubmissionEntry::from([0xff; ENTRY]);
-        it.use_prps();
-        assert_eq!((it.psdt(), it.bytes()[1]), (0, 0x3f));
     }
 }

@@ -9,8 +9,8 @@ use crate::nvme::status::{COMMAND_SEQUENCE, SUCCESS};
 use crate::nvme::{COMPARE, DATASET_MANAGEMENT, READ, WRITE_ZEROES};
 use crate::target::answer::Answer;
 use crate::target::controller::{Completed, Data, Token};
-use crate::target::window::Room;
 use crate::target::Target;
+use nvmesim::buffers::DataBuffer;
 use nvmesim::Need;
 use std::collections::BTreeMap;
 
@@ -41,18 +41,18 @@ pub struct Pending {
     /// The data that it has, or how many bytes come from the controller; and their place in the host's memory.
     data: Vec<u8>,
     length: usize,
-    pub room: Room,
+    pub buffer: DataBuffer,
     /// Whether it was held, so that it comes after those that were held before.
     was_held: bool,
 }
 
 impl Pending {
-    pub fn new(issued: Issued, token: Token, data: Data<'_>, room: Room) -> Pending {
+    pub fn new(issued: Issued, token: Token, data: Data<'_>, buffer: DataBuffer) -> Pending {
         let (data, length) = match data {
             Data::ToController(bytes) => (bytes.to_vec(), bytes.len()),
             data => (Vec::new(), data.length()),
         };
-        Pending { issued, token, data, length, room, was_held: false }
+        Pending { issued, token, data, length, buffer, was_held: false }
     }
 
     pub fn data(&self) -> Data<'_> {
@@ -145,7 +145,7 @@ impl Target<'_> {
             return Ok(ticket.and_then(|ticket| self.owe(ticket, &issued, answer)));
         }
         let Issued { index, qid, entry, .. } = issued;
-        let token = match self.controllers[index].submit(&mut self.machine, qid, &entry, data, Room::AT_ONCE)? {
+        let token = match self.controllers[index].submit(&mut self.machine, qid, &entry, data, DataBuffer::AT_ONCE)? {
             Some(token) => token,
             None => return Ok(Some(Answer::of(COMMAND_SEQUENCE))),
         };
@@ -153,9 +153,9 @@ impl Target<'_> {
         let id = self.waiting.next();
         self.storage.iter_mut().for_each(|it| it.read_ahead(index, need));
         if self.storage.as_mut().map_or(true, |it| it.prepare(need, id)) {
-            return self.conclude(&issued, token, need, data, Room::AT_ONCE);
+            return self.conclude(&issued, token, need, data, DataBuffer::AT_ONCE);
         }
-        self.waiting.insert(id, Pending::new(issued, token, data, Room::AT_ONCE));
+        self.waiting.insert(id, Pending::new(issued, token, data, DataBuffer::AT_ONCE));
         Ok(None)
     }
 
@@ -204,12 +204,12 @@ impl Target<'_> {
             Some(pending) => pending,
             None => return Ok(None),
         };
-        let Pending { issued, token, room, was_held, .. } = pending;
+        let Pending { issued, token, buffer, was_held, .. } = pending;
         if !was_held {
             // All commands that wait share one place for their data.
-            controllers[index].place_data(machine, issued.qid, &issued.entry, pending.data(), room)?;
+            controllers[index].place_data(machine, issued.qid, &issued.entry, pending.data(), buffer)?;
         }
-        let answer = self.conclude(&issued, token, need, pending.data(), room);
+        let answer = self.conclude(&issued, token, need, pending.data(), buffer);
         self.forget(id, index, was_held);
         Ok(answer?.map(|answer| (issued, answer)))
     }
@@ -231,13 +231,13 @@ impl Target<'_> {
         token: Token,
         need: Need,
         data: Data<'_>,
-        room: Room,
+        buffer: DataBuffer,
     ) -> Outcome<Option<Answer>> {
         let Issued { index, qid, entry, .. } = issued;
         let is_write = matches!(need, Need::Write { .. } | Need::Zero { .. });
         let ticket = if is_write { self.storage.as_mut().map(|it| it.open(*index)) } else { None };
         let watch = self.watch(*index, entry);
-        let completed = self.execute_over(*index, token, need, room.start(data.length()), ticket)?;
+        let completed = self.execute_over(*index, token, need, buffer.start(data.length()), ticket)?;
         let answer = self.answer_of(*index, *qid, entry, data, completed, watch.as_ref())?;
         let ticket = ticket.or_else(|| self.storage.as_mut().and_then(|it| it.follow_writes(need, *index)));
         Ok(match ticket {
@@ -275,12 +275,12 @@ impl Target<'_> {
     /// Fetches and executes a command that reads no blocks.
     pub fn run_over(&mut self, index: usize, qid: u16, entry: &SubmissionEntry, ticket: u64) -> Outcome<Completed> {
         let data = Data::FromController(0);
-        let token = match self.controllers[index].submit(&mut self.machine, qid, entry, data, Room::AT_ONCE)? {
+        let token = match self.controllers[index].submit(&mut self.machine, qid, entry, data, DataBuffer::AT_ONCE)? {
             Some(token) => token,
             None => return Ok(Completed::without_queue()),
         };
         let need = self.controllers[index].need(&mut self.machine, token)?;
-        self.execute_over(index, token, need, Room::AT_ONCE.start(0), Some(ticket))
+        self.execute_over(index, token, need, DataBuffer::AT_ONCE.start(0), Some(ticket))
     }
 
     /// The answer of a command with a ticket, if no write of it is in progress.

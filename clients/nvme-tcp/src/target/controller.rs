@@ -4,12 +4,13 @@ use crate::fault::Outcome;
 use crate::nvme::entry::SubmissionEntry;
 use crate::nvme::status::{Status, COMMAND_SEQUENCE, SUCCESS};
 use crate::nvme::{
-    BLOCK, CREATE_COMPLETION_QUEUE, CREATE_SUBMISSION_QUEUE, DELETE_COMPLETION_QUEUE, DELETE_SUBMISSION_QUEUE, ENTRY,
-    MOST_QUEUE, QUEUES, READ, WRITE,
+    CREATE_COMPLETION_QUEUE, CREATE_SUBMISSION_QUEUE, DELETE_COMPLETION_QUEUE, DELETE_SUBMISSION_QUEUE, MEMORY_PAGE,
+    QUEUES, READ, WRITE,
 };
 use crate::target::machine::Machine;
-use crate::target::window::{self, Room};
-use nvmesim::{Brought, Executed, Fetched, Need};
+use nvmesim::buffers::{self, DataBuffer};
+use nvmesim::{Brought, Executed, Need};
+use std::borrow::Cow;
 
 /// Offsets of registers.
 pub const CAP: u64 = 0x00;
@@ -19,7 +20,6 @@ pub const CSTS: u64 = 0x1c;
 const AQA: u64 = 0x24;
 const ASQ: u64 = 0x28;
 const ACQ: u64 = 0x30;
-const DOORBELLS: u64 = 0x1000;
 /// CC.EN.
 pub const ENABLE: u32 = 1;
 
@@ -66,19 +66,11 @@ impl Completed {
 #[derive(Clone, Copy, Debug, PartialEq, Eq)]
 pub struct Token(u64);
 
-/// A pair of queues of one size.
-#[derive(Clone, Copy)]
-struct Pair {
-    size: u16,
-    tail: u16,
-    head: u16,
-}
-
-/// A controller, and the queues that it has.
+/// A controller, and which queues it has.
 pub struct Controller {
     pub cntlid: u16,
     pub host: u128,
-    queues: [Option<Pair>; QUEUES],
+    queues: [bool; QUEUES],
     /// The commands that were fetched and not executed, in the order of their fetches, and their queues.
     fetched: Vec<(Token, u16)>,
     next: Token,
@@ -88,12 +80,12 @@ pub struct Controller {
 
 impl Controller {
     pub fn new(cntlid: u16, host: u128) -> Controller {
-        let (queues, fetched) = ([None; QUEUES], Vec::new());
+        let (queues, fetched) = ([false; QUEUES], Vec::new());
         Controller { cntlid, host, queues, fetched, next: Token(0), commands: 0 }
     }
 
     pub fn has_queue(&self, qid: u16) -> bool {
-        matches!(self.queues.get(usize::from(qid)), Some(Some(_)))
+        self.queues.get(usize::from(qid)) == Some(&true)
     }
 
     /// How many commands were fetched and not executed.
@@ -103,7 +95,7 @@ impl Controller {
 
     /// What is forgotten when the controller is reset or power is lost: queues, and what was fetched.
     pub fn forget(&mut self) {
-        self.queues = [None; QUEUES];
+        self.queues = [false; QUEUES];
         self.fetched.clear();
     }
 
@@ -119,7 +111,7 @@ impl Controller {
             self.forget();
         } else if !self.has_queue(0) {
             self.place_admin_queues(machine, admin_entries)?;
-            self.queues[0] = Some(Pair { size: admin_entries, tail: 0, head: 0 });
+            self.queues[0] = true;
         }
         machine.write32(self.cntlid, CC, value)
     }
@@ -127,33 +119,32 @@ impl Controller {
     /// What a host with a bus does before it sets CC.EN, and the PRP list.
     fn place_admin_queues(&self, machine: &mut Machine<'_>, entries: u16) -> Outcome<()> {
         let last = u32::from(entries) - 1;
-        let (submission, completion) = (window::submission_queue(0), window::completion_queue(0));
+        let (submission, completion) = (buffers::submission_queue(0), buffers::completion_queue(0));
         for (offset, value) in [(AQA, last << 16 | last), (ASQ, submission as u32), (ASQ + 4, 0)] {
             machine.write32(self.cntlid, offset, value)?;
         }
         machine.write32(self.cntlid, ACQ, completion as u32)?;
         machine.write32(self.cntlid, ACQ + 4, 0)?;
-        machine.store(self.cntlid, completion, &[0; window::PAGE as usize])?;
-        let (list, pages) = window::prp_list();
+        machine.store(self.cntlid, completion, &[0; MEMORY_PAGE])?;
+        let (list, pages) = buffers::prp_list();
         machine.store(self.cntlid, list, &pages)
     }
 
     /// Create I/O Completion Queue and Create I/O Submission Queue, by the admin queue: the first status that is not
     /// success, or success.
     pub fn create_queues(&mut self, machine: &mut Machine<'_>, qid: u16, entries: u16) -> Outcome<Status> {
-        let place = qid.min(MOST_QUEUE + 1);
         let size = (u32::from(entries) - 1) << 16 | u32::from(qid);
-        machine.store(self.cntlid, window::completion_queue(place), &[0; window::PAGE as usize])?;
-        let completion = own_entry(CREATE_COMPLETION_QUEUE, window::completion_queue(place), size, 1);
+        machine.store(self.cntlid, buffers::completion_queue(qid), &[0; MEMORY_PAGE])?;
+        let completion = own_entry(CREATE_COMPLETION_QUEUE, buffers::completion_queue(qid), size, 1);
         let made = self.run(machine, 0, &completion, Data::None)?.status;
         if made != SUCCESS {
             return Ok(made);
         }
         let link = u32::from(qid) << 16 | 1;
-        let submission = own_entry(CREATE_SUBMISSION_QUEUE, window::submission_queue(place), size, link);
+        let submission = own_entry(CREATE_SUBMISSION_QUEUE, buffers::submission_queue(qid), size, link);
         let made = self.run(machine, 0, &submission, Data::None)?.status;
         if made == SUCCESS {
-            self.queues[usize::from(qid)] = Some(Pair { size: entries, tail: 0, head: 0 });
+            self.queues[usize::from(qid)] = true;
         }
         Ok(made)
     }
@@ -163,7 +154,7 @@ impl Controller {
         if !self.has_queue(qid) || !self.has_queue(0) {
             return Ok(());
         }
-        self.queues[usize::from(qid)] = None;
+        self.queues[usize::from(qid)] = false;
         self.run(machine, 0, &own_entry(DELETE_SUBMISSION_QUEUE, 0, u32::from(qid), 0), Data::None)?;
         // What was fetched from it counts until then, in the places of commands.
         self.fetched.retain(|(_, queue)| *queue != qid);
@@ -181,12 +172,12 @@ impl Controller {
         entry: &SubmissionEntry,
         data: Data<'_>,
     ) -> Outcome<Completed> {
-        let token = match self.submit(machine, qid, entry, data, Room::AT_ONCE)? {
+        let token = match self.submit(machine, qid, entry, data, DataBuffer::AT_ONCE)? {
             Some(token) => token,
             None => return Ok(Completed::without_queue()),
         };
         let need = if is_followed(qid, entry) { self.need(machine, token)? } else { Need::Nothing };
-        self.execute(machine, token, need, Room::AT_ONCE.start(data.length()))
+        self.execute(machine, token, need, DataBuffer::AT_ONCE.start(data.length()))
     }
 
     /// What a fetched command needs of the blocks now.
@@ -200,8 +191,8 @@ impl Controller {
             Some(i) => i,
             None => return Ok(Completed::without_queue()),
         };
-        let executed = machine.execute(self.cntlid, i)?;
-        self.complete(machine, i, executed, (need, data))
+        let executed = machine.complete(self.cntlid, i)?;
+        Ok(self.completed(i, executed, (need, data)))
     }
 
     /// The same over blocks that are brought in a room. It also returns how many blocks of the room belong on the disk.
@@ -216,8 +207,8 @@ impl Controller {
             Some(i) => i,
             None => return Ok((Completed::without_queue(), 0)),
         };
-        let (executed, at_hand) = machine.execute_over(self.cntlid, i, room, brought)?;
-        Ok((self.complete(machine, i, executed, (need, data))?, at_hand))
+        let (executed, at_hand) = machine.complete_over(self.cntlid, i, room, brought)?;
+        Ok((self.completed(i, executed, (need, data)), at_hand))
     }
 
     /// The place of a command among those that were fetched.
@@ -225,28 +216,23 @@ impl Controller {
         self.fetched.iter().position(|(it, _)| *it == token)
     }
 
-    /// Stores a command and its data, rings and fetches it; nothing if it was not fetched.
+    /// Places a command with its data; nothing if it was not fetched.
     pub fn submit(
         &mut self,
         machine: &mut Machine<'_>,
         qid: u16,
         entry: &SubmissionEntry,
         data: Data<'_>,
-        room: Room,
+        buffer: DataBuffer,
     ) -> Outcome<Option<Token>> {
-        let mut pair = match self.queues.get(usize::from(qid)) {
-            Some(Some(pair)) => *pair,
-            _ => return Ok(None),
-        };
-        let c = self.cntlid;
-        let place = window::submission_queue(qid) + ENTRY as u64 * u64::from(pair.tail);
-        pair.tail = (pair.tail + 1) % pair.size;
-        machine.store(c, place, placed(entry, data, room).bytes())?;
-        self.place_data(machine, qid, entry, data, room)?;
-        machine.write32(c, doorbell(qid), u32::from(pair.tail))?;
-        let is_fetched = machine.fetch(c, qid)? == Fetched::Took;
+        if !self.has_queue(qid) {
+            return Ok(None);
+        }
+        let (at, stored) = stored_data(qid, entry, data, buffer);
+        let placed = placed(qid, entry, data, buffer);
+        let is_fetched = machine.place(self.cntlid, qid, &placed, (at, &stored))?;
         // A controller that was shut down fetches nothing more until it is reset.
-        self.queues[usize::from(qid)] = if is_fetched { Some(pair) } else { None };
+        self.queues[usize::from(qid)] = is_fetched;
         if !is_fetched {
             return Ok(None);
         }
@@ -256,75 +242,65 @@ impl Controller {
         Ok(Some(token))
     }
 
-    /// Stores the data of a command, or zeros where it may store fewer than its host expects.
+    /// Stores the data of a command again.
     pub fn place_data(
         &self,
         machine: &mut Machine<'_>,
         qid: u16,
         entry: &SubmissionEntry,
         data: Data<'_>,
-        room: Room,
+        buffer: DataBuffer,
     ) -> Outcome<()> {
-        match data {
-            Data::ToController(bytes) if !bytes.is_empty() => {
-                machine.store(self.cntlid, room.start(bytes.len()), bytes)
-            }
-            Data::FromController(length) if length != 0 && !fills(entry, qid, length) => {
-                machine.store(self.cntlid, room.start(length), &vec![0; length])
-            }
-            _ => Ok(()),
+        match stored_data(qid, entry, data, buffer) {
+            (_, stored) if stored.is_empty() => Ok(()),
+            (at, stored) => machine.store(self.cntlid, at, &stored),
         }
     }
 
-    /// Takes the completion of the i-th fetched command.
-    fn complete(
-        &mut self,
-        machine: &mut Machine<'_>,
-        i: usize,
-        executed: Executed,
-        (need, data): (Need, u64),
-    ) -> Outcome<Completed> {
+    /// The result of the i-th fetched command, which is fetched no more.
+    fn completed(&mut self, i: usize, executed: Executed, (need, data): (Need, u64)) -> Completed {
         self.commands += 1;
         let posted = match executed {
             Executed::Posted(completion) => completion,
-            Executed::NoSuch | Executed::CqFull => return Ok(Completed::without_queue()),
+            Executed::NoSuch | Executed::CqFull => return Completed::without_queue(),
         };
-        let (_, qid) = self.fetched.remove(i);
-        if let Some(pair) = &mut self.queues[usize::from(qid)] {
-            pair.head = (pair.head + 1) % pair.size;
-            machine.write32(self.cntlid, doorbell(qid) + 4, u32::from(pair.head))?;
-        }
+        self.fetched.remove(i);
         let status = Status { sct: posted.sct, sc: posted.sc };
-        Ok(Completed { status, dw0: posted.dw0, data, is_denied: posted.denied_by.is_some(), need })
+        Completed { status, dw0: posted.dw0, data, is_denied: posted.denied_by.is_some(), need }
     }
 }
 
-/// The tail doorbell of a queue; its head doorbell is 4 bytes further.
-fn doorbell(qid: u16) -> u64 {
-    DOORBELLS + 8 * u64::from(qid)
+/// The data that are stored with a command, and their address: its own, or zeros where it may store fewer than its host
+/// expects.
+fn stored_data<'d>(
+    qid: u16,
+    entry: &SubmissionEntry,
+    data: Data<'d>,
+    buffer: DataBuffer,
+) -> (u64, Cow<'d, [u8]>) {
+    match data {
+        Data::ToController(bytes) if !bytes.is_empty() => (buffer.start(bytes.len()), Cow::Borrowed(bytes)),
+        Data::FromController(length) if length != 0 && !buffers::is_filled(entry.bytes(), qid == 0, length) => {
+            (buffer.start(length), Cow::Owned(vec![0; length]))
+        }
+        _ => (0, Cow::Borrowed(&[])),
+    }
 }
 
-/// An entry as it goes to the subsystem: PRPs instead of an SGL, PSDT 0.
-fn placed(entry: &SubmissionEntry, data: Data<'_>, room: Room) -> SubmissionEntry {
-    let mut placed = *entry;
-    placed.use_prps();
+/// An entry as it goes to the subsystem: a host's has the PRP entries of its data, and one of the target's own those that
+/// it has.
+fn placed(qid: u16, entry: &SubmissionEntry, data: Data<'_>, buffer: DataBuffer) -> SubmissionEntry {
+    let mut placed = *entry.bytes();
     if !matches!(data, Data::None) {
-        let (first, second) = room.pointers(data.length());
-        placed.set_prps(first, second);
+        buffer.place(&mut placed, qid == 0, data.length());
     }
-    placed
+    placed.into()
 }
 
 /// Whether the target has to know which blocks a command in memory zeroes, to count them. An admin command, a Read and
 /// a Write zero none.
 fn is_followed(qid: u16, entry: &SubmissionEntry) -> bool {
     qid != 0 && !matches!(entry.opcode(), READ | WRITE)
-}
-
-/// Whether a successful command writes all of these bytes: a Read of exactly as many blocks. For others the buffer is
-/// cleared first, so that the host gets nothing of earlier commands.
-fn fills(entry: &SubmissionEntry, qid: u16, length: usize) -> bool {
-    qid != 0 && entry.opcode() == READ && length == BLOCK as usize * (usize::from(entry.nlb()) + 1)
 }
 
 /// An entry of the target's own.

@@ -7,15 +7,15 @@ use crate::nvme::DATASET_MANAGEMENT;
 use crate::storage::pending::{Issued, Pending};
 use crate::target::controller::Data;
 use crate::target::deallocating::only_zeroing;
-use crate::target::window::{Room, MOST_HELD, MOST_HELD_DATA};
 use crate::target::{Effect, Target};
+use nvmesim::buffers::{DataBuffer, MOST_HELD, MOST_HELD_DATA};
 
 /// A command that was fetched and waits to be executed.
 pub struct Held {
     pub(super) qid: u16,
     pending: Pending,
     /// The number of its buffer.
-    room: usize,
+    number: usize,
 }
 
 impl Target<'_> {
@@ -38,16 +38,16 @@ impl Target<'_> {
         };
         let (opcode, data) = (entry.opcode(), if zeroing.is_some() { Data::FromController(0) } else { data });
         let entry = zeroing.as_ref().unwrap_or(entry);
-        let number = match (0..MOST_HELD).find(|number| self.held[index].iter().all(|it| it.room != *number)) {
+        let number = match (0..MOST_HELD).find(|number| self.held[index].iter().all(|it| it.number != *number)) {
             Some(number) if data.length() <= MOST_HELD_DATA => number,
             _ => return Ok(false),
         };
-        let room = Room::held(number);
-        let token = self.controllers[index].submit(&mut self.machine, qid, entry, data, room)?;
+        let buffer = DataBuffer::held(number);
+        let token = self.controllers[index].submit(&mut self.machine, qid, entry, data, buffer)?;
         if let Some(token) = token {
             let issued = Issued { connection, index, qid, entry: *entry, opcode };
-            let pending = Pending::new(issued, token, data, room);
-            self.held[index].push_back(Held { qid, pending, room: number });
+            let pending = Pending::new(issued, token, data, buffer);
+            self.held[index].push_back(Held { qid, pending, number });
         }
         Ok(token.is_some())
     }
@@ -71,7 +71,7 @@ impl Target<'_> {
         let watch = self.watch(index, &entry);
         let (controller, machine) = (&mut self.controllers[index], &mut self.machine);
         let need = controller.need(machine, pending.token)?;
-        let completed = controller.execute(machine, pending.token, need, pending.room.start(data.length()))?;
+        let completed = controller.execute(machine, pending.token, need, pending.buffer.start(data.length()))?;
         let answer = self.answer_of(index, qid, &entry, data, completed, watch.as_ref())?;
         let answer = self.kept(answer)?;
         entry.set_opcode(opcode);

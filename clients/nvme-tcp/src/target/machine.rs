@@ -1,8 +1,15 @@
 //! The subsystem, event by event: each is a call of the library, and is noted if the run is kept.
 
 use crate::fault::Outcome;
+use crate::nvme::entry::SubmissionEntry;
 use crate::recording::run::Run;
-use nvmesim::{Brought, Change, Executed, Fetched, HostView, LineError, Need, Notices, Reservation, Subsystem};
+use nvmesim::{
+    Brought, Change, Completed, Executed, Fetched, HostView, LineError, Need, Notices, Refusal, Reservation, Subsystem,
+};
+
+/// Offset of the first doorbell. A submission queue's tail doorbell has 8 bytes for each queue before it, and a
+/// completion queue's head doorbell comes 4 bytes after that.
+const DOORBELLS: u64 = 0x1000;
 
 /// The subsystem of this process.
 pub struct Machine<'a> {
@@ -31,36 +38,60 @@ impl<'a> Machine<'a> {
         Ok(())
     }
 
-    pub fn fetch(&mut self, cntlid: u16, qid: u16) -> Outcome<Fetched> {
-        let fetched = self.subsystem.fetch(cntlid, qid)?;
+    /// The host of a controller places a command with these data, stored at an address; whether the controller has
+    /// fetched it. If it has not, nothing has happened.
+    pub fn place(
+        &mut self,
+        cntlid: u16,
+        qid: u16,
+        entry: &SubmissionEntry,
+        (data_at, data): (u64, &[u8]),
+    ) -> Outcome<bool> {
+        let placed = match self.subsystem.place(cntlid, qid, entry.bytes(), data_at, data) {
+            Ok(placed) => placed,
+            Err(Refusal::NotReady | Refusal::NoQueue | Refusal::Busy) => return Ok(false),
+            Err(refusal) => return Err(refusal.into()),
+        };
         if let Some(run) = &mut self.run {
-            run.fetched(cntlid, qid, fetched);
+            run.stored(cntlid, placed.entry_at, entry.bytes())?;
+            if !data.is_empty() {
+                run.stored(cntlid, data_at, data)?;
+            }
+            run.wrote32(cntlid, DOORBELLS + 8 * u64::from(qid), placed.tail);
+            run.fetched(cntlid, qid, Fetched::Took);
         }
-        Ok(fetched)
+        Ok(true)
     }
 
-    pub fn execute(&mut self, cntlid: u16, i: usize) -> Outcome<Executed> {
-        let executed = self.subsystem.execute(cntlid, i)?;
-        if let Some(run) = &mut self.run {
-            run.executed(cntlid, i, executed);
-        }
-        Ok(executed)
+    /// Executes the i-th fetched command of a controller, whose host then consumes the completion.
+    pub fn complete(&mut self, cntlid: u16, i: usize) -> Outcome<Executed> {
+        let completed = self.subsystem.complete(cntlid, i)?;
+        Ok(self.note(cntlid, i, completed))
     }
 
     /// The same over blocks of the disk that are brought in a room. It also returns how many of the room's first blocks
     /// belong on the disk.
-    pub fn execute_over(
+    pub fn complete_over(
         &mut self,
         cntlid: u16,
         i: usize,
         room: &mut [u8],
         brought: Brought,
     ) -> Outcome<(Executed, u64)> {
-        let (executed, at_hand) = self.subsystem.execute_over(cntlid, i, room, brought)?;
+        let (completed, at_hand) = self.subsystem.complete_over(cntlid, i, room, brought)?;
+        Ok((self.note(cntlid, i, completed), at_hand))
+    }
+
+    /// Notes the events of a completed command.
+    fn note(&mut self, cntlid: u16, i: usize, completed: Completed) -> Executed {
+        let Completed { executed, cqid, head, .. } = completed;
         if let Some(run) = &mut self.run {
             run.executed(cntlid, i, executed);
+            if let Executed::Posted(_) = executed {
+                run.wrote32(cntlid, DOORBELLS + 8 * u64::from(cqid) + 4, head);
+            }
         }
-        Ok((executed, at_hand))
+        executed
     }
 
     pub fn power_cycle(&mut self) {

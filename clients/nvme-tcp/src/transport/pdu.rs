@@ -2,8 +2,8 @@
 
 use crate::bytes::{first_mut, u32_at};
 use crate::digest::crc32c;
-use crate::target::window::MOST_DATA;
 use crate::transport::output::Output;
+use nvmesim::buffers::MOST_DATA;
 pub use nvmesim::pdu::{Agreed, Fatal, HostData, Kind, Layout};
 
 /// The number of CapsuleCmd.

@@ -3,7 +3,7 @@
 use crate::nvme::entry::SubmissionEntry;
 use crate::nvme::status::{Status, INVALID_FIELD, SGL_LENGTH, SGL_OFFSET, SGL_TYPE};
 use crate::nvme::FABRICS;
-use crate::target::window::MOST_DATA;
+use nvmesim::buffers::MOST_DATA;
 use std::ops::Range;
 
 /// SGL Identifiers: an offset into the capsule, and data that the transport moves.

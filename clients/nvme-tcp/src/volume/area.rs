@@ -120,6 +120,10 @@ pub fn read(area: &[u8]) -> Result<Kept, Refusal> {
         return Err(damaged(format!("segment {} is at two places", head.segment)));
     }
     let (mut bytes, pages) = (head.records.to_vec(), &area[place * SEGMENT..(place + 1) * SEGMENT]);
+    let is_over_head = |it: Batch<'_>| it.segment == head.segment && it.number != 0;
+    if (0..FIRST_PAGE).filter_map(|it| batch_of(&pages[it * PAGE..])).any(is_over_head) {
+        return Err(damaged(format!("segment {} has a batch instead of its checkpoint", head.segment)));
+    }
     let (mut page, mut number) = (FIRST_PAGE, 1);
     let next = |page: usize, number: u64| {
         let batch = batch_of(pages.get(page * PAGE..)?)?;
@@ -250,6 +254,17 @@ mod tests {
             let mut wrong = whole.clone();
             put(&mut wrong, to * PAGE, &checkpoint(8, &head()));
             put(&mut wrong, (128 + FIRST_PAGE) * PAGE, &batch(8, 1, &record(Event::Cycle)));
+            assert!(read(&wrong).is_err(), "{to}");
+        }
+    }
+
+    #[test]
+    fn a_batch_that_was_written_elsewhere_is_noticed() {
+        let (before, whole) = (area(&[1, 300]), area(&[1, 300, 2]));
+        let last = 64 + FIRST_PAGE + 1 + pages_of(300 * 21);
+        for to in (0..SEGMENTS * SEGMENT_PAGES).filter(|to| *to != last) {
+            let mut wrong = before.clone();
+            wrong[to * PAGE..(to + 1) * PAGE].copy_from_slice(&whole[last * PAGE..(last + 1) * PAGE]);
             assert!(read(&wrong).is_err(), "{to}");
         }
     }
