@@ -8,7 +8,9 @@ import re
 import struct
 import zlib
 from collections import defaultdict
+from itertools import zip_longest
 from pathlib import Path
+from typing import NamedTuple
 
 HERE = Path(__file__).resolve().parent
 SOURCES = HERE.parent / "src"
@@ -126,7 +128,9 @@ def counters(path):
         offset = (place - (delta - at * RECORD)) % (1 << 64)
         if offset + 8 * length > 8 * numbers:
             raise NotRead("coverage: a function's counters are outside the file")
-        found[name, digest] = struct.unpack_from(f"<{length}Q", data, base + offset)
+        values = struct.unpack_from(f"<{length}Q", data, base + offset)
+        # A function that is inlined has a record in each unit that the compiler has made of the sources.
+        found[name, digest] = [sum(it) for it in zip_longest(found.get((name, digest), ()), values, fillvalue=0)]
     return found
 
 
@@ -173,10 +177,42 @@ def name_at(text, line):
     return next((it[1] for it in heads if it), "")
 
 
+class Entry(NamedTuple):
+    """A line of unreached.txt. Of a file or a function, what is not reached is left out; and the lines with a text."""
+    file: str
+    function: str
+    text: str
+
+    def __str__(self):
+        return " ".join(it for it in (self.file, self.function, self.text and f"`{self.text}`") if it)
+
+    def lines(self, text):
+        """Which of the lines of its file it is about."""
+        return {line for line, it in enumerate(text, 1) if (not self.function or name_at(text, line) == self.function)
+                and (not self.text or it.strip() == self.text)}
+
+
 def excluded():
-    """What a simulation does not reach, with the reasons: whole files, and functions of files."""
-    words = [it.split(": ", 1) for it in (HERE / "unreached.txt").read_text(encoding="utf-8").splitlines()]
-    return {tuple(it[0].split(" ")): it[1] for it in words if len(it) == 2 and not it[0].startswith("#")}
+    """What a simulation does not reach: the lines of unreached.txt."""
+    form = re.compile(r"(\S+?)(?: (\w+))?(?: `(.+)`)?: \S.*")
+    found = [form.fullmatch(it) or it for it in (HERE / "unreached.txt").read_text(encoding="utf-8").splitlines()
+             if it[:1] != "#"]
+    for it in found:
+        if isinstance(it, str):
+            raise NotRead(f"unreached.txt: not understood: {it}")
+    return [Entry(it[1], it[2] or "", it[3] or "") for it in found]
+
+
+def faults(entries, path, counts):
+    """What is wrong with entries of a file, of whose lines these counts are known."""
+    text = path.read_text(encoding="utf-8").splitlines()
+    for entry in entries:
+        lines = entry.lines(text) & counts.keys()
+        reached = {line for line in lines if counts[line]}
+        if not lines:
+            yield f"unreached.txt: {entry}: there is no such line of code"
+        elif reached == lines or entry.text and reached:
+            yield f"unreached.txt: {entry}: it was reached, in lines {ranges(reached)}"
 
 
 def ranges(lines):
@@ -190,12 +226,12 @@ def ranges(lines):
     return ", ".join(str(first) if first == last else f"{first}-{last}" for first, last in found)
 
 
-def of_file(name, path, places, begun, reasons):
+def of_file(path, counts, begun, entries):
     """Lines reached, all lines that count, lines left out, and what to print of a file."""
     text = path.read_text(encoding="utf-8").splitlines()
-    counts = line_counts(places, text)
     names = {line: name_at(text, line) for line in counts}
-    left_out = {it for it in counts if (name,) in reasons or (name, names[it]) in reasons}
+    left_out = set().union(*(it.lines(text) for it in entries))
+    left_out = {it for it, count in counts.items() if it in left_out and not count}
     counted = {it: count for it, count in counts.items() if it not in left_out}
     missing = [it for it, count in counted.items() if count == 0]
     whole = {names.get(line) or name_at(text, line) for line, count in begun.items() if count == 0 and line in missing}
@@ -208,14 +244,17 @@ def of_file(name, path, places, begun, reasons):
 
 
 def report(program, profile):
-    """The text of the report."""
+    """The text of the report, and what is wrong with unreached.txt."""
     found, begun = regions(program, profile)
-    reasons, rows, sums = excluded(), [], [0, 0, 0]
+    entries, rows, sums, wrong = excluded(), [], [0, 0, 0], []
     for path in sorted(Path(it) for it in found if Path(it).is_relative_to(SOURCES)):
         name = str(path.relative_to(SOURCES))
-        reached, count, left_out, told = of_file(name, path, found[str(path)], begun[str(path)], reasons)
+        own = [it for it in entries if it.file == name]
+        counts = line_counts(found[str(path)], path.read_text(encoding="utf-8").splitlines())
+        reached, count, left_out, told = of_file(path, counts, begun[str(path)], own)
+        wrong += faults(own, path, counts)
         sums = [one + other for one, other in zip(sums, (reached, count, left_out))]
         rows += [f"{name}: {reached} of {count}" + (f", {left_out} left out" if left_out else ""), *told]
     percent = 100 * sums[0] / max(1, sums[1])
     head = f"{sums[0]} of {sums[1]} lines, {percent:.1f} percent; {sums[2]} left out by unreached.txt"
-    return "\n".join([head, *rows]) + "\n"
+    return "\n".join([head, *rows]) + "\n", wrong

@@ -14,8 +14,17 @@ sys.path.insert(0, str(HERE / "simulator"))
 
 import coverage
 
-SEEDS, MANY = (1, 2), 72
+SEEDS, MANY, COVERING = (1, 2), 72, 165
 COMMANDS = 300
+
+
+def seed_of_commit() -> "int | None":
+    """The first of the seeds that the commit chooses, so that each gate tries others; nothing without git."""
+    if not shutil.which("git"):
+        return None
+    ran = subprocess.run(["git", "-C", HERE, "rev-parse", "HEAD"], stdout=subprocess.PIPE, stderr=subprocess.DEVNULL,
+                         text=True)
+    return int(ran.stdout[:7], 16) if ran.returncode == 0 else None
 
 
 class Coverage(unittest.TestCase):
@@ -31,10 +40,21 @@ class Coverage(unittest.TestCase):
         self.assertEqual(coverage.count_of(0 << 2 | 2, [(1, 1 << 2 | 1)], [9, 4]), 5)
 
     def test_what_is_left_out_exists(self) -> None:
-        for file, *function in coverage.excluded():
-            text = (HERE / "src" / file).read_text(encoding="utf-8")
-            for name in function:
-                self.assertRegex(text, rf"\bfn {name}\b", file)
+        for entry in coverage.excluded():
+            text = (HERE / "src" / entry.file).read_text(encoding="utf-8").splitlines()
+            self.assertTrue(entry.lines(text), f"unreached.txt: {entry}: there is no such line")
+
+    def test_what_is_left_out_is_unreached(self) -> None:
+        """An entry fails if there is no such line of code, if a line that it names is reached, or all of a function."""
+        with tempfile.TemporaryDirectory() as folder:
+            path = Path(folder, "some.rs")
+            path.write_text("fn f() {\n    a();\n    b();\n}\nfn g() {\n    b();\n}\n", encoding="utf-8")
+            counts = {1: 2, 2: 1, 3: 0, 5: 1, 6: 3}
+            for function, text, wrong in (("f", "b();", False), ("g", "b();", True), ("", "b();", True), ("", "", False),
+                                          ("f", "c();", True), ("g", "", True), ("f", "", False), ("", "a();", True)):
+                entry = coverage.Entry("some.rs", function, text)
+                self.assertEqual(bool(list(coverage.faults([entry], path, counts))), wrong, entry)
+            self.assertEqual(str(coverage.Entry("some.rs", "f", "b();")), "some.rs f `b();`")
 
 
 @unittest.skipUnless(shutil.which("cargo") and platform.machine() == "x86_64", "the simulator needs cargo and x86-64")
@@ -66,11 +86,32 @@ class Simulate(unittest.TestCase):
         self.assertEqual(ran.returncode, 0, ran.stdout)
         self.assertRegex(ran.stdout, r"\b[1-9]\d* passed")
 
-    def test_many_seeds(self) -> None:
+    def run_many(self, first: int) -> None:
         """A hundred thousand commands."""
-        ran = subprocess.run([HERE / "simulate", "--seeds", str(MANY), "--shrink-for", "30s"], stdout=subprocess.PIPE,
+        given = ["--first", str(first), "--seeds", str(MANY)]
+        ran = subprocess.run([HERE / "simulate", *given, "--shrink-for", "30s"], stdout=subprocess.PIPE,
                              stderr=subprocess.STDOUT, text=True)
-        self.assertEqual(ran.returncode, 0, ran.stdout)
+        again = f"again: clients/nvme-tcp/simulate {' '.join(given)}, or one of these with --seed"
+        self.assertEqual(ran.returncode, 0, f"{ran.stdout}\n{again}")
         sent = re.search(rf"^{MANY} seeds, (\d+) commands", ran.stdout, re.M)
         self.assertIsNotNone(sent, ran.stdout)
         self.assertGreaterEqual(int(sent[1]), 100_000)
+
+    def test_lines(self) -> None:
+        """The seeds reach nearly all lines of the target that a simulation can reach, and none that is said to be out."""
+        with tempfile.TemporaryDirectory() as folder:
+            ran = subprocess.run([HERE / "simulate", "--coverage", folder, "--seeds", str(COVERING), "--no-shrink"],
+                                 stdout=subprocess.PIPE, stderr=subprocess.STDOUT, text=True)
+        self.assertEqual(ran.returncode, 0, ran.stdout)
+        reached = re.search(r"^\d+ of \d+ lines, ([\d.]+) percent", ran.stdout, re.M)
+        self.assertIsNotNone(reached, ran.stdout)
+        self.assertGreaterEqual(float(reached[1]), 99, ran.stdout)
+
+    def test_many_seeds(self) -> None:
+        self.run_many(1)
+
+    def test_seeds_of_the_commit(self) -> None:
+        first = seed_of_commit()
+        if first is None:
+            self.skipTest("the commit is not known")
+        self.run_many(first)

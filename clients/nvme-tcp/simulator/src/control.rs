@@ -58,9 +58,11 @@ impl Operator {
                 continue;
             }
             let asked = &all[below(all.len())];
-            match below(8) {
+            match below(9) {
                 0 => self.flood(asked),
                 1 => self.change_access(asked),
+                // Without --keys there is nothing to read again.
+                2 => with(|it| it.processes[asked.process].hangs_up = true),
                 _ => self.query(asked),
             }
         }

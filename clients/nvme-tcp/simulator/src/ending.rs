@@ -1,10 +1,13 @@
 //! How targets and machines are stopped at once: by a kill, by a loss of power, and in the midst of a write.
 
 use crate::hosts::checker::check;
+use crate::world::disk::SECTOR;
 use crate::world::{self, with, World, MICROSECOND, MILLISECOND, SECOND};
 
 /// The most crashes of a seed after answers.
 const MOST_CRASHES: u64 = 12;
+/// What a disk loses together.
+const PAGE: usize = 4096;
 
 /// A host has got an answer, and at once its target is killed, or the power of all machines and disks fails.
 pub fn crash(process: usize, loses_power: bool) {
@@ -38,6 +41,18 @@ pub fn stop_in_write(process: usize, time: u64) -> bool {
         world::pause(100 * MICROSECOND);
     }
     with(|it| it.processes[process].stops_in_write.take()).is_none()
+}
+
+/// Some pages of what is served can't be read from now on, until they are written.
+pub fn lose_sectors() {
+    with(|world| {
+        let World { disks, random, .. } = world;
+        let (first, count) = (disks.served.map_or(0, |(_, place)| place / PAGE), disks.blocks().len() / PAGE);
+        for _ in 0..if count == 0 { 0 } else { random.within(1, 4) } {
+            let page = first + random.index(count);
+            disks.unreadable.extend(page * PAGE / SECTOR..(page + 1) * PAGE / SECTOR);
+        }
+    });
 }
 
 /// Whether a process has ended or was killed.

@@ -4,8 +4,8 @@
 use crate::chance::Random;
 
 /// The kinds.
-pub const HABITS: [&str; 11] =
-    ["admin", "attach", "protect", "visit", "err", "type", "operator", "option", "memory", "tool", "fail"];
+pub const HABITS: [&str; 12] =
+    ["admin", "attach", "protect", "visit", "err", "type", "operator", "option", "memory", "tool", "fail", "space"];
 
 #[derive(Clone, Copy, Debug, Default)]
 pub struct Habits {
@@ -46,6 +46,10 @@ pub struct Manner {
     pub fails: bool,
     /// At the end command lines are run that serve nothing.
     pub uses_tools: bool,
+    /// The file systems can't replace bytes by a hole.
+    pub lacks_holes: bool,
+    /// The blocks of a second namespace, or 0.
+    pub second: usize,
 }
 
 /// Whether a kind is chosen, with a probability in twelfths.
@@ -79,6 +83,8 @@ impl Manner {
             fails: has("fail", 2),
             // They take as long as a few seeds.
             uses_tools: has("tool", 1) && seed % 4 == 0,
+            lacks_holes: has("option", 2),
+            second: if has("space", 4) { [8, 40, 320][seed as usize % 3] } else { 0 },
         }
     }
 }

@@ -23,6 +23,7 @@ use crate::habits::Habits;
 use crate::world::{self, with, MILLISECOND, SECOND};
 use admin::Known;
 use checker::{check, Act, Sent};
+use choice::Area;
 use pdu::Digests;
 use queue::{Breach, Command, Completion, Lost, Queue, PATIENCE};
 use std::collections::BTreeMap;
@@ -48,7 +49,9 @@ pub struct Path {
     pub host: usize,
     pub hosts: usize,
     pub cntlid: u16,
+    /// The blocks of namespace 1, and of namespace 2, after them in what is served, if its controller has that.
     pub blocks: usize,
+    pub second: usize,
     pub depth: usize,
     /// Whether it takes no answers before it has sent as many commands as it may.
     pub is_eager: bool,
@@ -155,12 +158,14 @@ impl Path {
         let detached = |check: &mut checker::Checker| check.statuses.get(&DETACHED).copied();
         let before = check(detached);
         session.restore()?;
-        for slba in (0..self.blocks).step_by(256) {
-            let count = 256.min(self.blocks - slba);
-            let words = [&(slba as u64).to_le_bytes()[..], &(count as u32 - 1).to_le_bytes()].concat();
-            let command = Command { opcode: READ, nsid: 1, words, length: count * 512, ..Command::default() };
-            session.send(&command, Act::Read { slba, count })?;
-            session.receive()?;
+        for Area { nsid, base, blocks } in self.areas() {
+            for slba in (0..blocks).step_by(256) {
+                let count = 256.min(blocks - slba);
+                let words = [&(slba as u64).to_le_bytes()[..], &(count as u32 - 1).to_le_bytes()].concat();
+                let command = Command { opcode: READ, nsid, words, length: count * 512, ..Command::default() };
+                session.send(&command, Act::Read { slba: base + slba, count })?;
+                session.receive()?;
+            }
         }
         Ok(check(detached) == before)
     }

@@ -2,8 +2,8 @@
 //! name `std`, so that its own files, unchanged, run over a simulated network, disk and clock, with fibers for threads.
 //! One seed decides everything that happens.
 //!
-//! What it does not do yet: name changes of files are durable at once; no read is misdirected; hosts use one namespace,
-//! and authentication is off.
+//! What it does not do: name changes of files are durable at once, blocks stay where they were written, and
+//! authentication is off.
 
 #![deny(unsafe_code)]
 
@@ -21,6 +21,7 @@ mod habits;
 mod heap;
 mod hosts;
 mod jobs;
+mod journals;
 mod page;
 mod replay;
 mod run;

@@ -48,7 +48,7 @@ struct Shared {
 pub fn run(scenario: &Scenario, variant: u64, act: Act, is_logged: bool) -> Report {
     world::begin(scenario.seed ^ variant << 40, scenario.chances.clone(), is_logged);
     with(|it| (it.net.slow, it.net.window) = (scenario.slow, scenario.window));
-    checker::begin(scenario.blocks, scenario.writes_through, scenario.persists);
+    checker::begin(scenario.all_blocks(), scenario.blocks, scenario.writes_through, scenario.persists);
     checker::check(|it| it.protection.is_read_only = scenario.manner.is_read_only);
     let shared = Rc::new(Shared::default());
     let (theirs, whole) = (Rc::clone(&shared), scenario.clone());

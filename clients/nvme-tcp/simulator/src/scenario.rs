@@ -208,7 +208,7 @@ impl Scenario {
     /// With these habits of hosts, and with what the manner of its targets has of it.
     fn adapted(mut self, habits: Habits) -> Scenario {
         let manner = &mut self.manner;
-        manner.is_memory &= !self.is_volume && self.blocks <= MOST_IN_MEMORY;
+        manner.is_memory &= !self.is_volume && self.blocks + manner.second <= MOST_IN_MEMORY;
         manner.binds &= self.paths.len() < MOST_CONTROLLERS;
         if manner.is_memory {
             (self.options, self.writes_through) = (Vec::new(), true);
@@ -219,6 +219,8 @@ impl Scenario {
         for path in &mut self.paths {
             (path.habits, path.advertised) = (habits, manner.advertised);
             path.name = manner.name.unwrap_or(NAME);
+            // Some controllers do not have it, and in some seeds none has.
+            path.second = if path.cntlid % 4 == 3 || manner.is_read_only { 0 } else { manner.second };
         }
         self
     }
@@ -252,6 +254,7 @@ impl Scenario {
             hosts,
             cntlid: 0,
             blocks,
+            second: 0,
             depth: [1, 4, 16, 31][random.index(4)],
             is_eager: false,
             longest: [8, 32, 256, 256][random.index(4)].min(blocks),
@@ -295,9 +298,20 @@ impl Scenario {
             text += &format!("controller {} host {HOST_OF_ELSEWHERE:#x}\n", self.paths.len() + 1);
         }
         text += &format!("namespace 1 blocks {} shared\n", self.blocks);
+        if self.manner.second != 0 {
+            text += &format!("namespace 2 blocks {} shared\n", self.manner.second);
+        }
         for it in &self.paths {
             text += &format!("attached {} 1\n", it.cntlid);
+            if it.second != 0 {
+                text += &format!("attached {} 2\n", it.cntlid);
+            }
         }
         text
+    }
+
+    /// The blocks of all namespaces.
+    pub fn all_blocks(&self) -> usize {
+        self.blocks + self.manner.second
     }
 }

@@ -5,6 +5,7 @@ pub mod collections;
 pub mod fs;
 pub mod io;
 pub mod memory;
+mod metadata;
 pub mod net;
 pub mod os;
 pub mod proc;

@@ -3,7 +3,7 @@
 
 use crate::ending::has_ended;
 use crate::hosts::checker::check;
-use crate::hosts::pdu::digest;
+use crate::journals::record;
 use crate::supervisor::{words, Act, CONFIG};
 use crate::tools::{complain, content, expect, patch, put, run, FAILED, REFUSED};
 use crate::world::disk::Kind;
@@ -113,6 +113,8 @@ pub fn use_all(act: Act, blocks: usize) {
 fn use_places(act: Act, _: usize) {
     serve(act, &["--control", "/made/control", CONFIG]);
     serve(act, &["--control", "here", CONFIG]);
+    // A device that keeps nothing, and can't be synced.
+    serve(act, &["--record", "/dev/urandom", CONFIG]);
     serve(act, &["--record", "/run/there", "--force", CONFIG]);
     serve(act, &["--script", "/run/there", "--force", CONFIG]);
     with(|it| {
@@ -137,19 +139,17 @@ fn use_images(act: Act, size: usize) {
     if !serve(act, &["--image", "/fixed", CONFIG]).contains("read-only") {
         complain("an image that can't be written is not reported as read-only".to_owned());
     }
+    put("/dev/plain", Kind::BlockDevice, &vec![0; size]);
+    serve(act, &["--image", "/dev/plain", CONFIG]);
     put("/dev/mounted", Kind::BlockDevice, &vec![0; size]);
     with(|it| {
         let inode = it.disks.find(Path::new("/dev/mounted")).unwrap_or(0);
         it.disks.inodes[inode].is_mounted = true;
     });
     expect(act, &["--listen", ADDRESS, "--image", "/dev/mounted", CONFIG], FAILED);
+    hide("/dev/plain", true);
+    expect(act, &["--listen", ADDRESS, "/dev/plain"], FAILED);
     run(act, 0, &["format", "/dev/mounted", "--config", CONFIG]);
-}
-
-/// A record of the journal with a content.
-fn record(content: &[u8]) -> Vec<u8> {
-    let length = (content.len() as u32).to_le_bytes();
-    [&length[..], &digest(&length).to_le_bytes(), &digest(content).to_le_bytes(), content].concat()
 }
 
 /// State folders whose journal is damaged, torn, of another configuration, or gone.
@@ -167,6 +167,7 @@ fn damage_state(act: Act, _: usize) {
     let middle = journal.len() - 2 * start + HEAD;
     let damaged = [&journal[..middle], &[0x77], &journal[middle + 1..]].concat();
     let other = [&journal[..20], &[0x77], &journal[21..]].concat();
+    let newer = [b"nvmetcp journal 9\n", &journal[18..]].concat();
     let of_epoch = |kind: u8, epoch: u64| record(&[&[kind][..], &epoch.to_le_bytes()].concat());
     let unknown = [&journal[..], &of_epoch(0x77, 2)].concat();
     let early = [&journal[..], &of_epoch(4, 999)].concat();
@@ -175,7 +176,7 @@ fn damage_state(act: Act, _: usize) {
     let failing =
         [&journal[..], &record(&[&[3u8][..], &2u64.to_le_bytes(), &[77, 0, 1, 0], &[0; 64]].concat())].concat();
     let unfinished = [&journal[..], &record(&[3, 2, 0, 0, 0, 0, 0, 0, 0, 1])].concat();
-    for bytes in [&damaged, &other, &journal[..3].to_vec(), &unknown, &early, &short, &unfinished, &failing] {
+    for bytes in [&damaged, &other, &newer, &journal[..3].to_vec(), &unknown, &early, &short, &unfinished, &failing] {
         begin(bytes);
         expect(act, &["--listen", ADDRESS, "--state", "/second", CONFIG], FAILED);
     }
@@ -213,7 +214,8 @@ fn change_files(act: Act, size: usize) {
         });
     }
     it.notices("its image was cut");
-    let changes: [(&str, fn()); 5] = [
+    let changes: [(&str, fn()); 6] = [
+        ("its folder was closed", || hide("/third", true)),
         ("its journal was removed", || {
             with(|it| it.disks.remove(Path::new("/third/journal")));
         }),
@@ -239,7 +241,16 @@ fn change_files(act: Act, size: usize) {
             change();
         }
         it.notices(what);
+        hide("/third", false);
     }
+}
+
+/// Nobody can enter a folder, or everybody again.
+fn hide(folder: &str, is_hidden: bool) {
+    with(|it| {
+        let inode = it.disks.find(Path::new(folder)).unwrap_or(0);
+        it.disks.inodes[inode].is_hidden = is_hidden;
+    });
 }
 
 /// A volume is formatted anew from another machine while a target serves it.

@@ -1,16 +1,16 @@
 //! Starts targets, troubles them, and judges how they end.
 
-use crate::ending::{fail_power, has_ended, stop_in_write};
+mod troubles;
+
+use crate::ending::{fail_power, has_ended};
 use crate::hosts::checker::{check, BLOCK};
 use crate::replay::{commands_of, replay, values_of};
 use crate::scenario::Scenario;
-use crate::shadow::os::unix::net::UnixStream;
 use crate::superblock;
-use crate::tools;
+use crate::tools::{self, REFUSED};
 use crate::world::disk::Kind;
 use crate::world::{self, with, Outcome, World, MILLISECOND, SECOND};
 use std::ffi::OsString;
-use std::io::{Read, Write};
 use std::net::SocketAddr;
 use std::path::Path;
 
@@ -24,8 +24,6 @@ const BLOCKS_AT: usize = 2 << 20;
 /// How long a target may take to start, with a lease to wait out, and to end in order.
 const LONGEST: u64 = 60 * SECOND;
 
-/// The ends after which targets are left alone: what was killed keeps its memory, and a seed should be short.
-const MOST_ENDS: usize = 30;
 /// The most answers that are awaited before the next trouble.
 const MOST_ANSWERS: u64 = 100;
 
@@ -64,7 +62,8 @@ fn recording_of(script: &str) -> String {
 
 /// The injected faults that may end a target.
 fn faults(world: &World) -> u64 {
-    ["failed read", "failed write", "failed sync", "failed output"].iter().filter_map(|it| world.injected.get(it)).sum()
+    let kinds = ["failed read", "unreadable", "failed write", "failed sync", "failed output"];
+    kinds.iter().filter_map(|it| world.injected.get(it)).sum()
 }
 
 impl Supervisor {
@@ -76,8 +75,10 @@ impl Supervisor {
     pub fn prepare(&mut self) {
         let (config, is_volume) = (self.scenario.config(), self.scenario.is_volume);
         let is_memory = self.scenario.manner.is_memory;
-        let size = self.scenario.blocks * BLOCK;
+        let size = self.scenario.all_blocks() * BLOCK;
+        let lacks_holes = self.scenario.manner.lacks_holes;
         with(|world| {
+            world.disks.lacks_holes = lacks_holes;
             let inode = world.disks.create(Path::new(CONFIG), Kind::File);
             world.disks.inodes[inode].write(0, config.as_bytes());
             let (path, kind) = if is_volume { (DEVICE, Kind::BlockDevice) } else { (IMAGE, Kind::File) };
@@ -172,6 +173,7 @@ impl Supervisor {
         let serves = with(|it| it.processes[process].served.is_some());
         check(|it| it.has_lost_reservations(loss, serves));
         if serves && self.scenario.is_volume {
+            with(|it| it.disks.misdirected = None);
             self.judge_epoch();
         }
         if self.running.len() == 1 {
@@ -234,6 +236,8 @@ impl Supervisor {
                 }
             }
         }
+        // A power loss ends command lines, too, which nobody waits for.
+        check(|check| check.crashes.retain(|process, _| self.running.iter().any(|it| it.process == *process)));
     }
 
     fn judge(&mut self, it: &Running, outcome: &Outcome) {
@@ -243,6 +247,9 @@ impl Supervisor {
             Ok(()) => {
                 check(|check| check.sync());
                 self.replay(it, true)
+            }
+            Err((REFUSED, text)) if text.contains("its journal") && with(|it| it.disks.put_back()) => {
+                with(|it| *it.injected.entry("misdirection noticed").or_default() += 1);
             }
             Err((status, text)) => {
                 let last: Vec<&str> = said.lines().rev().take(3).collect();
@@ -301,7 +308,7 @@ impl Supervisor {
         }
         let mut blocks = match served {
             Some(_) if it.may_lose_lease => return,
-            Some(_) if self.scenario.manner.is_memory => vec![0; self.scenario.blocks * BLOCK],
+            Some(_) if self.scenario.manner.is_memory => vec![0; self.scenario.all_blocks() * BLOCK],
             Some(served) => served,
             _ => return,
         };
@@ -340,12 +347,10 @@ impl Supervisor {
     /// Waits for a time, in which hosts may end targets.
     pub fn rest(&self, time: u64) {
         let end = with(|it| it.now) + time;
-        loop {
-            let now = with(|it| it.now);
-            if now >= end || check(|it| !it.crashes.is_empty() || !it.violations.is_empty()) {
-                return;
-            }
-            world::pause((end - now).min(10 * MILLISECOND));
+        // Some time passes in any case, so that a run without progress ends.
+        world::pause(time.min(10 * MILLISECOND));
+        while with(|it| it.now) < end && check(|it| it.crashes.is_empty() && it.violations.is_empty()) {
+            world::pause((end - with(|it| it.now)).min(10 * MILLISECOND));
         }
     }
 
@@ -376,108 +381,5 @@ impl Supervisor {
         if self.running.is_empty() && self.has("power") && with(|it| it.random.once_in(3)) {
             fail_power();
         }
-    }
-
-    /// Power is lost in the subsystem of a target, and comes back.
-    fn cycle(&self, at: usize) {
-        let loss = check(|it| {
-            it.cycled = with(|it| it.now);
-            it.lose_reservations()
-        });
-        let is_done = self.ask(at, "powercycle");
-        check(|it| {
-            it.cycled = with(|it| it.now);
-            it.has_lost_reservations(loss, is_done);
-        });
-    }
-
-    /// Asks a target a control line; whether it has an answer.
-    fn ask(&self, at: usize, line: &str) -> bool {
-        with(|it| it.note(&format!("control line {line}")));
-        if let Ok(mut stream) = UnixStream::connect(&self.running[at].control) {
-            let sent = stream.write_all(format!("{line}\n").as_bytes());
-            let mut room = [0; 256];
-            if sent.is_ok() && with(|it| it.processes[self.running[at].process].stopped_until <= it.now) {
-                return stream.read(&mut room).map_or(false, |count| room[..count].starts_with(line.as_bytes()));
-            }
-        }
-        false
-    }
-
-    /// One trouble, chosen at random among those of the scenario.
-    pub fn trouble(&mut self) {
-        self.collect();
-        let kinds = self.scenario.kinds.clone();
-        if kinds.is_empty() || self.running.is_empty() || self.ends > MOST_ENDS {
-            return;
-        }
-        let (kind, at) = with(|it| (kinds[it.random.index(kinds.len())], it.random.index(self.running.len())));
-        if ["kill", "power", "stop", "takeover", "cut", "end", "cycle", "hold"].contains(&kind) {
-            with(|it| *it.injected.entry(kind).or_default() += 1);
-        }
-        match kind {
-            "kill" => self.kill(at),
-            "power" => self.cut_power(),
-            "end" => self.end(at),
-            "stop" => self.stop(at),
-            "takeover" if self.scenario.is_volume && self.running.len() == 1 => {
-                self.start(1 - self.running[at].machine.min(1))
-            }
-            "cut" => (0..3).for_each(|_| self.cut()),
-            "cycle" => self.cycle(at),
-            "hold" => self.hold(at),
-            _ => (),
-        }
-    }
-
-    /// Stops a process for a time, in which another may take its volume over.
-    fn stop(&mut self, at: usize) {
-        let process = self.running[at].process;
-        let takes = with(|it| it.random.once_in(2))
-            && self.scenario.is_volume
-            && self.running.len() == 1
-            && self.has("takeover");
-        // The other serves once a lease has ended: before this one continues, or not.
-        let (least, most) = match (takes, with(|it| it.random.once_in(2))) {
-            (true, true) => (2 * SECOND, 4 * SECOND),
-            (true, false) => (5 * SECOND, 9 * SECOND),
-            (false, _) => (MILLISECOND, 9 * SECOND),
-        };
-        let (time, in_write) = with(|it| (it.random.within(least, most), it.random.once_in(2)));
-        self.running[at].may_lose_lease |= self.scenario.is_volume;
-        if !in_write || !stop_in_write(process, time) {
-            with(|it| {
-                it.note(&format!("target is stopped for {} ms", time / MILLISECOND));
-                it.processes[process].stopped_until = it.now + time;
-            });
-        }
-        if takes {
-            self.start(1 - self.running[at].machine.min(1));
-        }
-    }
-
-    /// Cuts a connection of a host.
-    fn cut(&self) {
-        with(|world| {
-            let World { net, random, now, .. } = world;
-            let names: Vec<i32> =
-                net.sides.iter().filter(|(_, it)| it.process == world::HOSTS).map(|(name, _)| *name).collect();
-            if !names.is_empty() {
-                let name = names[random.index(names.len())];
-                net.cut(name, *now, random);
-                check(|it| it.cuts.insert(name));
-            }
-        });
-    }
-
-    /// Holds the commands of a controller for a time. A target that is stopped would take the lines in any order.
-    fn hold(&self, at: usize) {
-        if with(|it| it.processes[self.running[at].process].stopped_until > it.now) {
-            return;
-        }
-        let (cntlid, time) = with(|it| (1 + it.random.index(self.scenario.paths.len()), it.random.below(SECOND)));
-        self.ask(at, &format!("hold {cntlid}"));
-        world::pause(time);
-        self.ask(at, &format!("go {cntlid}"));
     }
 }

@@ -4,10 +4,14 @@ use crate::crafted;
 use crate::ending::has_ended;
 use crate::hosts::checker::check;
 use crate::hosts::pdu::digest;
+use crate::journals;
 use crate::starts::{self, Started};
 use crate::supervisor::{words, Act, Supervisor, CONFIG, DEVICE, IMAGE};
 use crate::world::disk::Kind;
 use crate::world::{self, with, Chances, Outcome, World, MILLISECOND, SECOND};
+use std::collections::BTreeSet;
+use std::ffi::OsString;
+use std::os::unix::ffi::OsStringExt;
 use std::path::Path;
 
 /// How long a command line may take.
@@ -30,7 +34,11 @@ pub fn complain(text: String) {
 
 /// Runs a command line to its end, on a machine whose disks do not fail meanwhile: how it ended, and what it said.
 pub fn run(act: Act, machine: usize, list: &[&str]) -> Option<(Outcome, String)> {
-    let (given, chances) = (words(list), with(|it| std::mem::take(&mut it.chances)));
+    run_words(act, machine, words(list))
+}
+
+fn run_words(act: Act, machine: usize, given: Vec<OsString>) -> Option<(Outcome, String)> {
+    let (list, chances) = (given.clone(), with(|it| std::mem::take(&mut it.chances)));
     let process = world::start_process(machine, "tool", move || act(given));
     let end = with(|it| it.now) + LONGEST;
     while !has_ended(process) && with(|it| it.now) < end {
@@ -113,6 +121,16 @@ pub fn use_all(supervisor: &mut Supervisor) {
     put("/etc/uuid", Kind::File, b"controller 1 host a1000000-0000-0000-0000-000000000000\n");
     put("/etc/strange", Kind::File, b"controller 1 host 0xa1\nbogus 1\n");
     put("/etc/large", Kind::File, b"controller 1 host 0xa1\nnamespace 1 blocks 1000000 shared\nattached 1 1\n");
+    let one = "controller 1 host 0xa1\nattached 1 1\n";
+    put("/etc/vast", Kind::File, format!("{one}namespace 1 blocks {} shared\n", 1u64 << 34).as_bytes());
+    put("/etc/endless", Kind::File, format!("{one}namespace 1 blocks {} shared\n", 1u64 << 55).as_bytes());
+    with(|it| {
+        for (name, kind) in [("/hidden", Kind::File), ("/closed", Kind::Folder), ("/buffered", Kind::File)] {
+            let inode = it.disks.create(Path::new(name), kind);
+            it.disks.inodes[inode].is_hidden = name != "/buffered";
+            it.disks.inodes[inode].is_buffered = name == "/buffered";
+        }
+    });
     put("/some", Kind::File, &[7; PAGE]);
     use_options(act);
     use_outputs(act);
@@ -120,15 +138,16 @@ pub fn use_all(supervisor: &mut Supervisor) {
     damage_volumes(act);
     expand_wrong(act);
     crafted::expand_events(act);
+    journals::check_contents(act);
     crafted::misplace(act);
-    starts::use_all(act, supervisor.scenario.blocks);
+    starts::use_all(act, supervisor.scenario.all_blocks());
     if check(|it| it.violations.is_empty()) {
         rivals(supervisor);
     }
 }
 
 /// Command lines with their exit statuses: those that are wrong, or print something and end.
-const PRINTED: [(&[&str], u8); 35] = [
+const PRINTED: [(&[&str], u8); 43] = [
     (&["--help"], 0),
     (&["--version"], 0),
     (&["--where"], 0),
@@ -162,6 +181,14 @@ const PRINTED: [(&[&str], u8); 35] = [
     (&["--listen", "0.0.0.0:1", CONFIG], BAD),
     (&["--image", "/none", CONFIG], FAILED),
     (&["--image", "/etc", CONFIG], FAILED),
+    (&["--check", "--image", "/some", CONFIG], REFUSED),
+    (&["--check", "--image", "/none", CONFIG], FAILED),
+    (&["--cache", "K", "--image", "/i", CONFIG], BAD),
+    (&["--listen", "127.0.0.1:7777", "/etc/endless"], FAILED),
+    (&["--listen", "127.0.0.1:7777", "--image", "/vast", "--size", "8T", "/etc/vast"], FAILED),
+    (&["--listen", "127.0.0.1:7777", "--image", "/hidden", CONFIG], FAILED),
+    (&["--script", "/closed/script", CONFIG], FAILED),
+    (&["check", "/buffered"], FAILED),
     (&["--image", "/some", "/etc/large"], REFUSED),
     (&["--image", "/new", "--size", "4K", "/etc/large"], REFUSED),
 ];
@@ -170,6 +197,11 @@ const PRINTED: [(&[&str], u8); 35] = [
 fn use_options(act: Act) {
     for (list, status) in PRINTED {
         expect(act, list, status);
+    }
+    let no_text = [OsString::from("--name"), OsString::from_vec(vec![0xff]), OsString::from(CONFIG)];
+    let ended = run_words(act, 0, no_text.to_vec()).and_then(|it| it.0.err()).map_or(0, |it| it.0);
+    if ended != BAD {
+        complain(format!("a name that is no text ends with status {ended}"));
     }
 }
 
@@ -192,7 +224,7 @@ fn use_outputs(act: Act) {
 }
 
 /// Those that make, look at and copy volumes.
-const OF_VOLUMES: [(&[&str], u8); 24] = [
+const OF_VOLUMES: [(&[&str], u8); 25] = [
     (&["format"], BAD),
     (&["format", "/volume"], BAD),
     (&["format", "/volume", "--config", "/etc/none"], FAILED),
@@ -207,6 +239,7 @@ const OF_VOLUMES: [(&[&str], u8); 24] = [
     (&["format", "/some", "--config", CONFIG], REFUSED),
     (&["format", "/some", "--config", CONFIG, "--force"], REFUSED),
     (&["format", "/etc", "--config", CONFIG], FAILED),
+    (&["format", "/empty", "--config", CONFIG], 0),
     (&["check", "/volume"], 0),
     (&["check", "/none"], FAILED),
     (&["check", "/some"], REFUSED),
@@ -221,6 +254,8 @@ const OF_VOLUMES: [(&[&str], u8); 24] = [
 
 /// Volumes are made, looked at and copied.
 fn use_volumes(act: Act) {
+    let empty = with(|it| it.disks.create(Path::new("/empty"), Kind::File));
+    with(|it| it.disks.inodes[empty].set_length(32 << 20));
     for (list, status) in OF_VOLUMES {
         expect(act, list, status);
     }
@@ -229,6 +264,14 @@ fn use_volumes(act: Act) {
     put("/dev/dirty", Kind::BlockDevice, &vec![0; size]);
     patch("/dev/dirty", size / 2, &[7]);
     expect(act, &["format", "/dev/dirty", "--config", CONFIG], REFUSED);
+    // A sector of it can't be read.
+    let served = with(|it| {
+        let inode = it.disks.find(Path::new("/dev/dirty")).unwrap_or(0);
+        it.disks.unreadable = BTreeSet::from([100]);
+        it.disks.served.replace((inode, 0))
+    });
+    expect(act, &["format", "/dev/dirty", "--config", CONFIG], FAILED);
+    with(|it| (it.disks.served, it.disks.unreadable) = (served, BTreeSet::new()));
     expect(act, &["copy", "/volume", "/dev/dirty", "--force"], 0);
     expect(act, &["check", "/dev/dirty"], 0);
     let dumped = expect(act, &["dump", "/copy"], 0);
@@ -358,8 +401,18 @@ fn inherit(supervisor: &mut Supervisor, address: &str) {
         with(|it| it.disks.remove(Path::new(&script)));
         expect(act, &["--listen", "127.0.0.1:7777", "--script", &script, "--force", CONFIG], FAILED);
     }
-    with(|it| it.disks.hides_locks = true);
-    expect(act, &[&["--listen", "127.0.0.1:7777"], &list[..]].concat(), FAILED);
+    let listens = ["--listen", "127.0.0.1:7777"];
+    with(|it| it.disks.hides_names = true);
+    expect(act, &[&listens, &list[..]].concat(), FAILED);
+    with(|it| (it.disks.hides_names, it.disks.hides_locks) = (false, true));
+    expect(act, &[&listens, &list[..]].concat(), FAILED);
+    if !scenario.is_volume {
+        with(|it| {
+            let inode = it.disks.find(Path::new("/state/in-use")).unwrap_or(0);
+            it.disks.inodes[inode].set_length(0);
+        });
+        expect(act, &[&listens, &list[..]].concat(), FAILED);
+    }
     with(|it| it.disks.hides_locks = false);
     let heirs = [Started::begin(act, 0, &[&["--wait"], &list[..]].concat()), Started::begin_at(act, address)];
     world::pause(SECOND);

@@ -72,6 +72,8 @@ pub struct Process {
     /// It will be stopped in its next write to a medium, for this time.
     pub stops_in_write: Option<u64>,
     pub is_asked_to_end: bool,
+    /// It was sent SIGHUP.
+    pub hangs_up: bool,
     pub outcome: Option<Outcome>,
     /// What it wrote to standard error.
     pub said: String,
@@ -132,6 +134,8 @@ pub struct Log {
     pub digest: u64,
     pub count: u64,
     pub lines: Option<Vec<String>>,
+    /// The line that each process has begun to say.
+    begun: BTreeMap<usize, String>,
 }
 
 impl Log {
@@ -142,6 +146,20 @@ impl Log {
         }
         if let Some(lines) = &mut self.lines {
             lines.push(format!("{:>14.6} {text}", now as f64 / SECOND as f64));
+        }
+    }
+
+    /// Takes what a process says, which is no event: each whole line is one of the log.
+    pub fn tell(&mut self, now: u64, process: usize, text: &str) {
+        let lines = match &mut self.lines {
+            Some(lines) => lines,
+            None => return,
+        };
+        let begun = self.begun.entry(process).or_default();
+        begun.push_str(text);
+        while let Some(end) = begun.find('\n') {
+            let line: String = begun.drain(..=end).collect();
+            lines.push(format!("{:>14.6} process {process}: {}", now as f64 / SECOND as f64, line.trim_end()));
         }
     }
 }
@@ -200,6 +218,7 @@ impl Process {
             stopped_until: 0,
             stops_in_write: None,
             is_asked_to_end: false,
+            hangs_up: false,
             outcome: None,
             said: String::new(),
             served: None,

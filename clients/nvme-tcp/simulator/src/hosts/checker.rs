@@ -4,7 +4,7 @@ use super::history::{Block, State};
 use super::protection::Protection;
 use super::queue::Completion;
 use super::reservations::{entries_of, Registrations};
-use crate::world::with;
+use crate::world::{with, SECOND};
 use std::cell::RefCell;
 use std::collections::{BTreeMap, BTreeSet};
 
@@ -32,7 +32,11 @@ pub enum Act {
         slba: usize,
         values: Vec<u64>,
     },
-    Flush,
+    /// All blocks of a namespace.
+    Flush {
+        slba: usize,
+        count: usize,
+    },
     /// A command that may change the reservation; `takes` if its success leaves the host as the one that may write, and
     /// `from` if its success takes the registration of another host away.
     Reserve {
@@ -47,6 +51,18 @@ pub enum Act {
     Wrong {
         wanted: Vec<u16>,
     },
+}
+
+impl Act {
+    /// Its first block, if it is about blocks.
+    fn place(&self) -> Option<usize> {
+        match self {
+            Act::Write { slba, .. } | Act::Read { slba, .. } | Act::Compare { slba, .. } | Act::Flush { slba, .. } => {
+                Some(*slba)
+            }
+            _ => None,
+        }
+    }
 }
 
 /// A command that was sent.
@@ -79,7 +95,9 @@ struct Fence {
 }
 
 pub struct Checker {
+    /// The blocks of all namespaces, and how many of them are of namespace 1, which alone is reserved and protected.
     pub blocks: Vec<Block>,
+    first: usize,
     pub violations: Vec<String>,
     pub writes_through: bool,
     pub sent: u64,
@@ -110,6 +128,9 @@ pub struct Checker {
     /// What may end a connection: cuts of them, and when a power cycle was asked for last.
     pub cuts: BTreeSet<i32>,
     pub cycled: u64,
+    /// How many hosts crowd a target with connections that are no queues, and when one has last stopped that.
+    pub crowds: u64,
+    pub crowded: u64,
     pub protection: Protection,
     /// The target in whose memory the blocks are, if they are in memory.
     pub memory: Option<usize>,
@@ -125,9 +146,10 @@ pub fn check<R>(act: impl FnOnce(&mut Checker) -> R) -> R {
     CHECKER.with(|it| act(it.borrow_mut().as_mut().expect("there is a checker")))
 }
 
-pub fn begin(blocks: usize, writes_through: bool, persists: bool) {
+pub fn begin(blocks: usize, first: usize, writes_through: bool, persists: bool) {
     let checker = Checker {
         blocks: (0..blocks).map(|_| Block::new()).collect(),
+        first,
         violations: Vec::new(),
         writes_through,
         sent: 0,
@@ -149,6 +171,8 @@ pub fn begin(blocks: usize, writes_through: bool, persists: bool) {
         crashes: BTreeMap::new(),
         cuts: BTreeSet::new(),
         cycled: 0,
+        crowds: 0,
+        crowded: 0,
         protection: Protection::default(),
         memory: None,
         same: BTreeMap::new(),
@@ -260,7 +284,7 @@ impl Checker {
             }
         };
         let is_reserve = matches!(sent.act, Act::Register | Act::Unregister | Act::Reserve { .. });
-        let lasts = is_reserve || matches!(sent.act, Act::Flush) || sent.is_forced;
+        let lasts = is_reserve || matches!(sent.act, Act::Flush { .. }) || sent.is_forced;
         self.judge(&sent, number, completion);
         lasts && completion.status == 0
     }
@@ -269,12 +293,16 @@ impl Checker {
         self.answered += 1;
         *self.statuses.entry(completion.status).or_default() += 1;
         let is_done = completion.status == 0;
-        if matches!(sent.act, Act::Read { .. } | Act::Compare { .. } | Act::Flush | Act::Report) && is_done {
+        self.judge_failure(sent, completion.status);
+        if completion.status == CONFLICT && sent.act.place().map_or(false, |it| it >= self.first) {
+            self.violate(format!("a namespace that nobody has reserved has a conflict: {sent:?}"));
+        }
+        if matches!(sent.act, Act::Read { .. } | Act::Compare { .. } | Act::Flush { .. } | Act::Report) && is_done {
             let commands = self.commands.entry(sent.process).or_default();
             *commands.entry((sent.cntlid, completion.cid)).or_default() += 1;
         }
         match &sent.act {
-            Act::Write { .. } | Act::Read { .. } | Act::Compare { .. } | Act::Flush if self.is_void(sent) => (),
+            Act::Write { .. } | Act::Read { .. } | Act::Compare { .. } | Act::Flush { .. } if self.is_void(sent) => (),
             Act::Write { .. } if sent.is_spoiled && is_done => {
                 self.violate(format!("a write succeeds whose digest is wrong: {sent:?}"))
             }
@@ -282,7 +310,9 @@ impl Checker {
             Act::Read { slba, count } if is_done => self.has_read(sent, *slba, *count, &completion.data),
             Act::Compare { slba, values } if is_done => self.saw(sent, *slba, values),
             Act::Compare { .. } if completion.status == COMPARE_FAILURE => (),
-            Act::Flush if is_done => self.blocks.iter_mut().for_each(|it| it.flush(sent.begun)),
+            Act::Flush { slba, count } if is_done => {
+                self.blocks[*slba..slba + count].iter_mut().for_each(|it| it.flush(sent.begun));
+            }
             Act::Reserve { takes, from } => self.reserved(sent, number, (*takes, *from), completion.status),
             Act::Register => self.registered(number, completion.status, true),
             Act::Unregister => {
@@ -353,8 +383,8 @@ impl Checker {
     }
 
     fn wrote(&mut self, sent: &Sent, number: u64, (slba, values): (usize, &[u64]), status: u16) {
-        let mut end = now();
-        if let Some(fence) = self.fence.filter(|it| it.host != sent.host) {
+        let (mut end, is_first) = (now(), slba < self.first);
+        if let Some(fence) = self.fence.filter(|it| is_first && it.host != sent.host) {
             if status == 0 && sent.begun > fence.since {
                 let text = format!("a write of host {} succeeds after its fence was answered: {sent:?}", sent.host);
                 self.violate(text);
@@ -362,7 +392,7 @@ impl Checker {
             self.fenced += u64::from(status == CONFLICT);
             end = end.min(fence.since);
         }
-        if status == 0 && self.protection.covers(sent.begun) {
+        if status == 0 && (self.protection.is_read_only || is_first && self.protection.covers(sent.begun)) {
             self.violate(format!("a write succeeds after the write protection was answered: {sent:?}"));
         }
         let state = match status {
@@ -434,6 +464,11 @@ impl Checker {
             }
             self.registrations.bound(number, end, false);
         }
+    }
+
+    /// Whether a target may have closed a connection since a time to make room, before its Connect.
+    pub fn was_crowded(&self, since: u64) -> bool {
+        self.crowds != 0 || self.crowded + SECOND > since
     }
 
     /// All that was answered is on the disk.

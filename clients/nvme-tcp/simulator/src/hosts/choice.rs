@@ -40,34 +40,61 @@ fn report() -> (Command, Act) {
     (Command { opcode: REPORT, nsid: 1, words, length: 4096, ..Command::default() }, Act::Report)
 }
 
-impl Path {
-    /// Blocks of a command: few regions are used more than others.
-    pub fn extent(&self) -> (usize, usize) {
-        let count = if below(4) < self.long { 1 + below(self.longest) } else { 1 + below(self.longest.min(8)) };
-        self.extent_of(count.min(self.blocks))
-    }
+/// Zeroes that are long enough to wait for their turn.
+fn zero_many(area: Area) -> (Command, Act) {
+    let (place, count) = area.extent_of(LONG_ZEROES.0 + below(LONG_ZEROES.1 - LONG_ZEROES.0));
+    let words = [&(place as u64).to_le_bytes()[..], &(count as u32 - 1).to_le_bytes()].concat();
+    let command = Command { opcode: WRITE_ZEROES, nsid: area.nsid, words, ..Command::default() };
+    (command, Act::Write { slba: area.base + place, values: vec![0; count] })
+}
 
+/// A namespace, and its blocks among those that are served.
+#[derive(Clone, Copy, Debug)]
+pub struct Area {
+    pub nsid: u32,
+    pub base: usize,
+    pub blocks: usize,
+}
+
+impl Area {
     fn extent_of(&self, count: usize) -> (usize, usize) {
         let slba = below(self.blocks - count + 1);
         (if below(2) == 0 { slba % 32.min(self.blocks - count + 1) } else { slba }, count)
+    }
+}
+
+impl Path {
+    /// The namespaces that are attached to its controller.
+    pub fn areas(&self) -> impl Iterator<Item = Area> {
+        let first = Area { nsid: 1, base: 0, blocks: self.blocks };
+        let second = Area { nsid: 2, base: self.blocks, blocks: self.second };
+        [first, second].into_iter().filter(|it| it.blocks != 0)
+    }
+
+    fn area(&self) -> Area {
+        let count = self.areas().count();
+        let wanted = if count > 1 && below(3) == 0 { 1 } else { 0 };
+        self.areas().nth(wanted).unwrap_or(Area { nsid: 1, base: 0, blocks: self.blocks })
+    }
+
+    /// Blocks of a command: few regions are used more than others.
+    pub fn extent(&self, area: Area) -> (usize, usize) {
+        let count = if below(4) < self.long { 1 + below(self.longest) } else { 1 + below(self.longest.min(8)) };
+        area.extent_of(count.min(area.blocks))
     }
 
     pub fn choose(&self) -> (Command, Act) {
         if (below(1000) as u64) < self.reserves {
             return self.choose_reserve();
         }
-        let (slba, count) = self.extent();
+        let area = self.area();
+        let (place, count) = self.extent(area);
+        let slba = area.base + place;
         let forced = if once_in(self.forces) { FORCED } else { 0 };
-        let place = [&(slba as u64).to_le_bytes()[..], &(count as u32 - 1 | forced).to_le_bytes()].concat();
-        let command = |opcode| Command { opcode, nsid: 1, words: place.clone(), ..Command::default() };
+        let words = [&(place as u64).to_le_bytes()[..], &(count as u32 - 1 | forced).to_le_bytes()].concat();
+        let command = |opcode| Command { opcode, nsid: area.nsid, words: words.clone(), ..Command::default() };
         let bytes = |values: &[u64]| values.iter().flat_map(|it| bytes_of(*it)).collect::<Vec<u8>>();
-        let mut rest = below(100);
-        let kind = self.mix.iter().position(|share| {
-            let is_it = rest < *share;
-            rest = rest.saturating_sub(*share);
-            is_it
-        });
-        match kind {
+        match self.kind() {
             Some(0) => {
                 let values = check(|it| it.values(count));
                 let is_spoiled = self.lies && self.digests.data && once_in(SPOILED);
@@ -78,24 +105,28 @@ impl Path {
                 let values: Vec<u64> = (slba..slba + count).map(|it| check(|check| check.newest(it))).collect();
                 (Command { data: bytes(&values), ..command(COMPARE) }, Act::Compare { slba, values })
             }
-            Some(3) if self.blocks > LONG_ZEROES.1 && below(2) == 0 => self.zero_many(),
+            Some(3) if area.blocks > LONG_ZEROES.1 && below(2) == 0 => zero_many(area),
             Some(3) => (command(WRITE_ZEROES), Act::Write { slba, values: vec![0; count] }),
             Some(_) => {
-                let range = [&[0; 4][..], &(count as u32).to_le_bytes(), &(slba as u64).to_le_bytes()].concat();
+                let range = [&[0; 4][..], &(count as u32).to_le_bytes(), &(place as u64).to_le_bytes()].concat();
                 let words = vec![0, 0, 0, 0, 4, 0, 0, 0];
-                let command = Command { opcode: DATASET_MANAGEMENT, nsid: 1, words, data: range, ..Command::default() };
+                let command = Command { words, data: range, ..command(DATASET_MANAGEMENT) };
                 (command, Act::Write { slba, values: vec![0; count] })
             }
-            None => (Command { opcode: FLUSH, nsid: 1, ..Command::default() }, Act::Flush),
+            None => {
+                (Command { words: Vec::new(), ..command(FLUSH) }, Act::Flush { slba: area.base, count: area.blocks })
+            }
         }
     }
 
-    /// Zeroes that are long enough to wait for their turn.
-    fn zero_many(&self) -> (Command, Act) {
-        let (slba, count) = self.extent_of(LONG_ZEROES.0 + below(LONG_ZEROES.1 - LONG_ZEROES.0));
-        let words = [&(slba as u64).to_le_bytes()[..], &(count as u32 - 1).to_le_bytes()].concat();
-        let command = Command { opcode: WRITE_ZEROES, nsid: 1, words, ..Command::default() };
-        (command, Act::Write { slba, values: vec![0; count] })
+    /// Which of the kinds of its mix the next command has.
+    fn kind(&self) -> Option<usize> {
+        let mut rest = below(100);
+        self.mix.iter().position(|share| {
+            let is_it = rest < *share;
+            rest = rest.saturating_sub(*share);
+            is_it
+        })
     }
 
     /// What a path that has connected looks at first: what was promised is there, before anything replaces it.

@@ -26,6 +26,12 @@ pub struct Connect {
 pub const NO_FLOW: u8 = 1 << 2;
 
 impl Path {
+    /// Some names have what a log must write in another way.
+    fn host_name(&self) -> String {
+        let quote = if self.host % 4 == 3 { "\"\\" } else { "" };
+        format!("nqn.2024-01.example:{quote}{:x}", self.host_id())
+    }
+
     /// The Connect of a queue.
     pub fn connect_of(&self, qid: u16, keep_alive_ms: u32) -> Connect {
         Connect {
@@ -37,7 +43,7 @@ impl Path {
             format: 0,
             attributes: if self.habits.has_flow { 0 } else { NO_FLOW },
             subsystem: self.name.to_owned(),
-            host_name: format!("nqn.2024-01.example:{:x}", self.host_id()),
+            host_name: self.host_name(),
             length: 1024,
             in_capsule: true,
         }

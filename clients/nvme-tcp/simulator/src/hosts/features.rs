@@ -159,7 +159,9 @@ impl Session<'_> {
         if completion.value > most {
             self.complain(&format!("Error Recovery is {:#x}", completion.value));
         }
-        self.expect(&get(RECOVERY, 5, 0, 0), &[INVALID_FIELD]).map(|_| ())
+        self.expect(&get(RECOVERY, 5, 0, 0), &[INVALID_FIELD])?;
+        let of_second = if self.path.second == 0 { INVALID_FIELD } else { SUCCESS };
+        self.expect(&get(RECOVERY, 2, 0, 0), &[of_second]).map(|_| ())
     }
 
     /// Reservation Notification Mask.

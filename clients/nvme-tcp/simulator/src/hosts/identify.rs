@@ -89,6 +89,7 @@ impl Session<'_> {
             NAMESPACES | NVM_NAMESPACES | ALLOCATED_NAMESPACES => vec![SUCCESS],
             NAMESPACE | ALLOCATED_NAMESPACE | ATTACHED_CONTROLLERS if may_be => vec![SUCCESS],
             _ if asked.nsid == 1 => vec![SUCCESS, INVALID_NAMESPACE],
+            _ if asked.nsid == 2 && self.path.second != 0 => vec![SUCCESS],
             _ => vec![INVALID_NAMESPACE],
         };
         match asked.length {
@@ -105,7 +106,12 @@ impl Session<'_> {
             // Zeros if it is detached.
             NAMESPACE if asked.nsid == 1 => size() != 0 && size() != self.path.blocks as u64,
             ALLOCATED_NAMESPACE if asked.nsid == 1 => size() != self.path.blocks as u64,
-            DESCRIPTORS => data[..2] != [3, 16] || !check(|it| it.is_same("the UUID", &data[4..20])),
+            NAMESPACE if asked.nsid == 2 => size() != self.path.second as u64,
+            ALLOCATED_NAMESPACE if asked.nsid == 2 && self.path.second != 0 => size() != self.path.second as u64,
+            DESCRIPTORS => {
+                let name = if asked.nsid == 1 { "the UUID" } else { "the UUID of another namespace" };
+                data[..2] != [3, 16] || !check(|it| it.is_same(name, &data[4..20]))
+            }
             NVM_CONTROLLER => data[1] != 13 || u32_at(data, 4) != 65_536,
             NAMESPACES | NVM_NAMESPACES | ALLOCATED_NAMESPACES => !is_rising(&numbers(data), asked.nsid),
             ATTACHED_CONTROLLERS | CONTROLLERS => {

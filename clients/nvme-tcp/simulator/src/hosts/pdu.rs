@@ -38,27 +38,36 @@ pub fn u16_at(bytes: &[u8], at: usize) -> u16 {
     u16::from_le_bytes([bytes[at], bytes[at + 1]])
 }
 
-const fn table() -> [u32; 256] {
-    let mut table = [0; 256];
+/// For each of eight bytes what it does to the digest, by how many bytes follow it.
+const fn tables() -> [[u32; 256]; 8] {
+    let mut tables = [[0; 256]; 8];
     let mut n = 0;
-    while n < 256 {
-        let mut value = n as u32;
+    while n < 2048 {
+        let (after, byte) = (n / 256, n % 256);
+        let mut value = if after == 0 { byte as u32 } else { tables[after - 1][byte] };
         let mut bit = 0;
         while bit < 8 {
             value = if value & 1 == 1 { value >> 1 ^ 0x82f6_3b78 } else { value >> 1 };
             bit += 1;
         }
-        table[n] = value;
+        tables[after][byte] = value;
         n += 1;
     }
-    table
+    tables
 }
 
-static TABLE: [u32; 256] = table();
+static TABLES: [[u32; 256]; 8] = tables();
 
 /// CRC32C.
 pub fn digest(bytes: &[u8]) -> u32 {
-    !bytes.iter().fold(!0, |value: u32, byte| TABLE[usize::from(value as u8 ^ byte)] ^ value >> 8)
+    let (mut value, mut pieces) = (!0, bytes.chunks_exact(8));
+    for it in &mut pieces {
+        let (low, high) = (u32_at(it, 0) ^ value, u32_at(it, 4));
+        let of = |at: usize, part: u32| TABLES[7 - at][(part >> 8 * (at % 4) & 0xff) as usize];
+        value = (0..4).fold(0, |sum, at| sum ^ of(at, low) ^ of(at + 4, high));
+    }
+    let rest = pieces.remainder().iter();
+    !rest.fold(value, |value: u32, byte| TABLES[0][usize::from(value as u8 ^ byte)] ^ value >> 8)
 }
 
 /// A PDU with this content of its header after the first eight bytes, and these data.
@@ -114,6 +123,8 @@ mod tests {
     #[test]
     fn digests_are_those_of_rfc_3720() {
         assert_eq!((digest(b"123456789"), digest(&[0; 32])), (0xe306_9283, 0x8a91_36aa));
+        let rising: Vec<u8> = (0..32).collect();
+        assert_eq!((digest(&rising), digest(b"")), (0x46dd_794e, 0));
     }
 
     #[test]

@@ -17,6 +17,8 @@ pub struct Protection {
     next: u64,
     /// Those without an answer, by their numbers, with their controllers.
     open: Vec<(u64, u16)>,
+    /// The last, if no other was without an answer when it was sent: else either may be executed first.
+    alone: Option<u64>,
     /// When the last was answered that protects, if no other may be executed after it.
     pub since: Option<u64>,
     pub is_read_only: bool,
@@ -34,6 +36,7 @@ impl Checker {
     pub fn begin_protection(&mut self, cntlid: u16) -> u64 {
         let it = &mut self.protection;
         (it.next, it.since) = (it.next + 1, None);
+        it.alone = Some(it.next).filter(|_| it.open.is_empty());
         it.open.push((it.next, cntlid));
         it.next
     }
@@ -42,7 +45,7 @@ impl Checker {
     pub fn protected(&mut self, number: u64, is_on: bool) {
         let it = &mut self.protection;
         it.open.retain(|(other, _)| *other != number);
-        if is_on && it.open.is_empty() && number == it.next {
+        if is_on && it.alone == Some(number) {
             it.since = Some(with(|world| world.now));
         }
     }
@@ -63,11 +66,20 @@ impl Checker {
         self.protection.open.retain(|(_, it)| cntlid.map_or(false, |cntlid| *it != cntlid));
     }
 
+    /// A command has failed by the disk, which must have refused something: a write of a part of a page reads the rest,
+    /// so that may be a read.
+    pub fn judge_failure(&mut self, sent: &Sent, status: u16) {
+        let kinds = ["failed read", "unreadable", "failed write", "failed sync"];
+        let has_failed = with(|it| kinds.iter().any(|kind| it.injected.contains_key(kind)));
+        if FAILURES.contains(&status) && !has_failed {
+            self.violate(format!("a command has status {status:x}, and no disk has failed: {sent:?}"));
+        }
+    }
+
     /// A command that is wrong was answered.
     pub fn judge_wrong(&mut self, sent: &Sent, wanted: &[u16], completion: &Completion) {
         let status = completion.status;
-        let has_failed = with(|it| ["failed write", "failed sync"].iter().any(|kind| it.injected.contains_key(kind)));
-        let is_excused = DENIALS.contains(&status) || has_failed && FAILURES.contains(&status);
+        let is_excused = DENIALS.contains(&status) || FAILURES.contains(&status);
         if !wanted.contains(&status) && !is_excused {
             self.violate(format!("a command has status {status:x}: {sent:?}"));
         }
@@ -79,5 +91,26 @@ impl Checker {
     /// Whether bytes of this name are the same as each time before.
     pub fn is_same(&mut self, name: &'static str, bytes: &[u8]) -> bool {
         self.same.entry(name).or_insert_with(|| bytes.to_vec()) == bytes
+    }
+}
+
+#[cfg(test)]
+mod tests {
+    use super::super::checker::{begin, check};
+    use crate::world::{self, Chances};
+
+    #[test]
+    fn of_two_at_a_time_either_may_be_the_last() {
+        world::begin(1, Chances::default(), false);
+        begin(8, 8, true, true);
+        check(|it| {
+            let on = it.begin_protection(1);
+            it.protected(on, true);
+            assert!(it.protection.since.is_some());
+            let (off, on) = (it.begin_protection(2), it.begin_protection(1));
+            it.protected(off, false);
+            it.protected(on, true);
+            assert_eq!(it.protection.since, None);
+        });
     }
 }

@@ -128,15 +128,21 @@ impl Queue {
     /// Connects, and exchanges ICReq and ICResp.
     pub fn open(address: SocketAddr, digests: Digests) -> Result<Queue, Lost> {
         let mut queue = Queue::begin(address)?;
+        queue.agree(digests)?;
+        Ok(queue)
+    }
+
+    /// Exchanges ICReq and ICResp.
+    pub fn agree(&mut self, digests: Digests) -> Result<(), Lost> {
         let mut request = vec![0; 120];
         request[3] = digests.field();
-        queue.send_bytes(&pdu(IC_REQUEST, 0, &request, &[], Digests::default()))?;
-        let unit = queue.unit(with(|it| it.now) + PATIENCE)?;
+        self.send_bytes(&pdu(IC_REQUEST, 0, &request, &[], Digests::default()))?;
+        let unit = self.unit(with(|it| it.now) + PATIENCE)?;
         if unit[0] != IC_RESPONSE || unit[11] != digests.field() {
             return Err(Lost::Broken(format!("ICReq is answered by a PDU of type {}, DGST {}", unit[0], unit[11])));
         }
-        queue.digests = digests;
-        Ok(queue)
+        self.digests = digests;
+        Ok(())
     }
 
     /// Connects, and sends nothing.

@@ -1,14 +1,19 @@
 //! Queues of a session that end while it continues, or end it.
 
-use super::admin::Known;
+use super::admin::{one_of, Known};
 use super::checker::{check, Act};
 use super::queue::{Command, Lost, Queue};
+use super::wrong::{deallocation, range, DEALLOCATE};
 use super::{below, now, was_stopped, Session, CC, CSTS, ENABLE, KEEP_ALIVE, READ, REFUSALS};
 use crate::world::{self, MILLISECOND, SECOND};
 
 /// CC with a normal shutdown, and the status of a command that comes out of turn.
 const SHUTDOWN: u64 = 1 << 14;
 const SEQUENCE: u16 = 0x0c;
+
+fn one_read() -> Command {
+    Command { opcode: READ, nsid: 1, words: vec![0; 12], length: 512, ..Command::default() }
+}
 
 impl Session<'_> {
     /// Ends a queue in one of several ways; whether the session continues.
@@ -18,11 +23,12 @@ impl Session<'_> {
                 self.receive()?;
             }
         }
-        match below(5) {
+        match below(6) {
             0 => self.disconnect()?,
             1 => self.drop_queue()?,
             2 => self.reset()?,
             3 => self.shut_down()?,
+            4 => self.exceed_queues()?,
             _ => {
                 self.leave_admin()?;
                 return Ok(false);
@@ -31,12 +37,26 @@ impl Session<'_> {
         Ok(true)
     }
 
+    /// Connects queues that the controller does not have: they are refused.
+    fn exceed_queues(&mut self) -> Result<(), Lost> {
+        let qid = one_of(&[5, 9, 0xfff0]);
+        let (_, status) = self.open_queue(qid)?;
+        if status == 0 {
+            self.complain(&format!("queue {qid} is connected"));
+        }
+        Ok(())
+    }
+
     /// Opens the connection of an I/O queue; the status of its Connect.
-    fn open_queue(&mut self) -> Result<(Queue, u16), Lost> {
-        let mut io = Queue::open(self.address, self.path.digests)?;
+    fn open_queue(&mut self, qid: u16) -> Result<(Queue, u16), Lost> {
+        let begun = now();
+        let mut io = Queue::begin(self.address)?;
+        // It may be cut before the target has answered anything.
         self.names.push(io.name());
-        let status = io.connect(&self.path.connect_of(1, 0))?.status;
-        Ok((io, status))
+        let connect = self.path.connect_of(qid, 0);
+        let connected = io.agree(self.path.digests).and_then(|()| io.connect(&connect));
+        self.may_end |= connected.is_err() && check(|it| it.was_crowded(begun));
+        Ok((io, connected?.status))
     }
 
     /// Takes a new I/O queue for the one that has ended; the old connection.
@@ -59,7 +79,7 @@ impl Session<'_> {
             self.take(&completion)?;
         }
         self.may_end = may_end;
-        let (io, status) = self.open_queue()?;
+        let (io, status) = self.open_queue(1)?;
         if status != 0 {
             return self.refuse(status, "Disconnect");
         }
@@ -72,7 +92,7 @@ impl Session<'_> {
         self.io.leave();
         let begun = now();
         loop {
-            let (io, status) = self.open_queue()?;
+            let (io, status) = self.open_queue(1)?;
             if status == 0 {
                 drop(self.replace(io));
                 return Ok(());
@@ -98,7 +118,7 @@ impl Session<'_> {
         if self.admin.property(CSTS)?.value & 1 == 0 {
             return Err(Lost::Broken("a controller is not ready after it was enabled".to_owned()));
         }
-        let (io, status) = self.open_queue()?;
+        let (io, status) = self.open_queue(1)?;
         if status != 0 {
             return self.refuse(status, "a reset of its controller");
         }
@@ -118,8 +138,8 @@ impl Session<'_> {
         }
         let identify = Command { opcode: 0x06, words: vec![1, 0, 0, 0], length: 4096, ..Command::default() };
         for _ in 0..2 {
-            let read = Command { opcode: READ, nsid: 1, words: vec![0; 12], length: 512, ..Command::default() };
-            self.send(&read, Act::Wrong { wanted: vec![SEQUENCE] })?;
+            let command = if below(2) == 0 { one_read() } else { deallocation(&[range(0, 1)], DEALLOCATE) };
+            self.send(&command, Act::Wrong { wanted: vec![SEQUENCE] })?;
             self.receive()?;
             self.expect(&identify, &[SEQUENCE])?;
         }

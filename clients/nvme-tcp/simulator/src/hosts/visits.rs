@@ -2,6 +2,7 @@
 //! transport.
 
 use super::admin::{described, one_of, words, SUCCESS};
+use super::checker::check;
 use super::fabrics::Connect;
 use super::logs::page_command;
 use super::pdu::{u16_at, u32_at};
@@ -108,6 +109,7 @@ impl Path {
     fn use_discovery(&self, queue: &mut Queue, identify: &Command) -> Result<(), Lost> {
         expect(queue, &Command { opcode: KEEP_ALIVE, ..Command::default() }, SUCCESS)?;
         expect(queue, &Command { words: words(&[0]), ..identify.clone() }, INVALID_FIELD)?;
+        expect(queue, &Command { opcode: 0x09, data: vec![7; 64], ..Command::default() }, INVALID_OPCODE)?;
         expect(queue, &page_command(0x02, 64, 0, false), INVALID_PAGE)?;
         expect(queue, &page_command(LOG_PAGE, 64, 4096, false), INVALID_FIELD)?;
         expect(queue, &Command { opcode: one_of(&[0x08, 0x09, 0x0a, 0x0c]), ..Command::default() }, INVALID_OPCODE)?;
@@ -141,7 +143,7 @@ impl Path {
             6 => (Connect { size: one_of(&[0, 64, 65_534, 65_535]), ..good }, PARAMETERS),
             7 => (Connect { format: 1, ..good }, FORMAT),
             8 => (Connect { in_capsule: false, length: 8196, ..good }, SEQUENCE),
-            9 => (Connect { length: one_of(&[16, 512, 1020]), ..good }, 0),
+            9 => (Connect { length: one_of(&[0, 16, 512, 1020]), ..good }, 0),
             10 => (Connect { qid: one_of(&[5, 0xffff]), ..good }, 0),
             11 => (Connect { qid: 2, cntlid: 77, ..good }, 0),
             12 => (Connect { qid: 1, subsystem: DISCOVERY.to_owned(), ..good }, 0),
@@ -170,10 +172,10 @@ impl Path {
         if below(4) != 0 {
             return self.stay_silent(address);
         }
+        check(|it| it.crowds += 1);
         let guests: Result<Vec<Queue>, Lost> = (0..52).map(|_| Queue::begin(address)).collect();
-        let guests = guests?;
-        let result = self.discover(address);
-        drop(guests);
+        let result = guests.and_then(|_guests| self.discover(address));
+        check(|it| (it.crowds, it.crowded) = (it.crowds - 1, with(|it| it.now)));
         result
     }
 

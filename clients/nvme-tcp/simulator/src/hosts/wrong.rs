@@ -2,7 +2,7 @@
 
 use super::admin::{one_of, words, INVALID_FIELD, INVALID_NAMESPACE, INVALID_OPCODE, SGL_LENGTH, SGL_OFFSET, SGL_TYPE};
 use super::checker::{bytes_of, Act};
-use super::choice::{ACQUIRE, COMPARE, DATASET_MANAGEMENT, REGISTER, RELEASE, WRITE, WRITE_ZEROES};
+use super::choice::{Area, ACQUIRE, COMPARE, DATASET_MANAGEMENT, REGISTER, RELEASE, WRITE, WRITE_ZEROES};
 use super::queue::{Breach, Command, Pointer};
 use super::{below, Path, READ};
 
@@ -12,16 +12,16 @@ const SIZE_LIMIT: u16 = 0x183;
 const SEQUENCE: u16 = 0x0c;
 const QUEUE_TYPE: u16 = 0x185;
 /// Attribute Deallocate.
-const DEALLOCATE: u32 = 1 << 2;
+pub const DEALLOCATE: u32 = 1 << 2;
 /// All blocks that ranges may have.
 const MOST_BLOCKS: usize = 65_536;
 
-fn range(slba: u64, count: u32) -> Vec<u8> {
+pub fn range(slba: u64, count: u32) -> Vec<u8> {
     [&[0; 4][..], &count.to_le_bytes(), &slba.to_le_bytes()].concat()
 }
 
 /// Dataset Management of ranges.
-fn deallocation(ranges: &[Vec<u8>], attributes: u32) -> Command {
+pub fn deallocation(ranges: &[Vec<u8>], attributes: u32) -> Command {
     let list = words(&[ranges.len() as u32 - 1, attributes]);
     Command { opcode: DATASET_MANAGEMENT, nsid: 1, words: list, data: ranges.concat(), ..Command::default() }
 }
@@ -103,7 +103,7 @@ impl Path {
 
     /// Adjacent ranges, and one without blocks.
     fn choose_many_ranges(&self) -> (Command, Act) {
-        let (slba, count) = self.extent();
+        let (slba, count) = self.extent(Area { nsid: 1, base: 0, blocks: self.blocks });
         let first = below(count + 1);
         let ranges =
             [range(slba as u64, first as u32), range(0, 0), range((slba + first) as u64, (count - first) as u32)];

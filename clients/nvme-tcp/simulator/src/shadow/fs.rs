@@ -1,8 +1,9 @@
 //! Files over the simulated disks.
 
+pub use super::metadata::{metadata, FileType, Metadata, Permissions};
 use crate::fiber;
 use crate::world::disk::Kind;
-use crate::world::{self, with, MICROSECOND, MILLISECOND};
+use crate::world::{self, with, World, MICROSECOND, MILLISECOND};
 use ::std::io::{self, ErrorKind, Read, Seek, SeekFrom, Write};
 use ::std::path::Path;
 use ::std::sync::atomic::{AtomicU64, Ordering};
@@ -16,6 +17,11 @@ const ALONE: i32 = 0o200;
 const INPUT_OUTPUT: i32 = 5;
 const BUSY: i32 = 16;
 const IS_FOLDER: i32 = 21;
+/// EINVAL and EFBIG.
+const INVALID: i32 = 22;
+const TOO_LARGE: i32 = 27;
+/// The longest file.
+const LONGEST: u64 = 1 << 40;
 
 /// An open file. Copies of it share it.
 struct Open {
@@ -91,8 +97,12 @@ fn failed() -> io::Error {
     io::Error::from_raw_os_error(INPUT_OUTPUT)
 }
 
-fn not_found() -> io::Error {
+pub(super) fn not_found() -> io::Error {
     ErrorKind::NotFound.into()
+}
+
+pub(super) fn refused() -> io::Error {
+    ErrorKind::PermissionDenied.into()
 }
 
 impl Open {
@@ -115,6 +125,10 @@ impl Open {
                 return Err(io::Error::from_raw_os_error(IS_FOLDER));
             }
             if is_medium && world.happens("failed read", fails) {
+                return Err(failed());
+            }
+            if is_medium && world.disks.fails_to_read(self.inode, place as usize, room.len()) {
+                *world.injected.entry("unreadable").or_default() += 1;
                 return Err(failed());
             }
             if world.disks.inodes[self.inode].kind == Kind::Random {
@@ -150,11 +164,22 @@ impl Open {
             Ok(if is_short { PAGE * (1 + world.random.index(bytes.len() / PAGE)) } else { bytes.len() })
         })?;
         // The kernel copies page by page, and notices a kill in between.
-        let (mut at, end) = (place as usize, place as usize + count);
+        let place = with(|world| {
+            let World { disks, random, injected, .. } = world;
+            let written = disks.place_of(self.inode, place as usize, &bytes[..count], random);
+            if written != place as usize {
+                *injected.entry("misdirected write").or_default() += 1;
+            }
+            written
+        });
+        let (mut at, end) = (place, place + count);
         while at < end {
             let next = end.min((at / PAGE + 1) * PAGE);
-            let part = &bytes[at - place as usize..next - place as usize];
-            with(|it| it.disks.inodes[self.inode].write(at, part));
+            let part = &bytes[at - place..next - place];
+            with(|it| {
+                it.disks.inodes[self.inode].write(at, part);
+                it.disks.mend(self.inode, at, part.len());
+            });
             at = next;
             if at < end {
                 world::may_yield();
@@ -167,6 +192,9 @@ impl Open {
         let until = with(|it| it.disks.inodes[self.inode].written());
         let _call = Call::begin(&SYNC);
         with(|world| {
+            if world.disks.inodes[self.inode].kind == Kind::Random {
+                return Err(io::Error::from_raw_os_error(INVALID));
+            }
             let fails = world.chances.failed_sync;
             if world.happens("failed sync", fails) {
                 return Err(failed());
@@ -207,6 +235,9 @@ impl File {
     }
 
     pub fn set_len(&self, length: u64) -> io::Result<()> {
+        if length > LONGEST {
+            return Err(io::Error::from_raw_os_error(TOO_LARGE));
+        }
         with(|it| it.disks.inodes[self.it().inode].set_length(length as usize));
         Ok(())
     }
@@ -235,8 +266,14 @@ impl File {
 
     pub(super) fn punch_hole(&self, place: u64, count: u64) -> io::Result<()> {
         let _call = Call::begin(&MEDIUM);
-        with(|it| it.disks.inodes[self.it().inode].zero(place as usize, count as usize));
-        Ok(())
+        with(|it| {
+            if it.disks.lacks_holes {
+                return Err(ErrorKind::Unsupported.into());
+            }
+            it.disks.inodes[self.it().inode].zero(place as usize, count as usize);
+            it.disks.mend(self.it().inode, place as usize, count as usize);
+            Ok(())
+        })
     }
 }
 
@@ -356,6 +393,7 @@ impl OpenOptions {
             let by = (world.machine(), world.process());
             let text = super::proc::text_of(world, path, by.0);
             let inode = match world.disks.find(path) {
+                _ if world.disks.is_hidden(path) || world.disks.is_in_hidden(path) => return Err(refused()),
                 _ if text.is_some() => 0,
                 Some(_) if self.create_new => return Err(ErrorKind::AlreadyExists.into()),
                 Some(inode) => inode,
@@ -365,6 +403,9 @@ impl OpenOptions {
             if self.flags & ALONE != 0 && world.disks.inodes[inode].is_mounted {
                 return Err(io::Error::from_raw_os_error(BUSY));
             }
+            if self.flags & DIRECT != 0 && world.disks.inodes[inode].is_buffered {
+                return Err(io::Error::from_raw_os_error(INVALID));
+            }
             if self.truncate {
                 world.disks.inodes[inode].set_length(0);
             }
@@ -373,79 +414,6 @@ impl OpenOptions {
             Ok(File(Arc::new(Shared(Open { inode, number: world.disks.open(), by, is_direct, appends, place, text }))))
         })
     }
-}
-
-#[derive(Clone, Debug)]
-pub struct Metadata {
-    pub(super) inode: usize,
-    pub(super) length: u64,
-    pub(super) kind: Kind,
-}
-
-#[derive(Clone, Copy, Debug)]
-pub struct FileType(pub(super) Kind);
-
-#[derive(Clone, Copy, Debug)]
-pub struct Permissions(bool);
-
-impl Permissions {
-    pub fn readonly(&self) -> bool {
-        self.0
-    }
-}
-
-impl Metadata {
-    fn of(inode: usize) -> Metadata {
-        with(|it| Metadata {
-            inode,
-            length: it.disks.inodes[inode].data.len() as u64,
-            kind: it.disks.inodes[inode].kind,
-        })
-    }
-
-    #[allow(clippy::len_without_is_empty)]
-    pub fn len(&self) -> u64 {
-        self.length
-    }
-
-    pub fn is_file(&self) -> bool {
-        self.kind == Kind::File
-    }
-
-    pub fn is_dir(&self) -> bool {
-        self.kind == Kind::Folder
-    }
-
-    pub fn file_type(&self) -> FileType {
-        FileType(self.kind)
-    }
-
-    pub fn permissions(&self) -> Permissions {
-        Permissions(with(|it| it.disks.inodes[self.inode].is_fixed))
-    }
-
-    pub fn created(&self) -> io::Result<super::time::SystemTime> {
-        Ok(super::time::UNIX_EPOCH)
-    }
-
-    pub fn modified(&self) -> io::Result<super::time::SystemTime> {
-        Ok(super::time::UNIX_EPOCH)
-    }
-}
-
-impl FileType {
-    pub fn is_file(&self) -> bool {
-        self.0 == Kind::File
-    }
-
-    pub fn is_dir(&self) -> bool {
-        self.0 == Kind::Folder
-    }
-}
-
-pub fn metadata(path: impl AsRef<Path>) -> io::Result<Metadata> {
-    let inode = with(|it| it.disks.find(path.as_ref())).ok_or_else(not_found)?;
-    Ok(Metadata::of(inode))
 }
 
 pub fn symlink_metadata(path: impl AsRef<Path>) -> io::Result<Metadata> {

@@ -1,10 +1,11 @@
-//! Standard error and standard output of a simulated process: its text is kept.
+//! Standard error and standard output of a simulated process: the end of its text is kept, and is among the lines of
+//! the run's log.
 
 use crate::world::with;
 pub use ::std::io::*;
 
-/// The most bytes that are kept of a process.
-const MOST: usize = 64 << 10;
+/// The bytes that are kept of a process.
+const KEPT: usize = 64 << 10;
 
 pub struct Said {
     is_error: bool,
@@ -14,9 +15,13 @@ impl Write for Said {
     fn write(&mut self, bytes: &[u8]) -> Result<usize> {
         with(|world| {
             let process = world.process();
+            let text = String::from_utf8_lossy(bytes);
+            world.log.tell(world.now, process, &text);
             let said = &mut world.processes[process].said;
-            if said.len() < MOST {
-                said.push_str(&String::from_utf8_lossy(bytes));
+            said.push_str(&text);
+            if said.len() >= 2 * KEPT {
+                let cut = (KEPT..).find(|at| said.is_char_boundary(*at)).unwrap_or(0);
+                said.drain(..cut);
             }
             if !self.is_error && world.processes[process].served.is_none() {
                 world.processes[process].served = Some(world.disks.blocks().to_vec());

@@ -1,5 +1,6 @@
 //! The functions of the target's `memory.rs`.
 
+use crate::world::with;
 use ::std::io;
 
 pub fn give_back_zeros() -> io::Result<()> {
@@ -12,7 +13,11 @@ pub struct ZeroRoom {
 }
 
 impl ZeroRoom {
+    /// The system may refuse it.
     pub fn new(length: usize) -> io::Result<ZeroRoom> {
+        if with(|it| it.random.once_in(4)) {
+            return Err(io::ErrorKind::OutOfMemory.into());
+        }
         Ok(ZeroRoom { bytes: vec![0; length] })
     }
 

@@ -107,8 +107,13 @@ pub mod unix {
                 0
             }
 
+            /// A file that was never written has none.
             fn blocks(&self) -> u64 {
-                self.length / 512
+                if with(|it| it.disks.inodes[self.inode].written()) == 0 {
+                    0
+                } else {
+                    self.length / 512
+                }
             }
         }
 

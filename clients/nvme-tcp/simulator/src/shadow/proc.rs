@@ -10,6 +10,7 @@ pub fn text_of(world: &World, path: &Path, machine: usize) -> Option<Vec<u8>> {
         "/proc/sys/kernel/random/boot_id" => format!("{:08x}-0000-4000-8000-{:012x}\n", machine + 1, boots),
         "/proc/sys/kernel/hostname" => format!("machine{machine}\n"),
         "/proc/locks" => world.disks.locks(machine),
+        it if world.disks.hides_names && it.starts_with("/proc/") => return None,
         it if it.starts_with("/proc/") && it.ends_with("/comm") => "nvmetcp\n".to_owned(),
         _ => return None,
     };

@@ -39,7 +39,10 @@ pub fn is_asked_to_end() -> bool {
 pub fn note_hang_up() {}
 
 pub fn is_asked_to_read_again() -> bool {
-    false
+    with(|it| {
+        let process = it.process();
+        std::mem::take(&mut it.processes[process].hangs_up)
+    })
 }
 
 pub fn hide_memory() -> io::Result<()> {
@@ -71,6 +74,9 @@ pub fn punch_hole(file: &File, place: u64, count: u64) -> io::Result<()> {
 }
 
 pub fn lock(file: &File, is_shared: bool, waits: bool) -> io::Result<()> {
+    if waits && with(|it| it.random.once_in(2)) {
+        return Err(io::ErrorKind::Interrupted.into());
+    }
     file.lock(is_shared, waits)
 }
 

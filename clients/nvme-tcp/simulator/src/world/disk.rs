@@ -2,10 +2,14 @@
 
 use super::World;
 use crate::chance::Random;
-use std::collections::{BTreeMap, VecDeque};
+use std::collections::{BTreeMap, BTreeSet, VecDeque};
 use std::mem;
+use std::ops::Range;
 use std::path::{Path, PathBuf};
 
+/// The place of the journal in a volume.
+const JOURNAL: Range<usize> = 128 << 10..1152 << 10;
+const PAGE: usize = 4096;
 /// A power cut leaves each of these old or new.
 pub const SECTOR: usize = 512;
 
@@ -34,6 +38,9 @@ pub struct Inode {
     pub is_fixed: bool,
     pub is_mounted: bool,
     pub is_open: bool,
+    /// It can't be opened, or a folder can't be entered; and its file system has no O_DIRECT.
+    pub is_hidden: bool,
+    pub is_buffered: bool,
 }
 
 impl Inode {
@@ -49,6 +56,8 @@ impl Inode {
             is_fixed: false,
             is_mounted: false,
             is_open: false,
+            is_hidden: false,
+            is_buffered: false,
         }
     }
 
@@ -92,6 +101,7 @@ impl Inode {
     pub fn fill(&mut self, bytes: &[u8]) {
         (self.data, self.durable) = (bytes.to_vec(), bytes.to_vec());
         self.unsynced.clear();
+        self.next += 1;
     }
 
     /// Changes the length, at once and for good.
@@ -148,8 +158,25 @@ pub struct Disks {
     next_open: u64,
     /// The one with the blocks that targets serve, and the place of the first.
     pub served: Option<(usize, usize)>,
-    /// Whether /proc/locks shows nothing, as in another namespace of processes.
+    /// Whether /proc/locks shows nothing, as in another namespace of processes; and whether processes have no names.
     pub hides_locks: bool,
+    pub hides_names: bool,
+    /// Whether file systems can't replace bytes by a hole.
+    pub lacks_holes: bool,
+    /// Sectors of what is served that can't be read until they are written.
+    pub unreadable: BTreeSet<usize>,
+    /// Whether the next write to the journal of a volume goes to a wrong place of it, and what one has replaced there.
+    pub misdirects: bool,
+    pub misdirected: Option<Misdirected>,
+}
+
+/// A write that went to a wrong place.
+#[derive(Debug)]
+pub struct Misdirected {
+    right: usize,
+    wrong: usize,
+    bytes: Vec<u8>,
+    replaced: Vec<u8>,
 }
 
 impl Disks {
@@ -161,6 +188,11 @@ impl Disks {
             next_open: 1,
             served: None,
             hides_locks: false,
+            hides_names: false,
+            lacks_holes: false,
+            unreadable: BTreeSet::new(),
+            misdirects: false,
+            misdirected: None,
         };
         for folder in ["/", "/run", "/dev", "/etc", "/state", "."] {
             disks.create(Path::new(folder), Kind::Folder);
@@ -178,6 +210,15 @@ impl Disks {
 
     pub fn find(&self, path: &Path) -> Option<usize> {
         self.names.get(path).copied()
+    }
+
+    /// Whether a file can't be opened, and whether its folder can't be entered.
+    pub fn is_hidden(&self, path: &Path) -> bool {
+        self.find(path).map_or(false, |it| self.inodes[it].is_hidden)
+    }
+
+    pub fn is_in_hidden(&self, path: &Path) -> bool {
+        path.parent().map_or(false, |it| self.is_hidden(it))
     }
 
     pub fn remove(&mut self, path: &Path) -> bool {
@@ -241,6 +282,49 @@ impl Disks {
     /// The bytes of a file, as processes see them.
     pub fn content(&self, path: &str) -> Vec<u8> {
         self.find(Path::new(path)).map_or(Vec::new(), |inode| self.inodes[inode].data.clone())
+    }
+
+    /// The place to which the disk writes bytes of a file that belong at another: elsewhere in the journal if they are
+    /// of it, and the disk misdirects.
+    pub fn place_of(&mut self, inode: usize, right: usize, bytes: &[u8], random: &mut Random) -> usize {
+        let is_journal = JOURNAL.contains(&right) && self.served.map_or(false, |(served, _)| served == inode);
+        if !is_journal || !self.misdirects {
+            return right;
+        }
+        let wrong = JOURNAL.start + PAGE * random.index((JOURNAL.len() - bytes.len()) / PAGE + 1);
+        if wrong != right {
+            let replaced = self.inodes[inode].data[wrong..wrong + bytes.len()].to_vec();
+            self.misdirected = Some(Misdirected { right, wrong, bytes: bytes.to_vec(), replaced });
+            self.misdirects = false;
+        }
+        wrong
+    }
+
+    /// An operator undoes a misdirected write, and syncs that; whether there was one.
+    pub fn put_back(&mut self) -> bool {
+        match (self.misdirected.take(), self.served) {
+            (Some(it), Some((inode, _))) => {
+                self.inodes[inode].write(it.wrong, &it.replaced);
+                self.inodes[inode].write(it.right, &it.bytes);
+                let until = self.inodes[inode].written();
+                self.inodes[inode].sync(until);
+                true
+            }
+            _ => false,
+        }
+    }
+
+    /// Whether some of these bytes of a file can't be read.
+    pub fn fails_to_read(&self, inode: usize, place: usize, count: usize) -> bool {
+        let is_served = self.served.map_or(false, |(served, _)| served == inode);
+        is_served && self.unreadable.range(place / SECTOR..(place + count + SECTOR - 1) / SECTOR).next().is_some()
+    }
+
+    /// Whole sectors were written: they can be read.
+    pub fn mend(&mut self, inode: usize, place: usize, count: usize) {
+        if self.served.map_or(false, |(served, _)| served == inode) {
+            self.unreadable.retain(|it| !(place / SECTOR..(place + count) / SECTOR).contains(it));
+        }
     }
 
     /// The blocks that targets serve, as processes see them.
