@@ -12,6 +12,10 @@ from typing import Optional, Sequence
 ADDRESS = "10.0.2.2"
 # A factor for time limits, on machines that are slow or busy.
 SLOWER = float(os.environ.get("SLOWER", "1"))
+# Whether the machines of a target that moves are namespaces of this kernel, which need no emulation, or else guests.
+NAMESPACES = bool(os.environ.get("NAMESPACES"))
+# The factor for times of these machines.
+SLOW = SLOWER * (1 if NAMESPACES else 5)
 # Time limits for a guest to boot, and for a line.
 BOOT, LINE = 180 * SLOWER, 120 * SLOWER
 

@@ -12,17 +12,19 @@ from linux.network import tap
 from linux.writers import Writer
 
 CONNECT = f"nvme connect -t tcp -a {ADDRESS[0]} -s {ADDRESS[1]} -n $nqn $me --reconnect-delay=1 --ctrl-loss-tmo=1800"
-# Eight files in turn. A number is kept after fsync has returned.
-WRITE = "echo 0 >/room/synced; { n=0; while [ ! -e /room/end ]; do n=$((n + 1)); echo file $n | " \
-    "dd of=/disk/$((n % 8)) conv=fsync 2>/dev/null && echo $n >/room/synced; done; } &"
-ENDED = "touch /room/end; wait; n=$(cat /room/synced); umount /disk; mount -t ext4 /dev/nvme0n1 /disk"
+# Eight files in turn. A number and the time are kept after fsync has returned.
+WRITE = "echo 0 0 >/room/synced; { n=0; while [ ! -e /room/end ]; do n=$((n + 1)); echo file $n | " \
+    "dd of=/disk/$((n % 8)) conv=fsync 2>/dev/null && echo $n $(cut -d' ' -f1 /proc/uptime) >>/room/synced; done; } &"
+PAUSE = "awk 'NR > 2 && $2 - last > most { most = $2 - last } { last = $2 } END { print most, \"s\" }' /room/synced"
+ENDED = "touch /room/end; wait; n=$(tail -n 1 /room/synced | cut -d' ' -f1); umount /disk; " \
+    "mount -t ext4 /dev/nvme0n1 /disk"
 READ = 'lost=0; for m in $(seq $((n - 7)) $n); do [ "$(cat /disk/$((m % 8)))" = "file $m" ] || lost=$((lost + 1)); done'
 CHECK = "umount /disk && e2fsck -fn /dev/nvme0n1; echo status $?"
 
 
 def synced(guest: Guest) -> int:
     """The number of files that the host has written."""
-    return int(re.findall(r"synced (\d+)", guest.run("echo synced $(cat /room/synced)", SETTLED))[-1])
+    return int(re.findall(r"synced (\d+)", guest.run("echo synced $(tail -n 1 /room/synced)", SETTLED))[-1])
 
 
 def open_linux(it: Moves, built: Path) -> None:
@@ -53,6 +55,8 @@ def mounted(built: Path, folder: Path) -> None:
         it.moved(begun)
         it.wait_until("Linux writes again", lambda: synced(guest) > before + 8, INITIATOR)
         it.wants(f"files were written before, {before}", before > 0)
+        pause = guest.run(PAUSE, SETTLED).splitlines()[-1]
+        say(f"the longest pause of Linux between two files: {pause}")
         text = guest.run(f"{ENDED}; {READ}; echo lost $lost", SETTLED)
         it.wants("each file that was synced is there", "lost 0" in text)
         it.wants("e2fsck finds nothing wrong", "status 0" in guest.run(CHECK, SETTLED))

@@ -1,5 +1,6 @@
 """A target that moves: two machines with Pacemaker, one of which serves a volume that DRBD mirrors, or a shared disk."""
 import contextlib
+import os
 import subprocess
 import time
 from concurrent.futures import ThreadPoolExecutor
@@ -7,21 +8,22 @@ from pathlib import Path
 from typing import Callable, Dict, Iterator, List
 
 from linux.cluster import SETTLED, nodes_image
-from linux.machines import SLOWER, say
+from linux.machines import NAMESPACES, SLOW, SLOWER, say
 from linux.namespaces import Namespace, make_cables
 from linux.network import network_namespace
-from linux.pairs import MACHINES, NAMESPACES, TOKEN, Pair, fill
+from linux.pairs import MACHINES, TOKEN, Pair, fill
 from linux.scenes import config
 from linux.twins import restore, saved
-from linux.writers import Watch, Writer, is_served, turns
+from linux.writers import TRY, Watch, Writer, is_served, turns
 from tests.host import BLOCK, Host
 from tests.targets import LIVE, PROGRAM
 from tests.volumes import BLOCKS_AT
 
-BLOCKS, PORT = 2048, 4420
+# Enough for ext4 with a journal.
+BLOCKS, PORT = 8192, 4420
 ADDRESS = ("10.88.0.9", PORT)
-# Seconds of the volume's lease.
-LEASE = max(1, int(SLOWER))
+# Seconds of the volume's lease. A guest may be without a processor for seconds.
+LEASE = min(60, max(1, int(SLOWER if NAMESPACES else 2 * SLOW)))
 # Hosts, their keys, and the blocks that they write.
 WRITERS = {0xa1: (0xa, range(0, 40)), 0xb2: (0xb, range(100, 140))}
 OUTSIDER, LATE_KEY, LATE_PLACES = 0xc3, 0xc, range(0, 140)
@@ -113,8 +115,14 @@ class Moves(Pair):
                    set(self.fencer.fenced) == ({"t1"} if is_fenced else set()))
         if is_fenced:
             self.guests["t2"].run("stonith_admin --history t1 --verbose | grep successful", SETTLED)
-        outages = ", ".join(f"{it.outage(begun):.1f} for {it.number:x}" for it in self.writers)
-        say(f"seconds from then to the first answer of t2: {outages}; the token is {TOKEN} ms, the lease {LEASE} s")
+        self.say_outages(begun)
+
+    def say_outages(self, begun: float) -> None:
+        """Prints how long each host had no answer, and what that depends on."""
+        ends, lengths = (", ".join(f"{it.outage(begun)[which]:.1f} for {it.number:x}" for it in self.writers)
+                         for which in (0, 1))
+        say(f"seconds from then to the first answer of t2: {ends}; the token is {TOKEN} ms, the lease {LEASE} s")
+        say(f"seconds without an answer: {lengths}; a host tries again after {TRY} s; load {os.getloadavg()[0]:.0f}")
 
     def end(self) -> None:
         """The hosts end, and read what they wrote."""
@@ -211,9 +219,10 @@ def frozen(built: Path, folder: Path) -> None:
 def stopped(built: Path, folder: Path) -> None:
     """The target is stopped by SIGSTOP, and continued after its lease: it answers nobody, and its machine is fenced."""
     with machines(built, folder) as it:
-        say("the target on t1 is stopped, and continued after six seconds")
+        seconds = LEASE + 5
+        say(f"the target on t1 is stopped, and continued after {seconds} seconds")
         begun = time.monotonic()
-        it.guests["t1"].type("pkill -STOP nvmetcp; sleep 6; pkill -CONT nvmetcp")
+        it.guests["t1"].type(f"pkill -STOP nvmetcp; sleep {seconds}; pkill -CONT nvmetcp")
         it.moved(begun)
 
 
@@ -249,7 +258,7 @@ def planned(built: Path, folder: Path) -> None:
     """An operator moves the target."""
     with machines(built, folder) as it:
         begun = time.monotonic()
-        it.guests["t1"].run("crm_resource --resource target --move --node t2", SETTLED)
+        it.guests["t1"].run("crm_resource --resource disk --move --node t2", SETTLED)
         it.moved(begun, is_fenced=False)
 
 

@@ -8,6 +8,7 @@ from pathlib import Path
 from typing import List
 
 from linux.machines import BOOT, Guest, say
+from linux.network import bridge
 
 HERE = Path(__file__).resolve().parent
 # The bridge by which they reach the scene, at the address that guests of QEMU have for it.
@@ -98,8 +99,7 @@ def ip(line: str) -> None:
 
 def make_cables(*hosts: str) -> None:
     """The bridge to the scene, and the cable between two machines."""
-    name, address = OUTSIDE
-    for line in (f"link add {name} type bridge", f"addr add {address}/24 dev {name}", f"link set {name} up"):
+    for line in bridge(*OUTSIDE):
         ip(line)
     ip("link add cable-{} type veth peer name cable-{}".format(*hosts))
 

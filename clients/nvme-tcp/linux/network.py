@@ -3,7 +3,7 @@ import contextlib
 import ctypes
 import os
 import subprocess
-from typing import Iterator
+from typing import Iterator, List
 
 # The namespace of the network, in unshare(2) and setns(2).
 NEWNET = 0x40000000
@@ -19,6 +19,14 @@ def call(name: str, *words: int) -> None:
         raise AssertionError(f"{name}: {fault}; scenes with a network namespace are for root")
 
 
+def bridge(name: str, address: str) -> List[str]:
+    """Lines for ip(8) that make a bridge. It has a MAC address of its own: else it would have one of its devices', and
+    another one when that device's machine is dead."""
+    number = int(address.rsplit(".", 1)[1])
+    return [f"link add {name} address 52:54:00:00:03:{number:02x} type bridge", f"addr add {address}/24 dev {name}",
+            f"link set {name} up"]
+
+
 def tap(guest: str) -> str:
     """The name of a guest's device."""
     return f"tap-{guest}"
@@ -30,7 +38,7 @@ def network_namespace(*guests: str) -> Iterator[None]:
     before = os.open("/proc/thread-self/ns/net", os.O_RDONLY)
     call("unshare", NEWNET)
     try:
-        lines = ["link set lo up", "link add hosts type bridge", f"addr add {OWN}/24 dev hosts", "link set hosts up"]
+        lines = ["link set lo up", *bridge("hosts", OWN)]
         for it in guests:
             lines += [f"tuntap add {tap(it)} mode tap", f"link set {tap(it)} master hosts up"]
         for line in lines:

@@ -1,5 +1,4 @@
 """Two machines of a cluster for a target that moves: guests or namespaces, their power switch, and checks."""
-import os
 import re
 import shutil
 import time
@@ -9,33 +8,34 @@ from typing import Dict, List
 
 from linux.cluster import SETTLED, STATE
 from linux.fencer import Fencer
-from linux.machines import SLOWER, Guest, say
+from linux.machines import NAMESPACES, SLOW, Guest, say
 from tests.targets import PROGRAM
 
 HERE = Path(__file__).resolve().parent
 MACHINES = ("t1", "t2")
-# Milliseconds until Corosync gives a silent machine up.
-TOKEN = int(1000 * SLOWER)
-# Machines are guests, or namespaces of this kernel, which needs no emulation.
-NAMESPACES = bool(os.environ.get("NAMESPACES"))
+# Milliseconds until Corosync gives a silent machine up, and then until the other forms a membership without it.
+TOKEN, CONSENSUS = int(1000 * SLOW), int(400 * SLOW)
 # What the target keeps of its run, in the folder that it shares with the scene.
 KEEP = "--script /share/run.nvme --force"
 # The resources: DRBD mirrors the disks of guests; the disk of namespaces is one that both have.
 RESOURCES = "targets.crm" if NAMESPACES else "drbd.crm"
-GROUP = "group target disk address"
+# Settings of the target can be added before this.
+TARGET = "params volume="
 # The target and its address run on a machine.
-SERVES = r"address.*Started {}"
+SERVES = r"(?s)disk[^\n]*Started {0}.*address[^\n]*Started {0}"
 
 
 def adapted(text: str) -> str:
-    """A configuration with time limits times SLOWER, and a target that keeps its run.
+    """A configuration with times multiplied by SLOW, and a target that keeps its run.
 
     That of guests starts later, since the folder for it can't be in a saved state.
     """
-    text = re.sub(r"(timeout=|t2:)(\d+)s", lambda it: f"{it[1]}{int(int(it[2]) * SLOWER)}s", text)
-    text = re.sub(r"(ping-timeout) (\d+)", lambda it: f"{it[1]} {min(int(int(it[2]) * SLOWER), 300)}", text)
-    text = text.replace("token: TOKEN", f"token: {TOKEN}").replace("--trust-network", f"--trust-network {KEEP}")
-    return text if NAMESPACES else text.replace(GROUP, f"{GROUP} meta target-role=Stopped")
+    text = re.sub(r"(timeout=|interval=|t2:)(\d+)s", lambda it: f"{it[1]}{int(int(it[2]) * SLOW)}s", text)
+    text = re.sub(r"(ping-timeout) (\d+)", lambda it: f"{it[1]} {min(int(int(it[2]) * SLOW), 300)}", text)
+    for word, number in (("token: TOKEN", TOKEN), ("consensus: CONSENSUS", CONSENSUS)):
+        text = text.replace(word, f"{word.split()[0]} {number}")
+    text = text.replace("--trust-network", f"--trust-network {KEEP}")
+    return text if NAMESPACES else text.replace(TARGET, f"meta target-role=Stopped {TARGET}")
 
 
 def fill(share: Path) -> None:

@@ -10,7 +10,7 @@ from pathlib import Path
 from typing import Dict
 
 from linux.cluster import SETTLED, STATE, nodes_image
-from linux.machines import SLOWER, Guest, ask_monitor, say
+from linux.machines import SLOW, Guest, ask_monitor, say
 from linux.network import tap
 from linux.pairs import HERE, MACHINES, RESOURCES, Pair, fill, adapted
 from linux.scenes import free_port
@@ -23,7 +23,7 @@ METADATA = 1 << 20
 MOUNT = "mkdir -p /share && mount -t 9p -o trans=virtio,version=9p2000.L share /share"
 # The kernel shows the states of the connection, of both roles, and of both disks.
 MIRRORED = "cs:Connected ro:Primary/Secondary ds:UpToDate/UpToDate"
-STARTED = "crm_resource --resource target --meta --set-parameter target-role --parameter-value Started"
+STARTED = "crm_resource --resource disk --meta --set-parameter target-role --parameter-value Started"
 
 
 class Twin(Guest):
@@ -89,9 +89,9 @@ class Twin(Guest):
         return self.process.poll() is not None
 
 
-def key_of(built: Path, image: Path) -> str:
+def key_of(built: Path, image: Path, volume: Path) -> str:
     """What a saved state depends on, besides the devices of its guests."""
-    state = hashlib.sha256(f"{FORM} {built.name} {image.stat().st_mtime} {SLOWER}".encode())
+    state = hashlib.sha256(f"{FORM} {built.name} {image.stat().st_mtime} {volume.stat().st_size} {SLOW}".encode())
     for it in ("init", "target-node", "fence_guest", RESOURCES, "drbd.res", "targets.corosync.conf"):
         state.update(adapted((HERE / it).read_text()).encode())
     state.update((HERE.parent / "ocf/nvmetcp").read_bytes())
@@ -131,7 +131,7 @@ def settle(pair: Pair) -> None:
 def saved(built: Path, volume: Path) -> Path:
     """The folder with the saved state of both machines, which is made if there is none."""
     image, folder = nodes_image(built), built.parent / "twins"
-    key = key_of(built, image)
+    key = key_of(built, image, volume)
     if (folder / "key").is_file() and (folder / "key").read_text() == key:
         return folder
     shutil.rmtree(folder, ignore_errors=True)

@@ -5,13 +5,15 @@ import threading
 import time
 from typing import Dict, List, Optional, Sequence, Tuple
 
-from linux.machines import SLOWER
+from linux.machines import SLOW
 from tests.host import BLOCK, Ended, Host, Place, Queue
 
 # Reservation Conflict, and Command Aborted due to Preempt and Abort, both with Do Not Retry.
 CONFLICTS = (0x4083, 0x401b)
-# Seconds until a host gives a connection or a command up, and those between its commands.
-GIVE_UP, PAUSE = 1.0 * SLOWER, 0.05
+# Seconds until a host gives a command up, and those between its commands.
+GIVE_UP, PAUSE = 1.0 * SLOW, 0.05
+# Seconds until a host that connects tries again: a machine without the address does not answer.
+TRY = 0.25 * SLOW
 
 
 class Expected:
@@ -53,7 +55,9 @@ class Writer(threading.Thread):
 
     def connected(self) -> Host:
         if self.host is None:
-            self.host = Host(self.place, self.number, timeout=GIVE_UP)
+            self.host = Host(self.place, self.number, timeout=TRY)
+            for it in (self.host.admin, *self.host.queues):
+                it.socket.settimeout(GIVE_UP)
         return self.host
 
     def run(self) -> None:
@@ -88,10 +92,11 @@ class Writer(threading.Thread):
         """Whether a command that was sent after a moment has an answer."""
         return any(sent > begun for sent, _ in self.answers[-1:])
 
-    def outage(self, begun: float) -> float:
-        """Seconds from a moment to the end of the longest time without an answer after it."""
+    def outage(self, begun: float) -> Tuple[float, float]:
+        """The longest time without an answer after a moment: seconds from the moment to its end, and its seconds."""
         times = [begun, *(answered for _, answered in list(self.answers) if answered > begun)]
-        return max(zip(times, times[1:]), key=lambda it: it[1] - it[0], default=(begun, begun))[1] - begun
+        last, first = max(zip(times, times[1:]), key=lambda it: it[1] - it[0], default=(begun, begun))
+        return first - begun, first - last
 
     def close(self) -> None:
         self.is_closed = True
@@ -108,35 +113,42 @@ def is_served(place: Place) -> bool:
         return False
 
 
-class Watch(threading.Thread):
-    """Asks each machine, at its own address, whether a target answers."""
+# When a machine was asked for each of its answers, and when it had answered.
+Answers = List[Tuple[float, float]]
+
+
+class Watch:
+    """Asks each machine all the time, at its own address, whether a target answers."""
 
     def __init__(self, places: Dict[str, Place]) -> None:
-        super().__init__(daemon=True)
-        self.places, self.is_closed = places, False
-        # From when to when each answer took, and whose it was.
-        self.seen: List[Tuple[float, float, str]] = []
+        self.is_closed = False
+        self.seen: Dict[str, Answers] = {it: [] for it in places}
+        self.threads = [threading.Thread(target=self.ask, args=it, daemon=True) for it in places.items()]
 
-    def run(self) -> None:
+    def start(self) -> None:
+        for it in self.threads:
+            it.start()
+
+    def ask(self, name: str, place: Place) -> None:
         while not self.is_closed:
-            for name, place in self.places.items():
-                begun = time.monotonic()
-                if is_served(place):
-                    self.seen.append((begun, time.monotonic(), name))
+            begun = time.monotonic()
+            if is_served(place):
+                self.seen[name].append((begun, time.monotonic()))
             time.sleep(PAUSE)
 
     def has_seen(self, name: str) -> bool:
-        return any(it == name for _, _, it in list(self.seen))
+        return bool(self.seen[name])
 
     def close(self) -> None:
         self.is_closed = True
-        self.join()
+        for it in self.threads:
+            it.join()
 
 
-def turns(seen: Sequence[Tuple[float, float, str]]) -> List[str]:
-    """Who has answered, in the order of time, each turn once."""
-    names: List[str] = []
-    for _, _, name in sorted(seen):
-        if not names or names[-1] != name:
-            names.append(name)
-    return names
+def turns(seen: Dict[str, Answers]) -> List[str]:
+    """Which machines have answered, in the order of their first answers. Those that have answered again, to what they
+    were asked after the next one's first answer, follow.
+    """
+    first = {name: min(answered for _, answered in answers) for name, answers in seen.items() if answers}
+    order = sorted(first, key=lambda it: first[it])
+    return order + [name for name, other in zip(order, order[1:]) if any(it > first[other] for it, _ in seen[name])]

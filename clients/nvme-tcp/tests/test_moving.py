@@ -7,6 +7,8 @@ import unittest
 from typing import Callable, List
 
 from linux.fencer import Fencer
+from linux.machines import SLOW
+from linux.pairs import HERE, TOKEN, adapted
 from linux.writers import Expected, Watch, Writer, turns
 from tests.host import BLOCK
 from tests.targets import BLOCKS, PROGRAM, TargetTest
@@ -27,8 +29,24 @@ class Blocks(unittest.TestCase):
         self.assertEqual(expected.faults(bytes(BLOCK) + OLD[1:] + b"\2"), ["block 1 has lost what was answered"])
 
     def test_turns(self) -> None:
-        self.assertEqual(turns([(3, 4, "t2"), (1, 2, "t1"), (2, 3, "t1")]), ["t1", "t2"])
-        self.assertEqual(turns([(1, 2, "t1"), (3, 4, "t2"), (5, 6, "t1")]), ["t1", "t2", "t1"])
+        """A machine that answers what it was asked after the other's first answer has a turn again."""
+        self.assertEqual(turns({"t2": [(3, 4)], "t1": [(1, 2), (2, 3)]}), ["t1", "t2"])
+        self.assertEqual(turns({"t1": [(1, 2), (5, 6)], "t2": [(3, 4), (6, 7)]}), ["t1", "t2", "t1"])
+        # Whether t2 has answered before t1, which was asked while t2 waited for its turn, nobody knows.
+        self.assertEqual(turns({"t1": [(1, 2), (4, 6)], "t2": [(3, 5)]}), ["t1", "t2"])
+        self.assertEqual(turns({"t1": [(1, 2)], "t2": []}), ["t1"])
+
+
+class Settings(unittest.TestCase):
+    def test_times(self) -> None:
+        """Each time of the cluster is multiplied, and each word that the scene replaces is."""
+        self.assertEqual(adapted("op start timeout=60s op monitor interval=2s\nping-timeout 10;\n"),
+                         f"op start timeout={int(60 * SLOW)}s op monitor interval={int(2 * SLOW)}s\n"
+                         f"ping-timeout {int(10 * SLOW)};\n")
+        text = "".join(adapted((HERE / it).read_text()) for it in ("drbd.crm", "targets.crm", "targets.corosync.conf"))
+        self.assertIn(f"token: {TOKEN}\n", text)
+        self.assertNotRegex(text, r": (TOKEN|CONSENSUS)")
+        self.assertEqual(text.count("--script"), 2)
 
 
 class Power(unittest.TestCase):
@@ -86,10 +104,10 @@ class Writers(TargetTest):
         self.assertGreater(len(writer.expected.may), 1)
 
     def test_an_outage(self) -> None:
-        """It ends after the longest time without an answer, and begins at the given moment."""
+        """The longest time without an answer: its end, from the given moment, and how long it is."""
         writer = Writer(self.target.port, 0xa1, range(8))
         writer.answers = [(0, 1), (2, 3), (8, 9), (9, 9.5)]
-        self.assertEqual([writer.outage(it) for it in (0, 3.5, 9.25, 20)], [9, 5.5, 0.25, 0])
+        self.assertEqual([writer.outage(it) for it in (0, 3.5, 9.25, 20)], [(9, 6), (5.5, 5.5), (0.25, 0.25), (0, 0)])
 
     def test_a_fenced_host(self) -> None:
         """Each answer must be a conflict: one that is not is a fault, and so is a conflict of one that is not fenced."""
@@ -111,7 +129,7 @@ class Writers(TargetTest):
     def test_watch(self) -> None:
         watch = Watch({"t1": self.target.port, "t2": 1})
         watch.start()
-        self.wait_for(lambda: len(watch.seen) > 3)
+        self.wait_for(lambda: len(watch.seen["t1"]) > 3)
         watch.close()
         self.assertEqual(turns(watch.seen), ["t1"])
         self.assertEqual((watch.has_seen("t1"), watch.has_seen("t2")), (True, False))

@@ -3,6 +3,7 @@ import os
 import shutil
 import signal
 import subprocess
+import time
 import unittest
 from pathlib import Path
 
@@ -39,6 +40,30 @@ class Agent(VolumeTest):
                          [GENERIC, NO_ERROR, NOT_RUNNING])
         self.assertEqual([self.act("start"), self.act("stop")], [NO_ERROR] * 2)
         self.assertIn("owner nobody", self.passes("dump", self.volume))
+
+    @unittest.skipUnless(shutil.which("cc"), "there is no cc")
+    def test_a_thread_that_is_left(self) -> None:
+        """A process runs until its last thread has ended: `stop` must not succeed before."""
+        self.format()
+        program = self.room / "leaderless"
+        source = Path(__file__).parent / "leaderless.c"
+        subprocess.run(["cc", "-O1", "-Wall", "-Wextra", "-pthread", "-o", program, source], check=True)
+        self.settings["program"] = str(program)
+        self.assertEqual(self.act("start"), NO_ERROR)
+        number = (self.rundir / "pid").read_text().strip()
+        os.kill(int(number), signal.SIGUSR1)
+        self.wait_for_state(number, "Z")
+        self.assertEqual([self.act("monitor"), self.act("stop")], [NO_ERROR] * 2)
+        threads = list(Path(f"/proc/{number}/task").glob("*"))
+        self.assertLessEqual(len(threads), 1, "a thread of the process is left")
+        self.assertEqual(self.act("monitor"), NOT_RUNNING)
+
+    def wait_for_state(self, number: str, state: str) -> None:
+        """Waits until the first thread of a process is in a state of proc(5)."""
+        last = time.monotonic() + 5
+        while Path(f"/proc/{number}/stat").read_text(encoding="ascii").rpartition(")")[2].split()[0] != state:
+            self.assertLess(time.monotonic(), last)
+            time.sleep(0.01)
 
     @unittest.skipUnless(shutil.which("ocf-tester"), "there is no ocf-tester")
     def test_ocf_tester(self) -> None:
