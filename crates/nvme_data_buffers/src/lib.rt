@@ -14,5 +14,5 @@ mod store_examples;
 pub use buffer::{DataBuffer, Prps};
 pub use entry::{is_filled, with_prps};
 pub use list::{LIST_PLACE, prp_list};
-pub use moving::moved;
+pub use moving::{double_word_10, moved, opcode_of};
 pub use queues::{completion_queue, submission_queue};

@@ -15,7 +15,7 @@ const HOST_IDENTIFIER: u32 = 0x81;
 /// Opcode. These fields are read where they are: to take the whole entry apart costs more than all else here.
 #[inline(always)]
 #[tactic(auto, using(crate::proofs::Fields::opcode_read))]
-pub(crate) fn opcode_of(entry: &[u8; 64]) -> u8
+pub fn opcode_of(entry: &[u8; 64]) -> u8
     ensures { result ≡ opcode entry.now }
 {
     entry[0]
@@ -24,7 +24,7 @@ pub(crate) fn opcode_of(entry: &[u8; 64]) -> u8
 /// Double word 10.
 #[inline(always)]
 #[tactic(auto, unfolding(nvme_wire::specs::Submission::cdw10))]
-fn double_word_10(entry: &[u8; 64]) -> u32
+pub fn double_word_10(entry: &[u8; 64]) -> u32
     ensures { result ≡ cdw10 entry.now }
 {
     u32::from_le_bytes([entry[40], entry[41], entry[42], entry[43]])

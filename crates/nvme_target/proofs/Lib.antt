@@ -2,3 +2,5 @@ pub mod Owners
 pub mod Wire
 pub mod Openings
 pub mod ExampleSessions
+pub mod Journals
+pub mod Replays

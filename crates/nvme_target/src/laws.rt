@@ -1,5 +1,10 @@
 //! Laws over any inputs of the associations and any run of the subsystem. Each is the contract of an empty function.
 
+ghost use Rattle.nvme_target.specs.Journals.{
+  JournalHoldsTheAccessState,
+  JournalRestoresTheAccessState,
+  KeptCommandsSucceedAgain,
+};
 ghost use Rattle.nvme_target.specs.Laws.{
   EventsAreOfNamedHosts,
   FencingHoldsOverTheWire,
@@ -35,4 +40,11 @@ pub fn causes_are_of_one_controller()
 pub fn hosts_are_those_of_the_configuration()
     ensures opening { OpeningHasItsHosts }
     ensures stays { HostsStay }
+{}
+
+/// The journal of a run holds all that the run changes of the access state, and restores it.
+pub fn journals_hold_the_access_state()
+    ensures holds { JournalHoldsTheAccessState }
+    ensures restores { JournalRestoresTheAccessState }
+    ensures succeed { KeptCommandsSucceedAgain }
 {}

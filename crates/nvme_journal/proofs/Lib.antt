@@ -1,0 +1,5 @@
+pub mod Worlds
+pub mod Again
+pub mod AdminAgain
+pub mod Alike
+pub mod Enough
