@@ -21,6 +21,7 @@
  * each nvmesim_transfers_next_request, and for each H2CData call nvmesim_transfers_take or nvmesim_transfers_store.
  * For a command that the subsystem executes: store its data at nvmesim_buffers_start, and what nvmesim_buffers_place
  * makes of its entry in the queue. Store the bytes of nvmesim_buffers_list before a controller is enabled.
+ * If the access state has to outlast the program, keep each command that succeeded and nvmesim_journal_lasts.
  */
 #ifndef NVMETCP_H
 #define NVMETCP_H
@@ -352,6 +353,15 @@ uint64_t nvmesim_buffers_list(uint8_t *list);
 /* The addresses of the queues with an identifier up to 4, a page each. No two, the list and the buffers share a byte. */
 uint64_t nvmesim_buffers_submission_queue(uint16_t qid);
 uint64_t nvmesim_buffers_completion_queue(uint16_t qid);
+
+/* Whether the command of an entry (64 bytes) may change the access state if it succeeds: registrants, reservations, write
+ * protection and attachments. A subsystem of the same configuration that executes all of them again, in their order and
+ * with its power cycles, has the same access state; each succeeds again. */
+bool nvmesim_journal_lasts(const uint8_t *entry, bool is_admin);
+
+/* How many bytes of the data of such a command have to be kept, by the first two of them: 16, or of an admin command a
+ * list of controllers with its count. The others may be zeros when the command is executed again. */
+uint32_t nvmesim_journal_kept_length(const uint8_t *head, bool is_admin);
 
 /* Begins a subsystem without associations, whose controllers have these hosts, by rising CNTLID from 1; with has_keys
  * hosts have to authenticate themselves. OK; or ALREADY_OPEN, TOO_MANY, NO_MEMORY, and nothing has changed. The close

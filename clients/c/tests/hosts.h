@@ -53,6 +53,7 @@ void pdus(void);
 void connections(void);
 void responses(void);
 void buffers(void);
+void journals(void);
 void transfers(void);
 
 #endif

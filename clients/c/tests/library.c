@@ -446,6 +446,7 @@ int main(int count, char **words) {
     connections();
     responses();
     buffers();
+    journals();
     transfers();
     reservations();
     names();

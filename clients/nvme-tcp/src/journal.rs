@@ -13,27 +13,19 @@ pub mod restoring;
 pub mod state;
 
 use crate::admin::identity::Identity;
-use crate::bytes::u16_at;
 use crate::fault::{Fault, Outcome};
 use crate::files::watched::changed;
 use crate::journal::record::{newest, push_command, push_cycle, Current, Record};
 use crate::nvme::entry::SubmissionEntry;
-use crate::nvme::{
-    NAMESPACE_ATTACHMENT, RESERVATION_ACQUIRE, RESERVATION_NOTIFICATION, RESERVATION_REGISTER, RESERVATION_RELEASE,
-    SET_FEATURES, WRITE_PROTECTION,
-};
 use crate::target::controller::Data;
 use crate::waker::{self, Waker, Wakeup};
+use nvmesim::journal::{kept, lasts};
 use std::io::{self, ErrorKind};
 use std::mem;
 use std::sync::atomic::{AtomicU64, Ordering};
 use std::sync::{Arc, Condvar, Mutex, MutexGuard, PoisonError};
 use std::thread::{self, JoinHandle};
 
-/// Features: Reservation Notification Mask, Reservation Persistence and Namespace Write Protection.
-const LASTING_FEATURES: std::ops::RangeInclusive<u8> = RESERVATION_NOTIFICATION..=WRITE_PROTECTION;
-/// The bytes of two reservation keys.
-const KEYS: usize = 16;
 /// Memory for records that wait for the thread.
 const ROOM: usize = 256 << 10;
 /// Replaces the number of synced records after a failure.
@@ -159,10 +151,11 @@ impl Journal {
         Ok(Journal { queue, thread, hold, wakeup, count: 0, epoch, identity })
     }
 
-    /// Appends a command that has succeeded, if it changes what is to last.
+    /// Appends a command that has succeeded, if it changes what is to last, with what it read of its data: a host could
+    /// make the rest look like another record, or a page of them like another batch of a volume.
     pub fn follow(&mut self, cntlid: u16, qid: u16, entry: &SubmissionEntry, data: Data<'_>) {
-        if lasts(qid, entry) {
-            let data = if let Data::ToController(bytes) = data { read_of(qid, bytes) } else { &[] };
+        if lasts(entry.bytes(), qid == 0) {
+            let data = if let Data::ToController(bytes) = data { kept(bytes, qid == 0) } else { &[] };
             let epoch = self.epoch;
             self.give(|records| push_command(records, epoch, (cntlid, qid), entry, data));
         }
@@ -221,50 +214,12 @@ fn newest_of(records: &[Record]) -> io::Result<u64> {
     newest(records).map_err(|number| changed(format!("record {number} is of an epoch that no target has started")))
 }
 
-/// Whether a command changes what is to last.
-fn lasts(qid: u16, entry: &SubmissionEntry) -> bool {
-    match (qid, entry.opcode()) {
-        (0, SET_FEATURES) => LASTING_FEATURES.contains(&entry.cdw10_low()),
-        (0, opcode) => opcode == NAMESPACE_ATTACHMENT,
-        (_, opcode) => matches!(opcode, RESERVATION_REGISTER | RESERVATION_ACQUIRE | RESERVATION_RELEASE),
-    }
-}
-
-/// What a command that lasts reads of its data: keys, or a controller list. A record has no more of them, since a host
-/// could make the rest look like another record, or a page of them like another batch of a volume.
-fn read_of(qid: u16, data: &[u8]) -> &[u8] {
-    let length = if qid == 0 && data.len() > 1 { 2 + 2 * usize::from(u16_at(data, 0)) } else { KEYS };
-    &data[..data.len().min(length)]
-}
-
 #[cfg(test)]
 mod tests {
     use super::*;
     use crate::journal::record::{records_of, Event};
+    use crate::nvme::RESERVATION_REGISTER;
     use std::sync::mpsc::{sync_channel, Receiver, SyncSender};
-
-    #[test]
-    fn what_lasts() {
-        for (qid, opcode, dw10, wanted) in [
-            (1, RESERVATION_REGISTER, 0, true),
-            (1, 0x01, 0, false),
-            (0, SET_FEATURES, WRITE_PROTECTION.into(), true),
-            (0, SET_FEATURES, 0x07, false),
-            (0, RESERVATION_REGISTER, 0, false),
-        ] {
-            assert_eq!(lasts(qid, &SubmissionEntry::new(opcode, 0, 1).with(dw10, 0)), wanted);
-        }
-    }
-
-    #[test]
-    fn records_have_what_commands_read() {
-        let data: Vec<u8> = [3, 0].into_iter().chain(2..64).collect();
-        assert_eq!((read_of(1, &data), read_of(0, &data)), (&data[..16], &data[..8]));
-        assert_eq!(
-            (read_of(1, &data[..8]), read_of(0, &data[..4]), read_of(0, &data[..1])),
-            (&data[..8], &data[..4], &data[..1])
-        );
-    }
 
     /// A log whose appends wait until they are allowed, and pass on what they got.
     struct Gate {

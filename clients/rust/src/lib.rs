@@ -95,6 +95,7 @@ mod commands;
 pub mod connection;
 pub mod fabrics;
 mod foreign;
+pub mod journal;
 mod layout;
 mod lines;
 mod looks;

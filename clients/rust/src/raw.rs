@@ -245,6 +245,8 @@ pdu_calls! {
     buffers_list = nvmesim_buffers_list(list: &mut [u8; 248]) -> u64;
     buffers_submission_queue = nvmesim_buffers_submission_queue(qid: u16) -> u64;
     buffers_completion_queue = nvmesim_buffers_completion_queue(qid: u16) -> u64;
+    journal_lasts = nvmesim_journal_lasts(entry: &[u8; 64], is_admin: bool) -> bool;
+    journal_kept_length = nvmesim_journal_kept_length(head: &[u8; 2], is_admin: bool) -> u32;
 }
 
 /// Associations that are open.

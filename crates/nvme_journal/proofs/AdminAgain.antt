@@ -4,13 +4,11 @@ use Rattle.std.proofs.Common.{
   ℕ,
   ◌==◌,
   ◌&&◌,
-  Bool,
   true,
   false,
   List,
   [],
   ◌∷◌,
-  ◌++◌,
   Option,
   None,
   Some,
@@ -19,29 +17,17 @@ use Rattle.std.proofs.Common.{
   refl,
   sym,
   ap,
-  subst,
   ◌∙◌,
 }
-use Rattle.std.proofs.lemmas.Bool.{and_parts, eqb-true}
+use Rattle.std.proofs.lemmas.Bool.{eqb-true}
 use Rattle.nvme_wire.specs.Submission.{opcode, nsid}
 use Rattle.nvme_spec.specs.declared.command.AdminCommand.{AdminCommand}
-use Rattle.nvme_spec.specs.declared.command.AdminCommand.TheVariants.{
-  DeleteSubmissionQueue,
-  CreateSubmissionQueue,
-  DeleteCompletionQueue,
-  CreateCompletionQueue,
-  Identify,
-  SetFeatures,
-  GetFeatures,
-  NamespaceAttachment,
-}
-use Rattle.nvme_spec.specs.declared.pointer.DataFault.{DataFault}
+use Rattle.nvme_spec.specs.declared.command.AdminCommand.TheVariants.{SetFeatures, NamespaceAttachment}
 use Rattle.nvme_spec.specs.declared.queues.Queues.{Queues}
 use Rattle.nvme_spec.specs.AdminCommands.{
   command_of,
   cns,
   data_length_of,
-  exhid,
   fid,
   ncqr,
   nsqr,
@@ -65,18 +51,18 @@ use Rattle.nvme_spec.specs.AdminRules.{
   selection_rule,
   set_features_rule,
 }
-use Rattle.nvme_spec.specs.DataRules.{data_fault, fault_tests, pointer_rule}
+use Rattle.nvme_spec.specs.DataRules.{pointer_rule}
 use Rattle.nvme_spec.specs.ExistingQueues.{has_io_queue}
 use Rattle.nvme_spec.specs.IoRules.{form_rule}
 use Rattle.nvme_spec.specs.Rules.{Judgement, else_by, first_failing, judgement_by}
-use Rattle.nvme_spec.specs.World.{World, Namespace, host_of, namespace_of}
+use Rattle.nvme_spec.specs.World.{World, Namespace, namespace_of}
 use Rattle.nvme_spec.proofs.AdminDenials.{admin-refuses}
 use Rattle.nvme_spec.proofs.Denials.{JudgementRefuses}
 use Rattle.nvme_spec.proofs.Judgements.{first_failing-append}
 use Rattle.nvme_spec.proofs.Passing.{both}
 use Rattle.nvme_data_buffers.specs.Entries.{moved}
 use Rattle.nvme_journal.specs.Records.{is_success, lasts, lasts_by}
-use Rattle.nvme_journal.specs.Laws.{AdminRecordsSucceedAgain, AdminSucceedsAgain, IsSameCommand, ReachesData}
+use Rattle.nvme_journal.specs.Laws.{AdminRecordsSucceedAgain, IsSameCommand, ReachesData}
 use Rattle.nvme_journal.proofs.Again.{no-fault}
 use Rattle.nvme_journal.proofs.Worlds.{refused}
 
@@ -148,7 +134,8 @@ same-list (Some command) w e again sent read h lists = refl
 same-list None w e again sent read h lists = refl
 
 pub same-effect : (command : AdminCommand) (w : World) (e again sent read : List ℕ) → IsSameCommand e again
-    → listed_controllers read ≡ listed_controllers sent → world_after w command again read ≡ world_after w command e sent
+    → listed_controllers read ≡ listed_controllers sent
+    → world_after w command again read ≡ world_after w command e sent
 unfolding world_after fid wps
 same-effect NamespaceAttachment w e again sent read h lists =
     ap (world_of w) (same-attachment w e again sent read h lists)

@@ -2,7 +2,6 @@
 use Rattle.std.proofs.Common.{
   ◌≡◌,
   ℕ,
-  ◌==◌,
   ◌&&◌,
   Bool,
   true,
@@ -10,12 +9,10 @@ use Rattle.std.proofs.Common.{
   List,
   [],
   ◌∷◌,
-  ◌++◌,
   Option,
   None,
   Some,
   Ok,
-  Err,
   refl,
   sym,
   ap,
@@ -23,7 +20,7 @@ use Rattle.std.proofs.Common.{
   ◌∙◌,
 }
 use Rattle.std.specs.Prelude.{if◌then◌else◌}
-use Rattle.nvme_wire.specs.Submission.{opcode, nsid, cdw10, cdw11, cdw12}
+use Rattle.nvme_wire.specs.Submission.{opcode, nsid}
 use Rattle.nvme_wire.specs.declared.status.Status.{Status}
 use Rattle.nvme_spec.specs.declared.command.Command.{Command}
 use Rattle.nvme_spec.specs.declared.command.Command.TheVariants.{
@@ -33,7 +30,6 @@ use Rattle.nvme_spec.specs.declared.command.Command.TheVariants.{
 }
 use Rattle.nvme_spec.specs.declared.outcome.Outcome.{Outcome}
 use Rattle.nvme_spec.specs.declared.pointer.DataFault.{DataFault}
-use Rattle.nvme_spec.specs.declared.verdict.Plan.{Plan}
 use Rattle.nvme_spec.specs.declared.verdict.Verdict.{Verdict}
 use Rattle.nvme_spec.specs.declared.verdict.Verdict.TheVariants.{Allowed, Denied}
 use Rattle.nvme_spec.specs.Commands.{
@@ -51,33 +47,19 @@ use Rattle.nvme_spec.specs.Commands.{
   eds,
   data_length_of,
 }
-use Rattle.nvme_spec.specs.DataRules.{data_fault, fault_tests, pointer_rule}
+use Rattle.nvme_spec.specs.DataRules.{fault_tests, pointer_rule}
 use Rattle.nvme_spec.specs.Execution.{Scene, ExecutesBy, Performs, world_after}
 use Rattle.nvme_spec.specs.IoData.{
   action_outcome,
   action_rule,
   data_of,
   io_judgement,
-  io_rules,
   io_verdict,
-  key_outcome,
   outcome_in,
   reservation_outcome,
 }
-use Rattle.nvme_spec.specs.IoRules.{
-  access_rules,
-  attachment_rule,
-  conclusion,
-  field_rule,
-  form_rule,
-  mark_rule,
-  nsid_rule,
-  opcode_rule,
-  protection_rule,
-  range_rule,
-  reservation_rule,
-}
-use Rattle.nvme_spec.specs.Rules.{Judgement, Rule, else_by, first_failing, judgement_by}
+use Rattle.nvme_spec.specs.IoRules.{access_rules, conclusion, field_rule, form_rule, mark_rule, range_rule}
+use Rattle.nvme_spec.specs.Rules.{Judgement, else_by, first_failing, judgement_by}
 use Rattle.nvme_spec.specs.Reservation as resv
 use Rattle.nvme_spec.specs.World.{World, Namespace, host_of, namespace_of}
 use Rattle.nvme_spec.proofs.Denials.{VerdictRefuses, verdict-refuses}
@@ -85,7 +67,7 @@ use Rattle.nvme_spec.proofs.Judgements.{first_failing-append}
 use Rattle.nvme_spec.proofs.Passing.{both, passed, planned}
 use Rattle.nvme_data_buffers.specs.Entries.{moved}
 use Rattle.nvme_journal.specs.Records.{Command as Kept, carried_all, is_success, kept, lasts}
-use Rattle.nvme_journal.specs.Laws.{IoRecordsSucceedAgain, IsSameCommand, ReachesData, SucceedsAgain}
+use Rattle.nvme_journal.specs.Laws.{IoRecordsSucceedAgain, IsSameCommand, ReachesData}
 use Rattle.nvme_journal.proofs.Worlds.{io_commands_are_kept, lasts-so, refused}
 
 -- The rules on the same command.
@@ -118,7 +100,7 @@ same-outcome w k e again keys h =
     ∙ ap (λ n. outcome_in (command_of (opcode e)) (namespace_of w n) (host_of w k) again keys) h.nsid
     ∙ same-in (command_of (opcode e)) (namespace_of w (nsid e)) (host_of w k) e again keys h
 
--- A command that succeeded and lasts was allowed, and not marked.
+-- A command that succeeded and lasts was allowed and unmarked.
 
 pub record WasAllowed (w : World) (k : ℕ) (e window : List ℕ) (marked : Bool) : Type 0 where
   pub command : Command
@@ -212,8 +194,8 @@ kept-world s k e sent w success lasting =
     let yes : (is_success s && lasts false e) ≡ true = ap (λ b. b && lasts false e) success ∙ lasting in
     ap (λ (b : Bool). carried_all (if b then Kept k false e sent ∷ [] else []) w) yes
 
-pub same-after : (w there : World) (k : ℕ) (e again sent read : List ℕ) → there ≡ w → IsSameCommand e again → read ≡ sent
-    → after there k again read ≡ after w k e sent
+pub same-after : (w there : World) (k : ℕ) (e again sent read : List ℕ) → there ≡ w → IsSameCommand e again
+    → read ≡ sent → after there k again read ≡ after w k e sent
 same-after w there k e again sent read worlds h same =
     ap (λ x. world_after x (nsid again) (reservation_outcome x k again read)) worlds
     ∙ ap (λ d. world_after w (nsid again) (reservation_outcome w k again d)) same

@@ -1,12 +1,12 @@
 -- Records of the same commands with the same data have the same effect on the access state.
-use Rattle.std.proofs.Common.{◌≡◌, ℕ, Bool, true, false, List, [], ◌∷◌, Option, None, Some, refl, sym, ap, ◌∙◌}
+use Rattle.std.proofs.Common.{◌≡◌, ℕ, Bool, true, false, List, [], ◌∷◌, Option, None, Some, refl, ap, ◌∙◌}
 use Rattle.nvme_wire.specs.Submission.{opcode}
 use Rattle.nvme_spec.specs.declared.command.AdminCommand.{AdminCommand}
 use Rattle.nvme_spec.specs.AdminCommands.{command_of, fid}
 use Rattle.nvme_spec.specs.AdminRules.{listed_controllers}
 use Rattle.nvme_spec.specs.World.{World}
 use Rattle.nvme_journal.specs.Records.{Record, Command, Cycle, carried, carried_all, carried_by, lasts}
-use Rattle.nvme_journal.specs.Laws.{AllMatch, IsSameCommand, Matches, MatchingRecordsCarryAlike, ReadsTheSame}
+use Rattle.nvme_journal.specs.Laws.{IsSameCommand, Matches, MatchingRecordsCarryAlike, ReadsTheSame}
 use Rattle.nvme_journal.proofs.Again.{same-after}
 use Rattle.nvme_journal.proofs.AdminAgain.{same-effect}
 

@@ -2,7 +2,6 @@
 use Rattle.std.proofs.Common.{
   ◌≡◌,
   ◌≤◌,
-  ◌<◌,
   ◌+◌,
   ◌*◌,
   ◌-◌,
@@ -10,11 +9,9 @@ use Rattle.std.proofs.Common.{
   ℕ,
   zero,
   suc,
-  Bool,
   true,
   false,
   List,
-  [],
   ◌∷◌,
   Option,
   None,
@@ -27,7 +24,7 @@ use Rattle.std.proofs.Common.{
   ◌∙◌,
   arith,
 }
-use Rattle.std.specs.Prelude.{drop, slice_range, take}
+use Rattle.std.specs.Prelude.{drop, take}
 use Rattle.std.specs.Int.{w16, from_le_bytes}
 use Rattle.std.specs.List.{range_with_len}
 use Rattle.std.proofs.lemmas.List.{drop-append-le, drop-take, length-drop, length-take-le, take-append-le, take-take}
@@ -42,7 +39,7 @@ use Rattle.nvme_spec.specs.declared.command.Command.TheVariants.{
 use Rattle.nvme_spec.specs.AdminRules.{list_count, listed_controllers}
 use Rattle.nvme_spec.specs.Commands.{command_of, data_length_of, is_one_of, reserving}
 use Rattle.nvme_data_buffers.specs.Entries.{moved}
-use Rattle.nvme_journal.specs.Records.{kept_data, kept_length, lasts}
+use Rattle.nvme_journal.specs.Records.{kept_length, lasts}
 use Rattle.nvme_journal.specs.Laws.{KeptDataAreEnough, KeptListsAreEnough, TwoBytesAreEnough}
 
 -- I/O commands.

@@ -46,7 +46,7 @@ use Rattle.nvme_spec.specs.StatusLaws.{IsAmong, denials}
 use Rattle.nvme_spec.specs.World.{World, with_protection}
 use Rattle.nvme_spec.proofs.AdminDenials.{admin-refuses}
 use Rattle.nvme_spec.proofs.Denials.{JudgementRefuses, VerdictRefuses, verdict-refuses}
-use Rattle.nvme_spec.proofs.Passing.{HasPassed, has-passed, not_false}
+use Rattle.nvme_spec.proofs.Passing.{has-passed}
 use Rattle.nvme_spec.proofs.StatusLaws.{of-each}
 use Rattle.nvme_journal.specs.Records.{
   Record,

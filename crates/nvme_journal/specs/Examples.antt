@@ -1,7 +1,8 @@
 -- What the worked examples of records use: commands of one double word 10, and lists of controllers.
-use Rattle.std.specs.Prelude.{ℕ, Bool, true, false, List}
+use Rattle.std.specs.Prelude.{ℕ, Bool, true, false, List, [], ◌∷◌}
 use Rattle.nvme_wire.specs.Submission.{submission_entry}
-use Rattle.nvme_journal.specs.Records.{lasts}
+use Rattle.nvme_wire.specs.declared.status.Status.{Status}
+use Rattle.nvme_journal.specs.Records.{Record, Command, kept, lasts}
 
 -- the entry of a command on namespace 1
 abbrev pub entry : ℕ → ℕ → List ℕ
@@ -18,6 +19,13 @@ entry code dw10 = submission_entry (record {
   cdw14 = 0;
   cdw15 = 0;
 })
+
+-- what is kept of a command of controller 2 with one byte of data
+abbrev pub kept_after : Status → ℕ → List Record
+kept_after answer code = kept answer 2 false (entry code 0) (1 ∷ [])
+
+abbrev pub register : Record
+register = Command 2 false (entry 0x0d 0) (1 ∷ [])
 
 abbrev pub io_lasts : ℕ → Bool
 io_lasts code = lasts false (entry code 0)

@@ -11,7 +11,17 @@ use Rattle.nvme_spec.specs.Execution.{Scene, Executes}
 use Rattle.nvme_spec.specs.IoData as io
 use Rattle.nvme_spec.specs.World.{World}
 use Rattle.nvme_data_buffers.specs.Entries.{moved}
-use Rattle.nvme_journal.specs.Records.{Record, Command, Cycle, carried_all, is_success, kept, kept_data, kept_length, lasts}
+use Rattle.nvme_journal.specs.Records.{
+  Record,
+  Command,
+  Cycle,
+  carried_all,
+  is_success,
+  kept,
+  kept_data,
+  kept_length,
+  lasts,
+}
 
 -- An I/O command changes the access state as the journal says, whatever faults the medium has: not at all, if nothing
 -- is kept of it.

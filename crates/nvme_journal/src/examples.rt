@@ -2,8 +2,8 @@
 
 ghost use Rattle.std.specs.Prelude.{◌≡◌, true, false, [], ◌∷◌};
 ghost use Rattle.nvme_spec.specs.Statuses.{successful_completion, reservation_conflict};
-ghost use Rattle.nvme_journal.specs.Examples.{admin_lasts, entry, io_lasts};
-ghost use Rattle.nvme_journal.specs.Records.{Command, kept, kept_length};
+ghost use Rattle.nvme_journal.specs.Examples.{admin_lasts, io_lasts, kept_after, register};
+ghost use Rattle.nvme_journal.specs.Records.{kept_length};
 
 /// I/O commands: those on reservations last, and a report does not.
 #[tactic(auto, unfolding(crate::specs::Records::lasts, nvme_wire::specs::Submission::submission_entry, nvme_wire::specs::Submission::opcode, nvme_spec::specs::Commands::command_of))]
@@ -38,9 +38,9 @@ fn admin_commands()
 /// A command is kept if it succeeded and lasts.
 #[tactic(auto, unfolding(crate::specs::Records::lasts, nvme_wire::specs::Submission::submission_entry, nvme_wire::specs::Submission::opcode, nvme_spec::specs::Commands::command_of))]
 fn keeping()
-    ensures kept { kept successful_completion 2 false (entry 0x0d 0) (1 ∷ []) ≡ Command 2 false (entry 0x0d 0) (1 ∷ []) ∷ [] }
-    ensures denied { kept reservation_conflict 2 false (entry 0x0d 0) (1 ∷ []) ≡ [] }
-    ensures write { kept successful_completion 2 false (entry 0x01 0) (1 ∷ []) ≡ [] }
+    ensures kept { kept_after successful_completion 0x0d ≡ register ∷ [] }
+    ensures denied { kept_after reservation_conflict 0x0d ≡ [] }
+    ensures write { kept_after successful_completion 0x01 ≡ [] }
 {}
 
 /// A list of controllers is kept with its count, and two keys.

@@ -3,7 +3,7 @@
 #![tactic(auto)]
 
 mod examples;
-mod laws;
 mod lasting;
+mod laws;
 
 pub use lasting::{kept_length, lasts};

@@ -19,24 +19,21 @@ use Rattle.std.proofs.Common.{
   ◌∙◌,
 }
 use Rattle.std.specs.Prelude.{slice_get}
-use Rattle.nvme_spec.specs.AdminEffects.{admin_execution}
 use Rattle.nvme_spec.specs.Power.{cycled_world}
 use Rattle.nvme_spec.specs.World.{World}
 use Rattle.nvme_machine.specs.declared.event.Event.{Event}
 use Rattle.nvme_machine.specs.declared.event.Event.TheVariants.{Store, Write32, Read32, Fetch, Execute, PowerCycle}
 use Rattle.nvme_machine.specs.declared.fetched.FetchedCommand.{FetchedCommand}
-use Rattle.nvme_machine.specs.declared.seen.Executed.TheVariants.{Posted, NoSuch, CqFull}
+use Rattle.nvme_machine.specs.declared.seen.Executed.TheVariants.{NoSuch, CqFull}
 use Rattle.nvme_machine.specs.declared.seen.Seen.{Seen}
 use Rattle.nvme_machine.specs.declared.seen.Seen.TheVariants.{Executed, NoController}
 use Rattle.nvme_machine.specs.CommandExecutions.{CommandExecution, CommandComesTo, CommandComesToAs}
 use Rattle.nvme_machine.specs.Controllers.{Controller, QueuePair, Reaction, open_pair, queues_of}
 use Rattle.nvme_machine.specs.Subsystems.{
-  Completes,
   ExecutesAt,
   ExecutesOne,
   ExecutesOver,
   ReactsAs,
-  Run,
   Step,
   Subsystem,
   after_execution,
@@ -53,7 +50,6 @@ use Rattle.nvme_target.specs.Journals.{
   JournalRestoresTheAccessState,
   data_of,
   journal,
-  kept_at,
   kept_by,
   kept_if,
   kept_of,

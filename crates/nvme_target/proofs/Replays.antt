@@ -1,25 +1,5 @@
 -- A command that was kept succeeds again, and the same is kept of it.
-use Rattle.std.proofs.Common.{
-  ◌≡◌,
-  ◌≢◌,
-  ℕ,
-  ◌==◌,
-  ◌&&◌,
-  Bool,
-  true,
-  false,
-  List,
-  [],
-  ◌∷◌,
-  Option,
-  None,
-  Some,
-  refl,
-  sym,
-  ap,
-  subst,
-  ◌∙◌,
-}
+use Rattle.std.proofs.Common.{◌≡◌, ◌≢◌, ℕ, ◌==◌, ◌&&◌, Bool, true, false, List, [], ◌∷◌, refl, sym, ap, subst, ◌∙◌}
 use Rattle.std.specs.Prelude.{if◌then◌else◌}
 use Rattle.std.proofs.lemmas.Bool.{and_parts}
 use Rattle.nvme_wire.specs.declared.status.Status.{Status}
@@ -31,14 +11,14 @@ use Rattle.nvme_machine.specs.declared.seen.Seen.{Seen}
 use Rattle.nvme_machine.specs.CommandExecutions.{CommandExecution, CommandComesTo, CommandComesToAs}
 use Rattle.nvme_machine.specs.Controllers.{Controller, QueuePair, queues_of}
 use Rattle.nvme_machine.specs.Runs.{Waits}
-use Rattle.nvme_machine.specs.Subsystems.{Completes, Step, Subsystem, scene_of}
+use Rattle.nvme_machine.specs.Subsystems.{Completes, Subsystem, scene_of}
 use Rattle.nvme_machine.proofs.Denials.{completion}
 use Rattle.nvme_journal.specs.Records.{Command, Record, carried_all, is_success, kept, lasts}
 use Rattle.nvme_journal.specs.Laws.{AllMatch, IsSameCommand, ReachesData, ReadsTheSame}
 use Rattle.nvme_journal.proofs.Alike.{matching_records_carry_alike, same-lasts}
 use Rattle.nvme_journal.proofs.Again.{io_records_succeed_again}
 use Rattle.nvme_journal.proofs.AdminAgain.{admin_records_succeed_again}
-use Rattle.nvme_target.specs.Journals.{IsReplay, KeptCommandsSucceedAgain, data_of, kept_at, kept_by, kept_if, kept_of}
+use Rattle.nvme_target.specs.Journals.{KeptCommandsSucceedAgain, data_of, kept_at, kept_by, kept_of}
 use Rattle.nvme_target.proofs.Journals.{step}
 
 -- What is kept, if something is.

@@ -11,6 +11,7 @@ pub mod connections;
 pub mod ending;
 mod examples;
 mod handle;
+pub mod journals;
 mod laws;
 pub mod opening;
 pub mod parts;

@@ -35,7 +35,7 @@ class Trial:
         self.archive = self.prefix / "lib" / "libnvmesim.a"
         self.sources = [self.clients / "tests" / f"{it}.c"
                         for it in ("library", "needs", "brought", "pdus", "connections", "transfers", "responses",
-                                   "buffers", "placing", "hosts")]
+                                   "buffers", "journals", "placing", "hosts")]
 
     def check(self, what, problem):
         if problem:

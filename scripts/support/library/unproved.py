@@ -214,7 +214,8 @@ def archive(top: Path) -> Path:
             kit.is_free.set()
             for name, folder in copies(top, room).items():
                 kit.crates[name].folder = str(folder)
-            used = (TCP, "nvme_pdu", "nvme_connection", "nvme_transfers", "nvme_responses", "nvme_data_buffers")
+            used = (TCP, "nvme_pdu", "nvme_connection", "nvme_transfers", "nvme_responses", "nvme_data_buffers",
+                    "nvme_journal")
             kit.crates[CRATE].deps += [kit.crates[it] for it in used]
             unproved.kept_module(kit, CRATE, room)
         except (unproved.NotBuilt, unproved.toolchain.NoToolchain) as error:

@@ -1,6 +1,5 @@
-use Rattle.std.proofs.Common.{◌≡◌, inl, inr, ℕ, ap, refl, arith}
-use Rattle.nvme_machine.specs.declared.event.Event.{Event}
-use Rattle.nvme_machine.specs.declared.event.Event.TheVariants.{Store, Write32, Read32, Fetch, Execute, PowerCycle}
+use Rattle.std.proofs.Common.{◌≡◌, inl, inr, ap, refl, arith}
+use Rattle.nvme_machine.specs.declared.event.Event.TheVariants.{Read32}
 use Rattle.nvme_machine.specs.Subsystems.{controller_of}
 use Rattle.nvme_target.specs.Causes.{IsAccess}
 use Rattle.nvme_target.specs.Examples.{resets, executes}
