@@ -23,7 +23,7 @@ TYPES = {
     "[Notice; 64]": ["nvmesim_notice[64]"], "[u32; 8]": ["uint32_t[8]"],
     "&Agreed": ["const nvmesim_pdu_agreed *"], "Agreed": ["nvmesim_pdu_agreed"], "LayoutSeen": ["nvmesim_pdu_layout"],
     "PduFields": ["nvmesim_pdu_fields"], "&[u8; 8]": ["const uint8_t *"], "&[u8; 16]": ["const uint8_t *"],
-    "&[u8; 24]": ["const uint8_t *"], "&[u8; 128]": ["const uint8_t *"], "&mut [u8; 24]": ["uint8_t *"],
+    "&[u8; 2]": ["const uint8_t *"], "&[u8; 24]": ["const uint8_t *"], "&[u8; 128]": ["const uint8_t *"], "&mut [u8; 24]": ["uint8_t *"],
     "&mut [u8; 128]": ["uint8_t *"], "&mut [u8; 248]": ["uint8_t *"], "&[u8; 1024]": ["const uint8_t *"], "[u8; 128]": ["uint8_t[128]"],
     "[u8; 256]": ["uint8_t[256]"], "[u32; 16]": ["uint32_t[16]"], "&[HostId]": ["const nvmesim_host_id *", "size_t"],
     "&RawConnection": ["const nvmesim_connection *"], "&mut RawConnection": ["nvmesim_connection *"],

@@ -24,7 +24,7 @@ EXPORT = re.compile(r'pub extern "C" fn (nvmesim_\w+)\(([^)]*)\)')
 # The values of the calls. None is known before the program runs, so that nothing is computed from them.
 VALUES = {"Global": "alloc", "&mut Handle": "&mut sim", "u8": "n as u8", "u16": "n as u16", "u32": "n as u32",
           "u64": "n as u64", "usize": "n", "bool": "n == 3", "&[u8]": "&bytes", "&mut [u8]": "&mut room",
-          "&[u8; 64]": "&entry", "&mut [u8; 16]": "&mut completion", "&[Controller]": "&controllers",
+          "&[u8; 64]": "&entry", "&[u8; 2]": "&[n as u8; 2]", "&mut [u8; 16]": "&mut completion", "&[Controller]": "&controllers",
           "&[Namespace]": "&namespaces", "&[Attached]": "&attached",
           "&mut [Controller]": "&mut controllers", "&mut [Namespace]": "&mut namespaces",
           "&mut [Attached]": "&mut attached", "&Event": "&event", "&Answer": "&answer",
