@@ -10,10 +10,8 @@ use crate::layout::{
     Notices, PartTaken, Parts, PduFields, PduLayout, Placed, Queue, QueueConnection, Read, Registered, Request,
     Session, Sim, Taken, Transfers, Verdict, Written,
 };
-use crate::pdu::Agreed;
 use crate::responses::{Raw, Reply};
-use crate::transfers::Part;
-use crate::{Attachment, Controller, Namespace};
+use crate::{pdu::Agreed, transfers::Part, Attachment, Controller, Namespace};
 #[cfg(target_arch = "x86_64")]
 use std::arch::x86_64::{_mm_prefetch, _MM_HINT_T0};
 use std::marker::PhantomData;
