@@ -82,6 +82,14 @@ class Copies(OneCrate):
         self.assertEqual(first, "use Rattle.one.proofs.C0OneShut.{witness as c0}")
         self.assertEqual(functions, ["all_copies::w", "c0::w"])
 
+    def test_a_definition_for_proofs(self):
+        # The original of one would be of the definition as it is.
+        more = "\nabbrev pub all_shut : ℕ\nall_shut = shut 0\n\npub by_all : all_shut ≡ 4\nunfolding shut\nby_all = refl\n"
+        self.write({"proofs/Shut.antt": CRATE["proofs/Shut.antt"] + more})
+        self.read()
+        texts = self.copy("shut", "by_all").texts()
+        self.assertIn("abbrev pub all_shut : ℕ\nall_shut = shut 0\n", texts["proofs/C0OneShut.antt"])
+
     def test_noticed(self):
         self.assertEqual(self.outcomes({"each#same wrong": REFUSED}, "same"),
                          ([("noticed", "each#same")], [["each#same", "each#same wrong"]]))

@@ -28,12 +28,14 @@ ALL = "use Rattle.std.proofs.Common.{◌≡◌, true, refl}\n\npub all : true �
 
 
 class Seeing:
-    """Which items see a definition: by what they say, or in the body of a definition."""
+    """Which items see a definition: by what they say, or in the body of a definition, which may be one for proofs."""
 
     def __init__(self, sources):
         self.users, self.found = {}, {}
+        opened = {one for item in sources.items for one in item.opens}
         for item in sources.items:
-            for it in item.shown | (item.inner if item.kind == "specs" else set()):
+            is_definition = item.kind == "specs" or item.kind == "proofs" and (item.is_open or item in opened)
+            for it in item.shown | (item.inner if is_definition else set()):
                 self.users.setdefault(it, []).append(item)
 
     def of(self, definition):
