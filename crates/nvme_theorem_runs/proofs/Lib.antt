@@ -7,6 +7,7 @@ pub mod PreemptingRuns
 pub mod MediumRuns
 pub mod EachEventRuns
 pub mod WireRuns
+pub mod JournalRuns
 pub mod PowerRuns
 pub mod QueueRuns
 pub mod RunningRuns

@@ -20,10 +20,8 @@ use Rattle.std.proofs.Common.{
 use Rattle.std.proofs.lemmas.Option.{none-some}
 use Rattle.nvme_spec.specs.Configuration.{capacity, config_fault, empty_configuration}
 use Rattle.nvme_spec.specs.World.{World as Access, host_of, opening_world}
-use Rattle.nvme_machine.specs.declared.event.Event.{Event}
 use Rattle.nvme_machine.specs.declared.event.Event.TheVariants.{Execute, PowerCycle}
-use Rattle.nvme_machine.specs.FaultFree.{fault_free_left, fault_free_seen, fault_free_step}
-use Rattle.nvme_machine.specs.FaultFreeCalls.{event_calls}
+use Rattle.nvme_machine.specs.FaultFree.{fault_free_left, fault_free_seen}
 use Rattle.nvme_fabrics.specs.declared.session.Session.TheVariants as session
 use Rattle.nvme_fabrics.specs.Associations.{io_fits, fits}
 use Rattle.nvme_fabrics.specs.Examples.{hosts, named}
@@ -38,8 +36,7 @@ use Rattle.nvme_target.proofs.Wire.{fencing_holds_over_the_wire}
 use Rattle.nvme_theorem_runs.specs.Cluster.{pair, cluster}
 use Rattle.nvme_theorem_runs.specs.EachEvent.{all_events, both_write, front}
 use Rattle.nvme_theorem_runs.specs.Wire.{four_queues, WireAtWork, WireOfAnyController, WireOfAnyHosts}
-use Rattle.nvme_theorem_runs.proofs.Computing.{apart}
-use Rattle.nvme_theorem_runs.proofs.EachEventRuns.{both-laid, now_of, the_cut, alone, first-bytes}
+use Rattle.nvme_theorem_runs.proofs.EachEventRuns.{now_of, the_cut}
 use Rattle.nvme_theorem_runs.proofs.Unfolding.{computing}
 
 abbrev now : World

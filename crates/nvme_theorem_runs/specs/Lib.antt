@@ -5,6 +5,7 @@ pub mod Preempting
 pub mod Medium
 pub mod EachEvent
 pub mod Wire
+pub mod Journals
 pub mod Power
 pub mod Queues
 pub mod Running

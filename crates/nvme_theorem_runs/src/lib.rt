@@ -5,6 +5,7 @@
 mod drivers;
 mod fencing;
 mod fleets;
+mod journals;
 mod medium;
 mod power;
 mod preempting;
