@@ -35,10 +35,15 @@ use std::thread;
 use std::time::Duration;
 use superblock::{Chosen, Owner, Superblock, BLOCKS_AT, COPIES, HALF, MAGIC};
 
-/// How long an owner that has ended in order is waited for: another target may have read that at the same time.
+/// The longest time that a target waits if the last owner has ended: another may have read that at the same time.
 const SETTLING: Duration = Duration::from_millis(300);
 /// How much longer than a lease its end is waited for, in parts of it: clocks may differ.
 const MARGIN: u32 = 10;
+
+/// How long a target waits if the last owner has ended: no longer than another takes to notice that it has lost its lease.
+fn settling(lease: Duration) -> Duration {
+    lease::renewal(lease).min(SETTLING)
+}
 
 /// Whether a path is a volume, or a block device that should be one, and no CONFIG.
 pub fn is_volume(path: &Path) -> bool {
@@ -137,12 +142,14 @@ impl Volume {
     }
 
     /// Waits until the last owner serves no more. A process of this machine has ended, since its lock has. An owner that
-    /// has begun at the same time, without seeing this one, is seen after the wait.
+    /// has begun at the same time, without seeing this one, has written its name within the settling time or waits for
+    /// a whole lease. So this target sees it after the settling time, or it sees this target.
     fn wait_out(&self, before: &Superblock, me: &Owner, begun: Duration) {
         let ended = |it: &Owner| it.boot == me.boot && it.place == me.place;
         let is_ended = before.owner.as_ref().map_or(true, ended);
-        if is_ended && time_since_boot().saturating_sub(begun) < SETTLING {
-            return thread::sleep(SETTLING);
+        let settling = settling(before.lease);
+        if is_ended && time_since_boot().saturating_sub(begun) < settling {
+            return thread::sleep(settling);
         }
         let owner = before.owner.as_ref().map_or("the last owner", |it| &it.name);
         warn(format_args!("{}: waits until the lease of {owner} has ended", self.image.path.display()));
@@ -323,6 +330,12 @@ mod tests {
         let text = opened(&path).err().map(|it| it.to_string()).unwrap_or_default();
         assert!(text.starts_with("its journal: it is of epoch 1, and the superblock of 0"), "{text}");
         fs::remove_file(path).unwrap();
+    }
+
+    #[test]
+    fn a_short_lease_settles_sooner() {
+        let times = [1, 2, 4, 60].map(|seconds| settling(Duration::from_secs(seconds)).as_millis());
+        assert_eq!(times, [125, 250, 300, 300]);
     }
 
     #[test]

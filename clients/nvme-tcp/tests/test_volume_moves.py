@@ -128,6 +128,12 @@ class Takeovers(VolumeTest):
     def test_two_at_once(self) -> None:
         """Targets of two machines start at once over a volume that nobody has: one of them serves."""
         self.first.close()
+        for lease in ("1", "4"):
+            with self.subTest(lease=lease):
+                self.format("--force", "--lease", lease)
+                self.start_two()
+
+    def start_two(self) -> None:
         words = [PROGRAM, "--listen", "127.0.0.1:0", str(self.volume)]
         environments = [dict(os.environ), {**os.environ, "LD_PRELOAD": self.elsewhere()}]
         processes = [subprocess.Popen(words, env=it, stdout=subprocess.DEVNULL, stderr=subprocess.PIPE, text=True)

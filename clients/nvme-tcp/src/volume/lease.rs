@@ -21,6 +21,11 @@ const SECONDS: RangeInclusive<u64> = 1..=60;
 /// How often it is renewed while it lasts.
 const RENEWALS: u32 = 8;
 
+/// The time between two renewals of a lease.
+pub fn renewal(lease: Duration) -> Duration {
+    lease / RENEWALS
+}
+
 /// The value of `--lease`.
 pub fn lease_of(text: &str) -> Result<Duration, UsageError> {
     let seconds = text.parse().ok().filter(|it| SECONDS.contains(it));
@@ -50,7 +55,7 @@ impl Lease {
         }
         lease.check()?;
         let theirs = Arc::downgrade(&lease);
-        thread::Builder::new().name("lease".to_owned()).spawn(move || keep(&theirs, length / RENEWALS))?;
+        thread::Builder::new().name("lease".to_owned()).spawn(move || keep(&theirs, renewal(length)))?;
         Ok(lease)
     }
 
