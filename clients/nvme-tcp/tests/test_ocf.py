@@ -12,7 +12,7 @@ from tests.volumes import VolumeTest
 
 AGENT = Path(__file__).resolve().parent.parent / "ocf/nvmetcp"
 OCF = Path("/usr/lib/ocf")
-NO_ERROR, GENERIC, NOT_INSTALLED, NOT_RUNNING = 0, 1, 5, 7
+NO_ERROR, GENERIC, NOT_INSTALLED, NOT_CONFIGURED, NOT_RUNNING = 0, 1, 5, 6, 7
 
 
 @unittest.skipUnless((OCF / "lib/heartbeat/ocf-shellfuncs").exists() and os.geteuid() == 0, "it needs Debian's package")
@@ -40,6 +40,18 @@ class Agent(VolumeTest):
                          [GENERIC, NO_ERROR, NOT_RUNNING])
         self.assertEqual([self.act("start"), self.act("stop")], [NO_ERROR] * 2)
         self.assertIn("owner nobody", self.passes("dump", self.volume))
+
+    def test_a_start_that_fails(self) -> None:
+        """The result says whether another machine can serve: not with wrong options, but if this volume is damaged."""
+        self.format()
+        other = self.target()
+        self.assertEqual([self.act("start"), self.act("monitor")], [GENERIC, NOT_RUNNING])
+        other.close()
+        self.settings["options"] = "--listen nowhere"
+        self.assertEqual([self.act("start"), self.act("monitor")], [NOT_CONFIGURED, NOT_RUNNING])
+        self.volume.write_bytes(self.volume.read_bytes()[:-1024 * 1024])
+        self.settings["options"] = "--listen 127.0.0.1:0"
+        self.assertEqual([self.act("start"), self.act("monitor")], [NOT_INSTALLED, NOT_RUNNING])
 
     @unittest.skipUnless(shutil.which("cc"), "there is no cc")
     def test_a_thread_that_is_left(self) -> None:
