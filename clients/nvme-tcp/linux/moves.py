@@ -177,6 +177,8 @@ class Moves(Pair):
 @contextlib.contextmanager
 def machines(built: Path, folder: Path, opens: Callable[[Moves], None] = Moves.open_hosts) -> Iterator[Moves]:
     """Both machines with the target on t1, and what opens it: hosts that write."""
+    # In the scene's network nothing can be fetched.
+    nodes_image(built)
     with network_namespace(*MACHINES, INITIATOR):
         it = Moves(built, folder)
         try:
