@@ -13,7 +13,7 @@ CONFLICTS = (0x4083, 0x401b)
 # Seconds until a host gives a command up, and those between its commands.
 GIVE_UP, PAUSE = 1.0 * SLOW, 0.05
 # Seconds until a host that connects tries again: a machine without the address does not answer.
-TRY = 0.25 * SLOW
+TRY = 0.1 * SLOW
 
 
 class Expected:
@@ -55,9 +55,7 @@ class Writer(threading.Thread):
 
     def connected(self) -> Host:
         if self.host is None:
-            self.host = Host(self.place, self.number, timeout=TRY)
-            for it in (self.host.admin, *self.host.queues):
-                it.socket.settimeout(GIVE_UP)
+            self.host = Host(self.place, self.number, timeout=GIVE_UP, reach=TRY)
         return self.host
 
     def run(self) -> None:

@@ -76,12 +76,14 @@ Place = Union[int, Tuple[str, int]]
 
 
 class Connection:
-    """A connection that sends and receives whole PDUs. `digests` as in ICReq."""
+    """A connection that sends and receives whole PDUs. `digests` as in ICReq, `timeout` for each answer, and `reach`
+    for TCP's connect(2) if that has another."""
 
     def __init__(self, port: Place, digests: int = 0, alignment: int = 0, opens: bool = True,
-                 timeout: float = 20) -> None:
+                 timeout: float = 20, reach: Optional[float] = None) -> None:
         place = port if isinstance(port, tuple) else ("127.0.0.1", port)
-        self.socket = socket.create_connection(place, timeout=timeout)
+        self.socket = socket.create_connection(place, timeout=reach or timeout)
+        self.socket.settimeout(timeout)
         self.socket.setsockopt(socket.IPPROTO_TCP, socket.TCP_NODELAY, 1)
         self.come = bytearray()
         self.digests, self.alignment = digests, alignment
@@ -140,8 +142,8 @@ class Queue(Connection):
     """A queue. `call` sends a command and waits for its completion; `send_command` and `completion` are its halves."""
 
     def __init__(self, port: Place, digests: int = 0, alignment: int = 0, part: int = 32768,
-                 timeout: float = 20) -> None:
-        super().__init__(port, digests, alignment, timeout=timeout)
+                 timeout: float = 20, reach: Optional[float] = None) -> None:
+        super().__init__(port, digests, alignment, timeout=timeout, reach=reach)
         self.next_cid, self.part = 0, part
         self.came: Dict[int, bytes] = {}
         self.going: Dict[int, bytes] = {}
