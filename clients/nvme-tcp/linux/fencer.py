@@ -1,6 +1,7 @@
 """The power switch of guests: fence_guest in a guest asks it to end another guest's QEMU process."""
 import socket
 import threading
+import time
 from typing import Callable
 
 # The port that it listens at, for guests at 10.0.2.2.
@@ -12,12 +13,12 @@ PATIENCE = 10.0
 class Fencer(threading.Thread):
     """Answers lines ACTION GUEST. `kill` returns after the guest has ended; only then `off` and `reboot` are answered.
 
-    `fenced` has the guests that it has killed, in order.
+    `fenced` has the guests that it has killed, in order, and `times` when they had ended.
     """
 
     def __init__(self, kill: Callable[[str], bool], port: int = PORT) -> None:
         super().__init__(daemon=True)
-        self.kill, self.fenced = kill, []
+        self.kill, self.fenced, self.times = kill, [], []
         self.server = socket.create_server(("", port))
         self.port = self.server.getsockname()[1]
 
@@ -45,6 +46,7 @@ class Fencer(threading.Thread):
             return "refused"
         if not self.kill(words[1]):
             return "refused"
+        self.times.append(time.monotonic())
         self.fenced.append(words[1])
         return "done"
 

@@ -12,13 +12,17 @@ from linux.network import tap
 from linux.writers import Writer
 
 CONNECT = f"nvme connect -t tcp -a {ADDRESS[0]} -s {ADDRESS[1]} -n $nqn $me --reconnect-delay=1 --ctrl-loss-tmo=1800"
-# Eight files in turn. A number and the time are kept after fsync has returned.
+# The files that Linux writes in turn: as many that some of before a failure are left at the end.
+FILES = 600
+# A number and the time are kept after fsync has returned.
 WRITE = "echo 0 0 >/room/synced; { n=0; while [ ! -e /room/end ]; do n=$((n + 1)); echo file $n | " \
-    "dd of=/disk/$((n % 8)) conv=fsync 2>/dev/null && echo $n $(cut -d' ' -f1 /proc/uptime) >>/room/synced; done; } &"
+    f"dd of=/disk/$((n % {FILES})) conv=fsync 2>/dev/null && " \
+    "echo $n $(cut -d' ' -f1 /proc/uptime) >>/room/synced; done; } &"
 PAUSE = "awk 'NR > 2 && $2 - last > most { most = $2 - last } { last = $2 } END { print most, \"s\" }' /room/synced"
 ENDED = "touch /room/end; wait; n=$(tail -n 1 /room/synced | cut -d' ' -f1); umount /disk; " \
     "mount -t ext4 /dev/nvme0n1 /disk"
-READ = 'lost=0; for m in $(seq $((n - 7)) $n); do [ "$(cat /disk/$((m % 8)))" = "file $m" ] || lost=$((lost + 1)); done'
+READ = f"lost=0; m=$((n > {FILES} ? n - {FILES} : 0)); echo from $((m + 1)); while [ $m -lt $n ]; do m=$((m + 1)); " \
+    f"read -r text </disk/$((m % {FILES})) && [ \"$text\" = \"file $m\" ] || lost=$((lost + 1)); done; echo lost $lost"
 CHECK = "umount /disk && e2fsck -fn /dev/nvme0n1; echo status $?"
 
 
@@ -57,8 +61,10 @@ def mounted(built: Path, folder: Path) -> None:
         it.wants(f"files were written before, {before}", before > 0)
         pause = guest.run(PAUSE, SETTLED).splitlines()[-1]
         say(f"the longest pause of Linux between two files: {pause}")
-        text = guest.run(f"{ENDED}; {READ}; echo lost $lost", SETTLED)
-        it.wants("each file that was synced is there", "lost 0" in text)
+        text = guest.run(f"{ENDED}; {READ}", SETTLED)
+        it.wants("each file that was synced is there", "\nlost 0" in text)
+        first = int(re.findall(r"\nfrom (\d+)", text)[-1])
+        it.wants(f"files from {first} on were read, and {before} were synced before t1 was killed", first <= before)
         it.wants("e2fsck finds nothing wrong", "status 0" in guest.run(CHECK, SETTLED))
 
 

@@ -32,6 +32,9 @@ OUTSIDER, LATE_KEY, LATE_PLACES = 0xc3, 0xc, range(0, 140)
 INITIATOR = "a1"
 # Seconds in which a broken power switch sees whether a machine is off.
 UNSWITCHED = 50
+# How many answers each host has before a failure and after it, so that the checks are about something; and how many
+# blocks it reads, when it connects again, that it had written.
+ANSWERS, READ_BACK = 10, 5
 
 
 def formatted(folder: Path) -> Path:
@@ -103,8 +106,11 @@ class Moves(Pair):
         self.wait_for_answers("t1", time.monotonic())
 
     def wait_for_answers(self, name: str, begun: float) -> None:
-        """Waits until each host has an answer to what it asked for after a moment."""
-        self.wait_until("each host is answered", lambda: all(it.is_answered(begun) for it in self.writers), name)
+        """Waits until each host has answers of a machine to what it asked for after a moment."""
+        def are_answered() -> bool:
+            hosts = all(it.is_answered(begun, ANSWERS) for it in self.writers)
+            return hosts and len(self.watch.seen[name]) >= ANSWERS
+        self.wait_until(f"each host has {ANSWERS} answers", are_answered, name)
 
     def moved(self, begun: float, is_fenced: bool = True) -> None:
         """The target moves from t1 to t2."""
@@ -113,7 +119,8 @@ class Moves(Pair):
         self.serves("t2")
         self.wants("t1 was fenced" if is_fenced else "no machine was fenced",
                    set(self.fencer.fenced) == ({"t1"} if is_fenced else set()))
-        if is_fenced:
+        if is_fenced and self.fencer.fenced:
+            self.wants("t2 answered nobody until then", self.watch.first_answer("t2") > self.fencer.times[0])
             self.guests["t2"].run("stonith_admin --history t1 --verbose | grep successful", SETTLED)
         self.say_outages(begun)
 
@@ -122,7 +129,7 @@ class Moves(Pair):
         ends, lengths = (", ".join(f"{it.outage(begun)[which]:.1f} for {it.number:x}" for it in self.writers)
                          for which in (0, 1))
         say(f"seconds from then to the first answer of t2: {ends}; the token is {TOKEN} ms, the lease {LEASE} s")
-        say(f"seconds without an answer: {lengths}; a host tries again after {TRY} s; load {os.getloadavg()[0]:.0f}")
+        say(f"seconds without an answer: {lengths}; a host tries again after {TRY:.2g} s; load {os.getloadavg()[0]:.0f}")
 
     def end(self) -> None:
         """The hosts end, and read what they wrote."""
@@ -138,7 +145,9 @@ class Moves(Pair):
         blocks = b"".join(host.read(it, 64).data for it in range(0, 256, 64))
         host.close()
         for it in self.permitted():
-            faults = it.expected.faults(blocks)
+            faults, count = it.expected.faults(blocks), max(it.read_back, default=0)
+            self.wants(f"host {it.number:x} has connected again, and read {count} blocks that it had written",
+                       count >= READ_BACK)
             self.wants(f"host {it.number:x} reads what was answered, or what it asked for later {faults}", not faults)
 
     def permitted(self) -> List[Writer]:
@@ -147,8 +156,11 @@ class Moves(Pair):
 
     def judge(self) -> None:
         """What holds after the machines are gone: the blocks of the volume, and those of the kept scripts."""
-        order = turns(self.watch.seen)
+        order, counts = turns(self.watch.seen), [len(it) for it in self.watch.seen.values()]
         self.wants(f"one target at a time has answered: {order}", order == ["t1", "t2"])
+        silent = sum(it > self.watch.first_answer("t2") for it in self.watch.silent["t1"]) if all(counts) else 0
+        self.wants(f"t1 and t2 gave {counts} answers, and t1 none {silent} times after the first of t2",
+                   min(counts) >= ANSWERS and silent > 0)
         blocks, unsure = self.copies()[-1].read_bytes()[BLOCKS_AT:], set()
         for it in self.permitted():
             self.wants(f"the volume has the blocks of host {it.number:x}", not it.expected.faults(blocks))
@@ -170,7 +182,9 @@ class Moves(Pair):
             with open(kept, "rb") as lines:
                 ran = subprocess.run([LIVE, str(image)], stdin=lines, stdout=subprocess.PIPE, text=True)
             answers, told = ran.stdout.split("started\n", 1)[-1], Path(f"{kept}.out").read_text().rstrip("\0")
-            self.wants(f"the {told.count(chr(10))} events of {name} give the same again", answers.startswith(told))
+            count = told.count("\n")
+            self.wants(f"the {count} events of {name} give the same again",
+                       answers.startswith(told) and count >= ANSWERS * len(self.writers))
         return image.read_bytes()
 
 

@@ -3,7 +3,7 @@ import random
 import struct
 import threading
 import time
-from typing import Dict, List, Optional, Sequence, Tuple
+from typing import Dict, List, Optional, Sequence, Set, Tuple
 
 from linux.machines import SLOW
 from tests.host import BLOCK, Ended, Host, Place, Queue
@@ -21,12 +21,26 @@ class Expected:
 
     def __init__(self) -> None:
         self.may: Dict[int, List[bytes]] = {}
+        # Blocks that were read after a write without an answer, and not written since.
+        self.settled: Set[int] = set()
 
     def asks(self, place: int, content: bytes) -> None:
         self.may.setdefault(place, [bytes(BLOCK)]).append(content)
 
     def answered(self, place: int, content: bytes) -> None:
         self.may[place] = [content]
+        self.settled.discard(place)
+
+    def found(self, blocks: bytes) -> int:
+        """A host reads all blocks after it has connected again. They must stay as they are. Returns how many of them
+        have what was answered before."""
+        answered = [it for it, contents in self.may.items() if len(contents) == 1]
+        for it, contents in self.may.items():
+            block = blocks[BLOCK * it:BLOCK * (it + 1)]
+            if len(contents) > 1 and block in contents:
+                self.may[it] = [block]
+                self.settled.add(it)
+        return len(answered)
 
     def faults(self, blocks: bytes) -> List[str]:
         """A line for each block that is none of what it may be."""
@@ -34,13 +48,15 @@ class Expected:
         return [f"block {it} has lost what was answered" for it in sorted(wrong)]
 
     def unsure(self) -> List[int]:
-        return [it for it, contents in self.may.items() if len(contents) > 1]
+        """The blocks whose last write has no answer."""
+        return [it for it, contents in self.may.items() if len(contents) > 1 or it in self.settled]
 
 
 class Writer(threading.Thread):
     """A host that writes to its places until it is closed, and connects again by itself.
 
-    One that is fenced must be answered a conflict each time. `faults` has what must not be.
+    It then reads its places before it writes: answered writes must be there. One that is fenced must be answered a
+    conflict each time. `faults` has what must not be.
     """
 
     def __init__(self, place: Place, host: int, places: Sequence[int], is_fenced: bool = False) -> None:
@@ -52,11 +68,26 @@ class Writer(threading.Thread):
         # When each answered command was sent, and when it was answered; and the faults.
         self.answers: List[Tuple[float, float]] = []
         self.faults: List[str] = []
+        # How many blocks with answered writes it has read after it connected again, each time.
+        self.read_back: List[int] = []
 
     def connected(self) -> Host:
         if self.host is None:
             self.host = Host(self.place, self.number, timeout=GIVE_UP, reach=TRY)
+            if self.expected.may:
+                self.read()
         return self.host
+
+    def read(self) -> None:
+        """Checks that what was answered before is there."""
+        first = min(self.places)
+        completion = self.host.read(first, len(self.places))
+        if completion.status:
+            self.faults.append(f"a read of {self.number:x} is answered {completion.status:#x}")
+            return
+        blocks = bytes(BLOCK * first) + completion.data
+        self.faults += [f"{it}, when host {self.number:x} connects again" for it in self.expected.faults(blocks)]
+        self.read_back.append(self.expected.found(blocks))
 
     def run(self) -> None:
         while not self.is_closed:
@@ -86,9 +117,9 @@ class Writer(threading.Thread):
             self.host.close()
             self.host = None
 
-    def is_answered(self, begun: float) -> bool:
-        """Whether a command that was sent after a moment has an answer."""
-        return any(sent > begun for sent, _ in self.answers[-1:])
+    def is_answered(self, begun: float, count: int = 1) -> bool:
+        """Whether this many commands that were sent after a moment have an answer."""
+        return sum(sent > begun for sent, _ in self.answers[-count:]) >= count
 
     def outage(self, begun: float) -> Tuple[float, float]:
         """The longest time without an answer after a moment: seconds from the moment to its end, and its seconds."""
@@ -121,6 +152,8 @@ class Watch:
     def __init__(self, places: Dict[str, Place]) -> None:
         self.is_closed = False
         self.seen: Dict[str, Answers] = {it: [] for it in places}
+        # When a machine was asked that did not answer.
+        self.silent: Dict[str, List[float]] = {it: [] for it in places}
         self.threads = [threading.Thread(target=self.ask, args=it, daemon=True) for it in places.items()]
 
     def start(self) -> None:
@@ -132,10 +165,16 @@ class Watch:
             begun = time.monotonic()
             if is_served(place):
                 self.seen[name].append((begun, time.monotonic()))
+            else:
+                self.silent[name].append(begun)
             time.sleep(PAUSE)
 
     def has_seen(self, name: str) -> bool:
         return bool(self.seen[name])
+
+    def first_answer(self, name: str) -> float:
+        """When a machine that has answered did so first."""
+        return self.seen[name][0][1]
 
     def close(self) -> None:
         self.is_closed = True

@@ -28,6 +28,19 @@ class Blocks(unittest.TestCase):
         self.assertEqual([expected.faults(bytes(BLOCK) + it) for it in (OLD, NEW)], [[], []])
         self.assertEqual(expected.faults(bytes(BLOCK) + OLD[1:] + b"\2"), ["block 1 has lost what was answered"])
 
+    def test_found(self) -> None:
+        """A host that connects again reads either content of a write without an answer. It must keep that one."""
+        expected = Expected()
+        for place in (0, 1):
+            expected.asks(place, OLD)
+            expected.answered(place, OLD)
+        expected.asks(1, NEW)
+        self.assertEqual((expected.found(2 * OLD), expected.unsure()), (1, [1]))
+        self.assertEqual(expected.faults(OLD + NEW), ["block 1 has lost what was answered"])
+        expected.asks(1, NEW)
+        expected.answered(1, NEW)
+        self.assertEqual((expected.found(OLD + NEW), expected.unsure()), (2, []))
+
     def test_turns(self) -> None:
         """A machine that answers what it was asked after the other's first answer has a turn again."""
         self.assertEqual(turns({"t2": [(3, 4)], "t1": [(1, 2), (2, 3)]}), ["t1", "t2"])
@@ -57,7 +70,7 @@ class Power(unittest.TestCase):
         with socket.create_connection(("127.0.0.1", fencer.port), 5) as connection:
             connection.sendall(f"{line}\n".encode())
             answer = connection.makefile().read().strip()
-        self.fenced = fencer.fenced
+        self.fenced, self.times = fencer.fenced, fencer.times
         return answer
 
     def test_lines(self) -> None:
@@ -75,10 +88,11 @@ class Power(unittest.TestCase):
 
         def kill(name: str) -> bool:
             may_end.wait(5)
-            ended.append(name)
+            ended.append(time.monotonic())
             return True
         threading.Timer(0.2, may_end.set).start()
-        self.assertEqual((self.ask(kill, "reboot t1"), ended), ("done", ["t1"]))
+        self.assertEqual((self.ask(kill, "reboot t1"), self.fenced), ("done", ["t1"]))
+        self.assertTrue(ended[0] <= self.times[0] <= time.monotonic())
 
 
 @unittest.skipUnless(PROGRAM, "NVMETCP names no program")
@@ -91,17 +105,35 @@ class Writers(TargetTest):
         writer.start()
         return writer
 
-    def test_it_connects_again(self) -> None:
-        writer = self.writer()
-        self.wait_for(lambda: len(writer.answers) > 3)
+    def restart(self, writer: Writer, loses: bool = False) -> None:
+        """The target is killed while a host writes, and started again, over blocks that may be lost."""
+        self.wait_for(lambda: len(writer.answers) > 20)
         begun = time.monotonic()
         self.target.kill()
+        if loses:
+            self.target.image.write_bytes(bytes(BLOCK * BLOCKS))
         self.target.start(self.target.port)
         self.assertFalse(writer.is_answered(time.monotonic()))
-        self.wait_for(lambda: writer.is_answered(begun))
+        self.wait_for(lambda: writer.is_answered(begun, 5))
         writer.close()
+
+    def test_it_connects_again(self) -> None:
+        """It reads what it has written before it goes on."""
+        writer = self.writer()
+        self.restart(writer)
         self.assertEqual((writer.faults, writer.expected.faults(self.target.image.read_bytes())), ([], []))
-        self.assertGreater(len(writer.expected.may), 1)
+        self.assertGreater(max(writer.read_back), 1)
+
+    def test_lost_blocks(self) -> None:
+        """What it has written is lost: it says so, even if it writes the same blocks again."""
+        writer = self.writer()
+        self.restart(writer, loses=True)
+        self.assertRegex(writer.faults[0], "block . has lost what was answered, when host a1 connects again")
+
+    def test_answers_since(self) -> None:
+        writer = Writer(self.target.port, 0xa1, range(8))
+        writer.answers = [(0, 1), (2, 3), (4, 5)]
+        self.assertEqual([writer.is_answered(1, it) for it in (1, 2, 3)], [True, True, False])
 
     def test_an_outage(self) -> None:
         """The longest time without an answer: its end, from the given moment, and how long it is."""
@@ -133,4 +165,6 @@ class Writers(TargetTest):
         watch.close()
         self.assertEqual(turns(watch.seen), ["t1"])
         self.assertEqual((watch.has_seen("t1"), watch.has_seen("t2")), (True, False))
+        self.assertEqual((watch.first_answer("t1"), watch.silent["t1"]), (watch.seen["t1"][0][1], []))
+        self.assertGreater(len(watch.silent["t2"]), 3)
 
