@@ -270,6 +270,28 @@ def watched(built: Path, folder: Path) -> None:
         it.moved(begun)
 
 
+def refused(built: Path, folder: Path) -> None:
+    """The machine with the target is killed, and the power switch fails at first: nobody serves until it works."""
+    with machines(built, folder) as it:
+        kill, asked = it.fencer.kill, []
+
+        def fails(name: str) -> bool:
+            asked.append(name)
+            # Pacemaker asks again at once, but only ten times.
+            time.sleep(TOKEN / 500)
+            return False
+        it.fencer.kill = fails
+        say("t1 is killed, and the power switch does not work")
+        begun = time.monotonic()
+        it.kill("t1")
+        it.wait_until("the switch was asked three times", lambda: len(asked) > 2, "t2")
+        it.guests["t2"].rest(2 * LEASE)
+        it.wants("nobody serves", not it.watch.has_seen("t2"))
+        say("the power switch works")
+        it.fencer.kill = kill
+        it.moved(begun)
+
+
 def planned(built: Path, folder: Path) -> None:
     """An operator moves the target."""
     with machines(built, folder) as it:
@@ -280,4 +302,4 @@ def planned(built: Path, folder: Path) -> None:
 
 MOVES: Dict[str, Callable[[Path, Path], None]] = {
     "moves-killed": killed, "moves-frozen": frozen, "moves-stopped": stopped, "moves-hung": hung, "moves-cut": cut,
-    "moves-watched": watched, "moves-planned": planned}
+    "moves-watched": watched, "moves-refused": refused, "moves-planned": planned}
