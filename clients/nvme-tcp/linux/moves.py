@@ -233,13 +233,24 @@ def frozen(built: Path, folder: Path) -> None:
 
 
 def stopped(built: Path, folder: Path) -> None:
-    """The target is stopped by SIGSTOP, and continued after its lease: it answers nobody, and its machine is fenced."""
+    """The target is stopped by SIGSTOP, and continued after its lease, while its machine runs: it answers nobody."""
     with machines(built, folder) as it:
-        seconds = LEASE + 5
+        seconds, kill, continued = LEASE + 5, it.fencer.kill, []
+
+        def kills_later(name: str) -> bool:
+            """The power switch waits until the target has been continued."""
+            if not continued:
+                continued.append(it.guests[name].ended(SETTLED))
+                say("the target is continued")
+                time.sleep(TOKEN / 500)
+            return kill(name)
+        it.fencer.kill = kills_later
         say(f"the target on t1 is stopped, and continued after {seconds} seconds")
         begun = time.monotonic()
-        it.guests["t1"].type(f"pkill -STOP nvmetcp; sleep {seconds}; pkill -CONT nvmetcp")
+        it.guests["t1"].type(f"pkill -STOP nvmetcp; sleep {seconds}; pkill -CONT nvmetcp; echo status $?")
         it.moved(begun)
+        late = [answered - begun for _, answered in it.watch.seen["t1"] if answered > begun + LEASE]
+        it.wants(f"t1 answered nobody when it was continued {late}", not late and "\nstatus 0" in continued[0])
 
 
 def hung(built: Path, folder: Path) -> None:
