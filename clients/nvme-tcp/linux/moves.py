@@ -210,6 +210,8 @@ def machines(built: Path, folder: Path, opens: Callable[[Moves], None] = Moves.o
 def killed(built: Path, folder: Path) -> None:
     """The machine with the target is killed without a word, and the other takes the volume over."""
     with machines(built, folder) as it:
+        # If that is t1, Pacemaker sleeps for a second before it fences.
+        it.guests["t2"].run("crmadmin -D", SETTLED)
         say("t1 is killed")
         begun = time.monotonic()
         it.kill("t1")

@@ -13,8 +13,9 @@ from tests.targets import PROGRAM
 
 HERE = Path(__file__).resolve().parent
 MACHINES = ("t1", "t2")
-# Milliseconds until Corosync gives a silent machine up, and then until the other forms a membership without it.
-TOKEN, CONSENSUS = int(1000 * SLOW), int(400 * SLOW)
+# Milliseconds until Corosync gives a silent machine up, and then until the other forms a membership without it. A guest
+# without KVM may need longer to answer.
+TOKEN, CONSENSUS = int(1000 * SLOW), int((200 if NAMESPACES else 400) * SLOW)
 # What the target keeps of its run, in the folder that it shares with the scene.
 KEEP = "--script /share/run.nvme --force"
 # The resources: DRBD mirrors the disks of guests; the disk of namespaces is one that both have.
