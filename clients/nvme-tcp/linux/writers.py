@@ -21,7 +21,7 @@ class Expected:
 
     def __init__(self) -> None:
         self.may: Dict[int, List[bytes]] = {}
-        # Blocks that were read after a write without an answer, and not written since.
+        # Blocks whose last write has no answer, but that were read since.
         self.settled: Set[int] = set()
 
     def asks(self, place: int, content: bytes) -> None:

@@ -118,14 +118,14 @@ class Writers(TargetTest):
         writer.close()
 
     def test_it_connects_again(self) -> None:
-        """It reads what it has written before it goes on."""
+        """It reads what it has written before it writes again."""
         writer = self.writer()
         self.restart(writer)
         self.assertEqual((writer.faults, writer.expected.faults(self.target.image.read_bytes())), ([], []))
         self.assertGreater(max(writer.read_back), 1)
 
     def test_lost_blocks(self) -> None:
-        """What it has written is lost: it says so, even if it writes the same blocks again."""
+        """What it has written is lost: that is a fault, even if it writes the same blocks again."""
         writer = self.writer()
         self.restart(writer, loses=True)
         self.assertRegex(writer.faults[0], "block . has lost what was answered, when host a1 connects again")
