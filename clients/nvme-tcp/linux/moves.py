@@ -129,7 +129,8 @@ class Moves(Pair):
         ends, lengths = (", ".join(f"{it.outage(begun)[which]:.1f} for {it.number:x}" for it in self.writers)
                          for which in (0, 1))
         say(f"seconds from then to the first answer of t2: {ends}; the token is {TOKEN} ms, the lease {LEASE} s")
-        say(f"seconds without an answer: {lengths}; a host tries again after {TRY:.2g} s; load {os.getloadavg()[0]:.0f}")
+        load = f"load {os.getloadavg()[0]:.0f}"
+        say(f"seconds without an answer: {lengths}; a host tries again after {TRY:.2g} s; {load}")
 
     def end(self) -> None:
         """The hosts end, and read what they wrote."""

@@ -40,7 +40,7 @@ const SETTLING: Duration = Duration::from_millis(300);
 /// How much longer than a lease its end is waited for, in parts of it: clocks may differ.
 const MARGIN: u32 = 10;
 
-/// How long a target waits if the last owner has ended: no longer than another takes to notice that it has lost its lease.
+/// How long a target waits if the last owner has ended. One whose claim takes longer waits for the whole lease instead.
 fn settling(lease: Duration) -> Duration {
     lease::renewal(lease).min(SETTLING)
 }
