@@ -159,7 +159,7 @@ class Moves(Pair):
         """What holds after the machines are gone: the blocks of the volume, and those of the kept scripts."""
         order, counts = turns(self.watch.seen), [len(it) for it in self.watch.seen.values()]
         self.wants(f"one target at a time has answered: {order}", order == ["t1", "t2"])
-        silent = sum(it > self.watch.first_answer("t2") for it in self.watch.silent["t1"]) if all(counts) else 0
+        silent = sum(it > self.watch.first_answer("t2") for it in self.watch.silent["t1"])
         self.wants(f"t1 and t2 gave {counts} answers, and t1 none {silent} times after the first of t2",
                    min(counts) >= ANSWERS and silent > 0)
         blocks, unsure = self.copies()[-1].read_bytes()[BLOCKS_AT:], set()
@@ -211,7 +211,7 @@ def machines(built: Path, folder: Path, opens: Callable[[Moves], None] = Moves.o
 def killed(built: Path, folder: Path) -> None:
     """The machine with the target is killed without a word, and the other takes the volume over."""
     with machines(built, folder) as it:
-        # If that is t1, Pacemaker sleeps for a second before it fences.
+        # The machine on which Pacemaker decides, which may be the one that dies.
         it.guests["t2"].run("crmadmin -D", SETTLED)
         say("t1 is killed")
         begun = time.monotonic()
@@ -253,7 +253,7 @@ def stopped(built: Path, folder: Path) -> None:
         it.guests["t1"].type(f"pkill -STOP nvmetcp; sleep {seconds}; pkill -CONT nvmetcp; echo status $?")
         it.moved(begun)
         late = [answered - begun for _, answered in it.watch.seen["t1"] if answered > begun + LEASE]
-        it.wants(f"t1 answered nobody when it was continued {late}", not late and "\nstatus 0" in continued[0])
+        it.wants(f"t1 answered nobody when it was continued {late}", not late and "\nstatus 0" in "".join(continued))
 
 
 def hung(built: Path, folder: Path) -> None:

@@ -173,8 +173,8 @@ class Watch:
         return bool(self.seen[name])
 
     def first_answer(self, name: str) -> float:
-        """When a machine that has answered did so first."""
-        return self.seen[name][0][1]
+        """When a machine answered first."""
+        return self.seen[name][0][1] if self.seen[name] else float("inf")
 
     def close(self) -> None:
         self.is_closed = True

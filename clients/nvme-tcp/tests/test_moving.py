@@ -167,4 +167,5 @@ class Writers(TargetTest):
         self.assertEqual((watch.has_seen("t1"), watch.has_seen("t2")), (True, False))
         self.assertEqual((watch.first_answer("t1"), watch.silent["t1"]), (watch.seen["t1"][0][1], []))
         self.assertGreater(len(watch.silent["t2"]), 3)
+        self.assertGreater(watch.first_answer("t2"), time.monotonic())
 
