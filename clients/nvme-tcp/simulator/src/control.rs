@@ -61,8 +61,7 @@ impl Operator {
             match below(9) {
                 0 => self.flood(asked),
                 1 => self.change_access(asked),
-                // Without --keys there is nothing to read again.
-                2 => with(|it| it.processes[asked.process].hangs_up = true),
+                2 => change_keys(),
                 _ => self.query(asked),
             }
         }
@@ -174,6 +173,27 @@ impl Operator {
             let _ = it.write(text.as_bytes());
         }
         world::pause(with(|it| it.random.below(4 * SECOND)));
+    }
+}
+
+/// Has targets read the file of keys again, if they have one: as it was, with another secret of a host, without a host
+/// for a while, or as it can't be read.
+fn change_keys() {
+    let hosts = check(|it| it.keys.hosts());
+    let (host, time) = (below(hosts), with(|it| it.random.below(3 * SECOND)));
+    match below(4) {
+        0 => check(|it| it.keys.write()),
+        1 => check(|it| it.keys.change(host, false)),
+        2 if hosts > 1 => {
+            check(|it| it.keys.change(host, true));
+            world::pause(time);
+            check(|it| it.keys.change(host, false));
+        }
+        _ => {
+            check(|it| it.keys.spoil());
+            world::pause(time);
+            check(|it| it.keys.mend());
+        }
     }
 }
 

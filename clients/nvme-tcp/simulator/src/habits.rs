@@ -2,10 +2,12 @@
 //! its scenario.
 
 use crate::chance::Random;
+use crate::hosts::chap::Choice;
 
 /// The kinds.
-pub const HABITS: [&str; 12] =
-    ["admin", "attach", "protect", "visit", "err", "type", "operator", "option", "memory", "tool", "fail", "space"];
+pub const HABITS: [&str; 13] = [
+    "admin", "attach", "protect", "visit", "err", "type", "operator", "option", "memory", "tool", "fail", "space", "keys",
+];
 
 #[derive(Clone, Copy, Debug, Default)]
 pub struct Habits {
@@ -50,12 +52,20 @@ pub struct Manner {
     pub lacks_holes: bool,
     /// The blocks of a second namespace, or 0.
     pub second: usize,
+    /// By which hosts authenticate themselves, if they have to.
+    pub choice: Option<Choice>,
 }
 
 /// Whether a kind is chosen, with a probability in twelfths.
 fn chosen(random: &mut Random, without: &[String], kind: &str, of_twelve: u64) -> bool {
     let is_chosen = random.below(12) < of_twelve;
     is_chosen && !without.iter().any(|it| it == kind)
+}
+
+/// The hash and the DH group of a seed. Long numbers take time.
+fn choice_of(seed: u64) -> Choice {
+    let group = if seed % 8 == 0 { 1 + (seed / 8 % 5) as u8 } else { [0, 1][seed as usize % 2] };
+    Choice { hash: 1 + (seed / 3 % 3) as u8, group }
 }
 
 impl Manner {
@@ -85,6 +95,7 @@ impl Manner {
             uses_tools: has("tool", 1) && seed % 4 == 0,
             lacks_holes: has("option", 2),
             second: if has("space", 4) { [8, 40, 320][seed as usize % 3] } else { 0 },
+            choice: has("keys", 3).then(|| choice_of(seed)),
         }
     }
 }

@@ -3,15 +3,19 @@
 
 mod admin;
 mod breaches;
+pub mod chap;
 pub mod checker;
 mod choice;
 mod fabrics;
 mod features;
 pub mod history;
 mod identify;
+mod impostor;
+pub mod keyring;
 mod logs;
 pub mod pdu;
 mod protection;
+mod proving;
 pub mod queue;
 mod queues;
 pub mod reservations;
@@ -23,8 +27,10 @@ use crate::habits::Habits;
 use crate::world::{self, with, MILLISECOND, SECOND};
 use admin::Known;
 use checker::{check, Act, Sent};
+use chap::Choice;
 use choice::Area;
 use pdu::Digests;
+use proving::Proof;
 use queue::{Breach, Command, Completion, Lost, Queue, PATIENCE};
 use std::collections::BTreeMap;
 use std::net::SocketAddr;
@@ -48,6 +54,7 @@ const REASON: u64 = 3 * SECOND;
 pub struct Path {
     pub host: usize,
     pub hosts: usize,
+    pub per_host: usize,
     pub cntlid: u16,
     /// The blocks of namespace 1, and of namespace 2, after them in what is served, if its controller has that.
     pub blocks: usize,
@@ -77,6 +84,8 @@ pub struct Path {
     /// The name of the subsystem, and the address that discovery returns, if it is not the target's.
     pub name: &'static str,
     pub advertised: Option<&'static str>,
+    /// The hash and the DH group by which hosts authenticate themselves, if they have to.
+    pub choice: Option<Choice>,
     pub habits: Habits,
 }
 
@@ -104,7 +113,12 @@ fn was_stopped(process: usize, since: u64) -> bool {
 
 impl Path {
     pub fn host_id(&self) -> u128 {
-        0xa1 + self.host as u128
+        Path::id_of(self.host)
+    }
+
+    /// HOSTID of a host.
+    pub fn id_of(host: usize) -> u128 {
+        0xa1 + host as u128
     }
 
     /// Uses the targets until `is_over`.
@@ -189,6 +203,9 @@ impl Path {
         if connected.status != 0 {
             return Err(Lost::Refused);
         }
+        if self.prove(&mut admin, &connected)? != Proof::Done {
+            return Err(Lost::Refused);
+        }
         // Its association has ended, and with it all of its commands.
         check(|it| it.bound(Some(self.cntlid)));
         if once_in(self.habits.admin) {
@@ -199,7 +216,8 @@ impl Path {
             return Err(Lost::Ended);
         }
         let mut io = Queue::open(address, self.digests)?;
-        if io.connect(&self.connect_of(1, 0))?.status != 0 {
+        let connected = io.connect(&self.connect_of(1, 0))?;
+        if connected.status != 0 || self.prove(&mut io, &connected)? != Proof::Done {
             return Err(Lost::Ended);
         }
         with(|it| it.note(&format!("path {} is connected to {address}", self.cntlid)));
@@ -270,7 +288,8 @@ impl Session<'_> {
         if is_late || self.may_end {
             return;
         }
-        let (process, begun, cntlid, names) = (self.process, self.begun, self.path.cntlid, self.names.clone());
+        let Path { host, cntlid, .. } = *self.path;
+        let (process, begun, names) = (self.process, self.begun, self.names.clone());
         let judge = move || {
             world::pause(REASON);
             let is_gone = with(|it| {
@@ -278,7 +297,8 @@ impl Session<'_> {
                 !process.is_alive || process.outcome.is_some() || process.is_asked_to_end
             });
             let is_cut = |it: &mut checker::Checker| names.iter().any(|name| it.cuts.contains(name));
-            let is_disturbed = check(|it| it.cycled + 15 * SECOND > begun || is_cut(it));
+            let has_other_keys = |it: &mut checker::Checker| it.keys.has_changed(host, begun);
+            let is_disturbed = check(|it| it.cycled + 15 * SECOND > begun || is_cut(it) || has_other_keys(it));
             if !is_gone && !is_disturbed && !was_stopped(process, begun) {
                 let said = with(|it| it.processes[process].said.clone());
                 let last: Vec<&str> = said.lines().rev().take(3).collect();
@@ -331,6 +351,8 @@ impl Session<'_> {
             let mut bytes = vec![0; 8 + below(200)];
             with(|it| bytes.iter_mut().for_each(|byte| *byte = it.random.next() as u8));
             self.io.send_bytes(&bytes)?;
+        } else if self.path.choice.is_some() && below(8) == 0 {
+            self.prove_again()?;
         } else if below(10) == 0 {
             self.admin.call(&Command { opcode: 0x06, words: vec![1, 0, 0, 0], length: 4096, ..Command::default() })?;
         } else {

@@ -2,8 +2,7 @@
 //! name `std`, so that its own files, unchanged, run over a simulated network, disk and clock, with fibers for threads.
 //! One seed decides everything that happens.
 //!
-//! What it does not do: name changes of files are durable at once, blocks stay where they were written, and
-//! authentication is off.
+//! What it does not do: name changes of files are durable at once.
 
 #![deny(unsafe_code)]
 
@@ -22,6 +21,9 @@ mod heap;
 mod hosts;
 mod jobs;
 mod journals;
+mod keyfiles;
+#[allow(unsafe_code)]
+mod libcrypto;
 mod page;
 mod replay;
 mod run;
@@ -44,5 +46,6 @@ pub fn planted(name: &str) -> bool {
 /// Runs the simulator by the words of its command line. `act` is what the target does with the words of its own.
 pub fn simulate(act: supervisor::Act) -> ::std::process::ExitCode {
     heap::begin();
+    libcrypto::begin();
     command::main(act)
 }

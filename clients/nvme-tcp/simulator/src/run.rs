@@ -1,6 +1,7 @@
 //! Runs one seed, from the first start of a target to the end of the last.
 
 use crate::control::{Asked, Operator};
+use crate::hosts::keyring::KeyRing;
 use crate::hosts::{checker, Path};
 use crate::scenario::Scenario;
 use crate::supervisor::{Act, Supervisor};
@@ -50,6 +51,8 @@ pub fn run(scenario: &Scenario, variant: u64, act: Act, is_logged: bool) -> Repo
     with(|it| (it.net.slow, it.net.window) = (scenario.slow, scenario.window));
     checker::begin(scenario.all_blocks(), scenario.blocks, scenario.writes_through, scenario.persists);
     checker::check(|it| it.protection.is_read_only = scenario.manner.is_read_only);
+    let hosts = scenario.paths.iter().map(|it| it.hosts).max().unwrap_or(0);
+    checker::check(|it| it.keys = KeyRing::new(hosts));
     let shared = Rc::new(Shared::default());
     let (theirs, whole) = (Rc::clone(&shared), scenario.clone());
     world::spawn("supervisor", Box::new(move || supervise(whole, act, &theirs)));

@@ -217,7 +217,7 @@ impl Scenario {
             self.keeps_run = self.chances.fail(self.seed);
         }
         for path in &mut self.paths {
-            (path.habits, path.advertised) = (habits, manner.advertised);
+            (path.habits, path.advertised, path.choice) = (habits, manner.advertised, manner.choice);
             path.name = manner.name.unwrap_or(NAME);
             // Some controllers do not have it, and in some seeds none has.
             path.second = if path.cntlid % 4 == 3 || manner.is_read_only { 0 } else { manner.second };
@@ -252,6 +252,7 @@ impl Scenario {
         let common = Path {
             host: 0,
             hosts,
+            per_host,
             cntlid: 0,
             blocks,
             second: 0,
@@ -270,6 +271,7 @@ impl Scenario {
             mix: MIXES[random.index(MIXES.len())],
             name: NAME,
             advertised: None,
+            choice: None,
             habits: Habits::default(),
         };
         let paths = (1..).zip(all).map(|(cntlid, host)| {

@@ -3,7 +3,9 @@
 mod troubles;
 
 use crate::ending::{fail_power, has_ended};
+use crate::hosts::chap::Choice;
 use crate::hosts::checker::{check, BLOCK};
+use crate::hosts::keyring::KEYS;
 use crate::replay::{commands_of, replay, values_of};
 use crate::scenario::Scenario;
 use crate::superblock;
@@ -35,7 +37,8 @@ pub struct Running {
     pub control: String,
     pub address: SocketAddr,
     pub second: Option<SocketAddr>,
-    /// How often the world's disk had failed before.
+    /// When it was started, and how often the world's disk had failed before.
+    begun: u64,
     faults: u64,
     /// The machine was stopped, or another target was started.
     may_lose_lease: bool,
@@ -89,6 +92,9 @@ impl Supervisor {
             let until = world.disks.inodes[written].written();
             world.disks.inodes[written].sync(until);
         });
+        if self.scenario.manner.choice.is_some() {
+            check(|it| it.keys.write());
+        }
         if is_volume {
             let (act, chances) = (self.act, with(|it| std::mem::take(&mut it.chances)));
             let format = world::start_process(0, "format", move || act(words(&["format", DEVICE, "--config", CONFIG])));
@@ -126,6 +132,8 @@ impl Supervisor {
         list.extend(manner.advertised.into_iter().flat_map(|it| ["--advertise", it]));
         let allowed: Vec<String> = if manner.binds { self.scenario.allowed() } else { Vec::new() };
         list.extend(allowed.iter().flat_map(|it| ["--allow", it.as_str()]));
+        let choice = manner.choice.map(Choice::text);
+        list.extend(choice.iter().flat_map(|it| ["--keys", KEYS, "--dhchap", it]));
         if !manner.is_memory {
             list.extend(["--cache", "4M"]);
         }
@@ -163,8 +171,9 @@ impl Supervisor {
         let process = world::start_process(machine, "target", move || act(given));
         let may_lose_lease = !self.running.is_empty();
         self.running.iter_mut().for_each(|it| it.may_lose_lease = true);
-        let faults = with(|it| faults(it));
-        self.running.push(Running { process, machine, script, control, address, second, faults, may_lose_lease });
+        let (begun, faults) = with(|it| (it.now, faults(it)));
+        let it = Running { process, machine, script, control, address, second, begun, faults, may_lose_lease };
+        self.running.push(it);
         if self.scenario.manner.is_memory {
             check(|it| it.begin_memory(process));
         }
@@ -251,6 +260,7 @@ impl Supervisor {
             Err((REFUSED, text)) if text.contains("its journal") && with(|it| it.disks.put_back()) => {
                 with(|it| *it.injected.entry("misdirection noticed").or_default() += 1);
             }
+            Err((REFUSED, text)) if text.contains(KEYS) && check(|check| check.keys.was_spoiled(it.begun)) => (),
             Err((status, text)) => {
                 let last: Vec<&str> = said.lines().rev().take(3).collect();
                 if *status == 101 || !is_excused {

@@ -5,6 +5,7 @@ use crate::ending::has_ended;
 use crate::hosts::checker::check;
 use crate::hosts::pdu::digest;
 use crate::journals;
+use crate::keyfiles;
 use crate::starts::{self, Started};
 use crate::supervisor::{words, Act, Supervisor, CONFIG, DEVICE, IMAGE};
 use crate::world::disk::Kind;
@@ -140,6 +141,7 @@ pub fn use_all(supervisor: &mut Supervisor) {
     crafted::expand_events(act);
     journals::check_contents(act);
     crafted::misplace(act);
+    keyfiles::use_all(act);
     starts::use_all(act, supervisor.scenario.all_blocks());
     if check(|it| it.violations.is_empty()) {
         rivals(supervisor);
@@ -172,7 +174,7 @@ const PRINTED: [(&[&str], u8); 43] = [
     (&["--cache", "1K", "--image", "/i", CONFIG], BAD),
     (&["--cache", "4Q", "--image", "/i", CONFIG], BAD),
     (&["--direct", CONFIG], BAD),
-    (&["--keys", "/etc/keys", CONFIG], BAD),
+    (&["--keys", "/etc/none", CONFIG], REFUSED),
     (&["--name", "x", CONFIG], BAD),
     (&["--log", "x", CONFIG], BAD),
     (&["--allow", "a1=1.2.3.4", CONFIG], BAD),

@@ -1,6 +1,7 @@
 //! What hosts were promised, and whether they got it.
 
 use super::history::{Block, State};
+use super::keyring::KeyRing;
 use super::protection::Protection;
 use super::queue::Completion;
 use super::reservations::{entries_of, Registrations};
@@ -132,6 +133,7 @@ pub struct Checker {
     pub crowds: u64,
     pub crowded: u64,
     pub protection: Protection,
+    pub keys: KeyRing,
     /// The target in whose memory the blocks are, if they are in memory.
     pub memory: Option<usize>,
     /// What never changes, by its name.
@@ -174,6 +176,7 @@ pub fn begin(blocks: usize, first: usize, writes_through: bool, persists: bool) 
         crowds: 0,
         crowded: 0,
         protection: Protection::default(),
+        keys: KeyRing::default(),
         memory: None,
         same: BTreeMap::new(),
     };

@@ -25,13 +25,13 @@ pub struct Connect {
 /// CATTR: no flow control.
 pub const NO_FLOW: u8 = 1 << 2;
 
-impl Path {
-    /// Some names have what a log must write in another way.
-    fn host_name(&self) -> String {
-        let quote = if self.host % 4 == 3 { "\"\\" } else { "" };
-        format!("nqn.2024-01.example:{quote}{:x}", self.host_id())
-    }
+/// HOSTNQN of a host. Some have what a log must write in another way.
+pub fn host_name(host: usize) -> String {
+    let quote = if host % 4 == 3 { "\"\\" } else { "" };
+    format!("nqn.2024-01.example:{quote}{:x}", Path::id_of(host))
+}
 
+impl Path {
     /// The Connect of a queue.
     pub fn connect_of(&self, qid: u16, keep_alive_ms: u32) -> Connect {
         Connect {
@@ -43,7 +43,7 @@ impl Path {
             format: 0,
             attributes: if self.habits.has_flow { 0 } else { NO_FLOW },
             subsystem: self.name.to_owned(),
-            host_name: self.host_name(),
+            host_name: host_name(self.host),
             length: 1024,
             in_capsule: true,
         }

@@ -2,6 +2,7 @@
 
 use super::admin::{one_of, Known};
 use super::checker::{check, Act};
+use super::proving::Proof;
 use super::queue::{Command, Lost, Queue};
 use super::wrong::{deallocation, range, DEALLOCATE};
 use super::{below, now, was_stopped, Session, CC, CSTS, ENABLE, KEEP_ALIVE, READ, REFUSALS};
@@ -10,6 +11,8 @@ use crate::world::{self, MILLISECOND, SECOND};
 /// CC with a normal shutdown, and the status of a command that comes out of turn.
 const SHUTDOWN: u64 = 1 << 14;
 const SEQUENCE: u16 = 0x0c;
+/// Authentication Required, as the status of a queue whose host is not believed.
+const UNPROVED: u16 = 0x191;
 
 fn one_read() -> Command {
     Command { opcode: READ, nsid: 1, words: vec![0; 12], length: 512, ..Command::default() }
@@ -47,16 +50,20 @@ impl Session<'_> {
         Ok(())
     }
 
-    /// Opens the connection of an I/O queue; the status of its Connect.
+    /// Opens the connection of an I/O queue; the status of its Connect, or that its host is not believed.
     fn open_queue(&mut self, qid: u16) -> Result<(Queue, u16), Lost> {
         let begun = now();
         let mut io = Queue::begin(self.address)?;
         // It may be cut before the target has answered anything.
         self.names.push(io.name());
         let connect = self.path.connect_of(qid, 0);
-        let connected = io.agree(self.path.digests).and_then(|()| io.connect(&connect));
-        self.may_end |= connected.is_err() && check(|it| it.was_crowded(begun));
-        Ok((io, connected?.status))
+        let path = self.path;
+        let status = io.agree(path.digests).and_then(|()| io.connect(&connect)).and_then(|it| match it.status {
+            0 => path.prove(&mut io, &it).map(|proof| if proof == Proof::Done { 0 } else { UNPROVED }),
+            status => Ok(status),
+        });
+        self.may_end |= status.is_err() && check(|it| it.was_crowded(begun));
+        Ok((io, status?))
     }
 
     /// Takes a new I/O queue for the one that has ended; the old connection.
@@ -178,7 +185,8 @@ impl Session<'_> {
     fn refuse(&mut self, status: u16, after: &str) -> Result<(), Lost> {
         self.rest(SECOND / 2)?;
         self.admin.call(&Command { opcode: KEEP_ALIVE, ..Command::default() })?;
-        if was_stopped(self.process, self.begun) {
+        let has_other_keys = check(|it| it.keys.has_changed(self.path.host, self.begun));
+        if has_other_keys || was_stopped(self.process, self.begun) {
             return Err(Lost::Ended);
         }
         Err(Lost::Broken(format!("its I/O queue is refused with status {status:x} after {after}")))

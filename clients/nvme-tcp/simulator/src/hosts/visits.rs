@@ -48,6 +48,9 @@ fn broken<T>(text: &str) -> Result<T, Lost> {
 impl Path {
     /// A visit of one kind.
     pub fn visit(&self, address: SocketAddr) {
+        if let Some(choice) = self.choice.filter(|_| below(4) != 0) {
+            return self.pretend(address, choice).unwrap_or_else(|lost| self.lose(&lost));
+        }
         let result = match below(8) {
             0..=1 => self.discover(address),
             2..=3 => self.be_refused(address),
@@ -60,13 +63,18 @@ impl Path {
     /// Asks a discovery controller where the subsystem is.
     fn discover(&self, address: SocketAddr) -> Result<(), Lost> {
         let mut queue = Queue::open(address, self.digests)?;
+        let begun = with(|it| it.now);
         let connect = Connect {
-            host: UNKNOWN_HOST,
+            // If hosts have to authenticate themselves, their names alone are asked for here.
+            host: if self.choice.is_some() { self.host_id() } else { UNKNOWN_HOST },
             cntlid: 0xffff,
             subsystem: DISCOVERY.to_owned(),
             ..self.connect_of(0, one_of(&[0, 120_000]))
         };
         let connected = queue.connect(&connect)?;
+        if connected.status == HOST && check(|it| it.keys.has_changed(self.host, begun)) {
+            return Ok(());
+        }
         if connected.status != SUCCESS {
             return broken(&format!("Connect to discovery has status {:x}", connected.status));
         }

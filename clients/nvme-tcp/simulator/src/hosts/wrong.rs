@@ -127,7 +127,9 @@ impl Path {
         }
         let form = one_of(&[0x00, 0x01, 0x04, 0x05, 0x06, 0x55]);
         let list = words(&[0, 0x1c, 0, 0]);
-        let wanted = vec![INVALID_OPCODE, INVALID_FIELD, SEQUENCE, QUEUE_TYPE];
+        let mut wanted = vec![INVALID_OPCODE, INVALID_FIELD, SEQUENCE, QUEUE_TYPE];
+        // A message of authentication without its length.
+        wanted.extend(self.choice.map(|_| SGL_LENGTH));
         (Command { opcode: 0x7f, form, words: list, ..Command::default() }, wanted)
     }
 

@@ -95,7 +95,7 @@ pub mod unix {
 
             fn mode(&self) -> u32 {
                 if with(|it| it.disks.inodes[self.inode].is_open) {
-                    0o40_777
+                    0o777 | if self.kind == Kind::Folder { 0o40_000 } else { 0o100_000 }
                 } else if self.kind == Kind::Folder {
                     0o40_700
                 } else {
@@ -104,7 +104,11 @@ pub mod unix {
             }
 
             fn uid(&self) -> u32 {
-                0
+                if with(|it| it.disks.inodes[self.inode].is_others) {
+                    77
+                } else {
+                    0
+                }
             }
 
             /// A file that was never written has none.

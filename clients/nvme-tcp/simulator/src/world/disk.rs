@@ -38,6 +38,8 @@ pub struct Inode {
     pub is_fixed: bool,
     pub is_mounted: bool,
     pub is_open: bool,
+    /// Its owner is another user.
+    pub is_others: bool,
     /// It can't be opened, or a folder can't be entered; and its file system has no O_DIRECT.
     pub is_hidden: bool,
     pub is_buffered: bool,
@@ -56,6 +58,7 @@ impl Inode {
             is_fixed: false,
             is_mounted: false,
             is_open: false,
+            is_others: false,
             is_hidden: false,
             is_buffered: false,
         }
