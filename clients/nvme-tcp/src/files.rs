@@ -2,4 +2,5 @@
 
 pub mod locking;
 pub mod outputs;
+pub mod settled;
 pub mod watched;

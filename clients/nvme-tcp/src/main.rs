@@ -21,6 +21,7 @@
 
 // Simulated network, disk, clock and threads, under the names of the standard library.
 #[cfg(feature = "simulated")]
+#[macro_use]
 extern crate simulator as std;
 
 mod admin;

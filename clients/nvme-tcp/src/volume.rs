@@ -16,6 +16,7 @@ use crate::admin::identity::Identity;
 use crate::configuration::Configuration;
 use crate::control::log::warn;
 use crate::files::locking::{open_disk, place_of, Lock, DIRECT};
+use crate::files::settled::settled;
 use crate::journal::record::Event;
 use crate::journal::state::me;
 use crate::journal::{Found, Journal};
@@ -107,7 +108,7 @@ impl Volume {
     /// journal.
     pub fn take(&mut self) -> Result<Owned, Refusal> {
         let begun = time_since_boot();
-        let Chosen { superblock: before, are_whole } = superblock::read(&self.file)?;
+        let Chosen { superblock: before, are_whole } = settled(|| superblock::read(&self.file))?;
         if before.configuration != self.chosen.superblock.configuration {
             return Err(Refusal::Taken("format".to_owned()));
         }
@@ -157,7 +158,7 @@ impl Volume {
     }
 
     fn begin_journal(&self, superblock: Superblock, lease: Arc<Lease>) -> Result<Owned, Refusal> {
-        let Content { kept, mut current, mut replica, .. } = Content::read(&self.file, self.image.length)?;
+        let Content { kept, mut current, mut replica, .. } = Content::read_settled(&self.file, self.image.length)?;
         current.events.push(Event::Start);
         replica.follow(&[Event::Start]).map_err(|fault| Refusal::Journal(fault.to_string()))?;
         let (epoch, identity, file) = (superblock.epoch, superblock.identity, self.file.try_clone()?);

@@ -5,14 +5,17 @@
 
 use super::{newest_of, Found, Hold, Journal, Log};
 use crate::configuration::Configuration;
-use crate::files::locking::open_regular;
+use crate::files::locking::{open_disk, open_regular, place_of, DIRECT};
+use crate::files::settled::settled;
 use crate::files::watched::{changed, Watched};
 use crate::journal::batch::batches;
 use crate::journal::record::{current, heads, newer_version, records_of, Event, Record};
 use crate::journal::state::{self, Folder};
+use crate::storage::aligned::{Aligned, PAGE};
 use std::fs::{File, OpenOptions};
 use std::io::{self, ErrorKind, Read, Seek, SeekFrom, Write};
 use std::os::unix::fs::FileExt;
+use std::path::Path;
 use std::sync::atomic::{AtomicU64, Ordering};
 use std::sync::Arc;
 
@@ -87,7 +90,8 @@ fn join(records: &mut Vec<Record>, bytes: &[u8], epoch: u64) -> io::Result<usize
 /// The bytes of a journal, and the place of its first record. If no target has used the folder, a journal shorter than
 /// its head is begun anew.
 fn read_or_begin(file: &mut File, folder: &Folder, configuration: &Configuration) -> io::Result<(Vec<u8>, usize)> {
-    let (bytes, heads) = (read_from(file, 0)?, heads(&configuration.lines));
+    let path = folder.path.join(state::JOURNAL);
+    let (bytes, heads) = (settled(|| read_all(&path, file))?, heads(&configuration.lines));
     if let Some(head) = heads.iter().find(|head| bytes.starts_with(head)) {
         return Ok((bytes, head.len()));
     }
@@ -112,6 +116,28 @@ fn read_or_begin(file: &mut File, folder: &Folder, configuration: &Configuration
 fn is_torn(bytes: &[u8], head: &[u8]) -> bool {
     let is_left = |(it, whole): (&[u8], &[u8])| whole.starts_with(it) || it.iter().all(|byte| *byte == 0);
     bytes.len() <= head.len() && bytes.chunks(SECTOR).zip(head.chunks(SECTOR)).all(is_left)
+}
+
+/// All bytes of the journal, by O_DIRECT if its file system has that: else what the system has in its memory would
+/// agree with itself.
+fn read_all(path: &Path, file: &mut File) -> io::Result<Vec<u8>> {
+    read_direct(path, file).or_else(|_| read_from(file, 0))
+}
+
+fn read_direct(path: &Path, file: &File) -> io::Result<Vec<u8>> {
+    let direct = open_disk(path, OpenOptions::new().read(true), DIRECT)?;
+    let (found, length) = (direct.metadata()?, file.metadata()?.len() as usize);
+    if place_of(&found) != place_of(&file.metadata()?) {
+        return Err(ErrorKind::NotFound.into());
+    }
+    let (mut bytes, mut at) = (Aligned::zeros((length + PAGE - 1) / PAGE * PAGE), 0);
+    while at < length {
+        match direct.read_at(&mut bytes[at..], at as u64)? {
+            0 => return Err(ErrorKind::UnexpectedEof.into()),
+            count => at += count,
+        }
+    }
+    Ok(bytes[..length].to_vec())
 }
 
 fn read_from(file: &mut File, place: u64) -> io::Result<Vec<u8>> {

@@ -6,6 +6,7 @@ use super::open_direct;
 use super::refusal::Refusal;
 use super::superblock::{self, Chosen, Superblock};
 use crate::configuration::Configuration;
+use crate::files::settled::settled;
 use crate::journal::checkpoint::{Checkpoint, NamespaceState};
 use crate::journal::record::{current, newest, Current};
 use crate::journal::restoring::Replica;
@@ -28,14 +29,22 @@ pub struct Content {
 impl Content {
     /// Reads them by a file that is open with O_DIRECT, and judges all of it.
     pub fn read(file: &File, length: u64) -> Result<Content, Refusal> {
-        let chosen = superblock::read(file)?;
+        Content::of(superblock::read(file)?, || log::read(file), length)
+    }
+
+    /// The same for an owner, while nobody else writes: a disk that returns bytes of another place is not believed.
+    pub fn read_settled(file: &File, length: u64) -> Result<Content, Refusal> {
+        Content::of(settled(|| superblock::read(file))?, || settled(|| log::read(file)), length)
+    }
+
+    fn of(chosen: Chosen, kept: impl FnOnce() -> Result<Kept, Refusal>, length: u64) -> Result<Content, Refusal> {
         let Superblock { size, configuration, epoch, .. } = &chosen.superblock;
         if length < *size {
             return Err(Refusal::Short(length, *size));
         }
         let read = Configuration::read(configuration.as_bytes(), chosen.superblock.blocks());
         let configuration = read.map_err(|error| Refusal::Configuration(error.to_string()))?;
-        let kept = log::read(file)?;
+        let kept = kept()?;
         let unknown = |number| Refusal::Journal(format!("record {number} is of an epoch that no target has started"));
         let newest = newest(&kept.records).map_err(unknown)?;
         if newest > *epoch {
