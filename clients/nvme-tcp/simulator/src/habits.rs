@@ -64,8 +64,8 @@ fn chosen(random: &mut Random, without: &[String], kind: &str, of_twelve: u64) -
 
 /// The hash and the DH group of a seed. Long numbers take time.
 fn choice_of(seed: u64) -> Choice {
-    let group = if seed % 8 == 0 { 1 + (seed / 8 % 5) as u8 } else { [0, 1][seed as usize % 2] };
-    Choice { hash: 1 + (seed / 3 % 3) as u8, group }
+    let groups = [0, 1, 0, 2, 0, 1, 0, 3, 0, 1, 0, 4, 0, 1, 0, 5];
+    Choice { hash: 1 + (seed / 3 % 3) as u8, group: groups[(seed / 2 % 16) as usize] }
 }
 
 impl Manner {

@@ -297,8 +297,8 @@ impl Session<'_> {
                 !process.is_alive || process.outcome.is_some() || process.is_asked_to_end
             });
             let is_cut = |it: &mut checker::Checker| names.iter().any(|name| it.cuts.contains(name));
-            let has_other_keys = |it: &mut checker::Checker| it.keys.has_changed(host, begun);
-            let is_disturbed = check(|it| it.cycled + 15 * SECOND > begun || is_cut(it) || has_other_keys(it));
+            let may_fail = |it: &mut checker::Checker| it.keys.has_changed(host, begun);
+            let is_disturbed = check(|it| it.cycled + 15 * SECOND > begun || is_cut(it) || may_fail(it));
             if !is_gone && !is_disturbed && !was_stopped(process, begun) {
                 let said = with(|it| it.processes[process].said.clone());
                 let last: Vec<&str> = said.lines().rev().take(3).collect();

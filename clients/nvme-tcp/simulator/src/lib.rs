@@ -25,6 +25,7 @@ mod keyfiles;
 #[allow(unsafe_code)]
 mod libcrypto;
 mod page;
+mod processor;
 mod replay;
 mod run;
 mod scenario;
@@ -41,6 +42,11 @@ pub use shadow::{collections, fs, io, memory, net, os, process, sync, system, th
 /// Whether a fault is planted in this run: `simulator/plant` writes calls of this into a copy of the target.
 pub fn planted(name: &str) -> bool {
     world::is_planted(name)
+}
+
+/// Whether the simulated processor has more instructions than the oldest: for `is_x86_feature_detected`.
+pub fn has_instructions() -> bool {
+    processor::has_all()
 }
 
 /// Runs the simulator by the words of its command line. `act` is what the target does with the words of its own.

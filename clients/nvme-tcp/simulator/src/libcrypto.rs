@@ -82,12 +82,16 @@ extern "C" fn status() -> c_int {
     1
 }
 
-/// RAND_bytes: numbers of the seed.
+/// RAND_bytes: numbers of the seed, or an error.
 extern "C" fn fill(bytes: *mut u8, count: c_int) -> c_int {
     let count = usize::try_from(count).unwrap_or(0);
     let bytes = unsafe { std::slice::from_raw_parts_mut(bytes, count) };
-    with(|it| bytes.iter_mut().for_each(|byte| *byte = it.random.next() as u8));
-    1
+    let fails = with(|it| {
+        bytes.iter_mut().for_each(|byte| *byte = it.random.next() as u8);
+        let fails = it.chances.failed_random;
+        it.happens("failed random", fails)
+    });
+    c_int::from(!fails)
 }
 
 /// From now on libcrypto has the random numbers of the seed. It keeps what it allocates when it is first used, so that is

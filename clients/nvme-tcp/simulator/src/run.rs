@@ -126,7 +126,10 @@ fn supervise(scenario: Scenario, act: Act, shared: &Rc<Shared>) {
 
 /// Reads all blocks, ends the targets in order, and starts one more that has the same blocks.
 fn finish(supervisor: &mut Supervisor, scenario: &Scenario, shared: &Rc<Shared>) {
-    with(|it| it.chances = crate::world::Chances { yields: 10, ..Default::default() });
+    with(|it| {
+        it.chances = crate::world::Chances { yields: 10, ..Default::default() };
+        it.disks.misdirection.next = None;
+    });
     for _ in 0..2 {
         for path in scenario.paths.iter().cycle().take(20) {
             keep_running(supervisor, shared);

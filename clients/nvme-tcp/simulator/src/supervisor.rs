@@ -2,6 +2,7 @@
 
 mod troubles;
 
+use crate::chance::Random;
 use crate::ending::{fail_power, has_ended};
 use crate::hosts::chap::Choice;
 use crate::hosts::checker::{check, BLOCK};
@@ -11,6 +12,7 @@ use crate::scenario::Scenario;
 use crate::superblock;
 use crate::tools::{self, REFUSED};
 use crate::world::disk::Kind;
+use crate::world::misdirection::Stray;
 use crate::world::{self, with, Outcome, World, MILLISECOND, SECOND};
 use std::ffi::OsString;
 use std::net::SocketAddr;
@@ -26,6 +28,8 @@ const BLOCKS_AT: usize = 2 << 20;
 /// How long a target may take to start, with a lease to wait out, and to end in order.
 const LONGEST: u64 = 60 * SECOND;
 
+/// What a target names that refuses what it has read.
+const STATE: [&str; 5] = ["journal", "superblock", "volume", "configuration", "/state"];
 /// The most answers that are awaited before the next trouble.
 const MOST_ANSWERS: u64 = 100;
 
@@ -40,6 +44,8 @@ pub struct Running {
     /// When it was started, and how often the world's disk had failed before.
     begun: u64,
     faults: u64,
+    /// How often its disk had read superblock or journal at a wrong place.
+    strayed: u64,
     /// The machine was stopped, or another target was started.
     may_lose_lease: bool,
 }
@@ -57,6 +63,15 @@ pub struct Supervisor {
 
 pub fn words(list: &[&str]) -> Vec<OsString> {
     list.iter().map(OsString::from).collect()
+}
+
+/// What goes to a wrong place while a target starts, if something does.
+fn stray_of_start(random: &mut Random) -> Option<Stray> {
+    match random.below(16) {
+        0..=3 => Some(Stray::ReadState(random.index(8))),
+        4 => Some(Stray::State),
+        _ => None,
+    }
 }
 
 fn recording_of(script: &str) -> String {
@@ -171,18 +186,21 @@ impl Supervisor {
         let process = world::start_process(machine, "target", move || act(given));
         let may_lose_lease = !self.running.is_empty();
         self.running.iter_mut().for_each(|it| it.may_lose_lease = true);
-        let (begun, faults) = with(|it| (it.now, faults(it)));
-        let it = Running { process, machine, script, control, address, second, begun, faults, may_lose_lease };
+        let (begun, faults, strayed) = with(|it| (it.now, faults(it), it.disks.misdirection.reads));
+        let it =
+            Running { process, machine, script, control, address, second, begun, faults, strayed, may_lose_lease };
         self.running.push(it);
         if self.scenario.manner.is_memory {
             check(|it| it.begin_memory(process));
         }
         let loss = check(|it| it.lose_reservations());
+        let next = if self.has("disk") { with(|it| stray_of_start(&mut it.random)) } else { None };
+        next.into_iter().for_each(|next| with(|it| it.disks.misdirection.next = Some(next)));
         self.wait_until_it_serves(process);
         let serves = with(|it| it.processes[process].served.is_some());
         check(|it| it.has_lost_reservations(loss, serves));
         if serves && self.scenario.is_volume {
-            with(|it| it.disks.misdirected = None);
+            with(|it| it.disks.misdirection.misdirected = None);
             self.judge_epoch();
         }
         if self.running.len() == 1 {
@@ -252,6 +270,7 @@ impl Supervisor {
     fn judge(&mut self, it: &Running, outcome: &Outcome) {
         let is_excused = with(|world| faults(world)) > it.faults || it.may_lose_lease;
         let said = with(|world| world.processes[it.process].said.clone());
+        let strayed = with(|world| world.disks.misdirection.reads) > it.strayed;
         match outcome {
             Ok(()) => {
                 check(|check| check.sync());
@@ -261,6 +280,10 @@ impl Supervisor {
                 with(|it| *it.injected.entry("misdirection noticed").or_default() += 1);
             }
             Err((REFUSED, text)) if text.contains(KEYS) && check(|check| check.keys.was_spoiled(it.begun)) => (),
+            // A disk has read superblock or journal at a wrong place, and the target says that it does not fit.
+            Err((1..=2, text)) if strayed && STATE.iter().any(|it| text.contains(it)) => {
+                with(|it| *it.injected.entry("misread noticed").or_default() += 1);
+            }
             Err((status, text)) => {
                 let last: Vec<&str> = said.lines().rev().take(3).collect();
                 if *status == 101 || !is_excused {

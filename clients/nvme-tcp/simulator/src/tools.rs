@@ -116,7 +116,11 @@ pub fn patch(path: &str, place: usize, bytes: &[u8]) {
 
 /// Everything that can be asked for when no target runs, and next to one that does.
 pub fn use_all(supervisor: &mut Supervisor) {
-    with(|it| it.chances = Chances { yields: 10, ..Default::default() });
+    with(|it| {
+        it.chances = Chances { yields: 10, ..Default::default() };
+        it.disks.misdirection.next = None;
+        it.disks.put_back();
+    });
     let act = supervisor.act;
     put("/etc/wrong", Kind::File, b"controller 1 host x\n");
     put("/etc/uuid", Kind::File, b"controller 1 host a1000000-0000-0000-0000-000000000000\n");

@@ -1,12 +1,14 @@
 //! The state of the simulated world, and its scheduler: which fiber continues, and when time passes.
 
 pub mod disk;
+pub mod misdirection;
 pub mod network;
 pub mod tap;
 
 use crate::chance::Random;
 use crate::fiber::{self, Fiber};
 use crate::heap;
+use crate::processor;
 use disk::Disks;
 use network::Network;
 use std::cell::RefCell;
@@ -92,6 +94,8 @@ pub struct Chances {
     /// A write into a kept run, and a connection that is accepted.
     pub failed_output: u64,
     pub failed_accept: u64,
+    /// Random numbers of libcrypto.
+    pub failed_random: u64,
     /// A switch to another fiber when none is necessary.
     pub yields: u64,
 }
@@ -99,7 +103,7 @@ pub struct Chances {
 impl Chances {
     /// Failures are frequent: of the disk, or of the kept run. Whether there is one.
     pub fn fail(&mut self, seed: u64) -> bool {
-        self.failed_accept = 20;
+        (self.failed_accept, self.failed_random) = (20, 60);
         if seed % 3 == 0 {
             self.failed_output = 500;
             return true;
@@ -207,6 +211,7 @@ pub fn begin(seed: u64, chances: Chances, is_logged: bool) {
         current: usize::MAX,
         injected: BTreeMap::new(),
     };
+    processor::begin(seed % 4 != 0);
     WORLD.with(|it| *it.borrow_mut() = Some(world));
 }
 

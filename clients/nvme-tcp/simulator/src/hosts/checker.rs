@@ -108,6 +108,8 @@ pub struct Checker {
     open: BTreeMap<u64, Sent>,
     /// Commands of connections that were lost, with their numbers.
     given_up: Vec<(u64, Sent)>,
+    /// Blocks that may have a value by a fault of the disk, with the numbers of these, while targets run.
+    strayed: Vec<(usize, u64)>,
     next: u64,
     next_value: u64,
     fence: Option<Fence>,
@@ -159,6 +161,7 @@ pub fn begin(blocks: usize, first: usize, writes_through: bool, persists: bool) 
         statuses: BTreeMap::new(),
         open: BTreeMap::new(),
         given_up: Vec::new(),
+        strayed: Vec::new(),
         next: 0,
         next_value: 0,
         fence: None,
@@ -451,10 +454,28 @@ impl Checker {
         self.given_up.push((number, sent));
     }
 
+    /// By a fault of the disk, blocks may have these values from now on, or as long as a target has them in its memory.
+    /// They have no digests, so a target can't know.
+    pub fn stray(&mut self, slba: usize, bytes: &[u8]) {
+        let (now, values) = (now(), bytes.chunks_exact(BLOCK).map(value_of));
+        for (block, value) in (slba..).zip(values) {
+            self.next += 1;
+            let number = self.next;
+            if let Some((it, value)) = self.blocks.get_mut(block).zip(value) {
+                it.stray(number, value, now);
+                self.strayed.push((block, number));
+            }
+        }
+    }
+
     /// Nothing that was given up is executed from now on: of this controller, or of all.
     pub fn bound(&mut self, cntlid: Option<u16>) {
         let end = now();
         self.bound_protection(cntlid);
+        if cntlid.is_none() {
+            let blocks = &mut self.blocks;
+            self.strayed.drain(..).for_each(|(block, number)| blocks[block].bound(number, end));
+        }
         let (over, rest): (Vec<_>, Vec<_>) =
             self.given_up.drain(..).partition(|(_, it)| cntlid.map_or(true, |cntlid| it.cntlid == cntlid));
         self.given_up = rest;

@@ -30,6 +30,8 @@ pub struct Version {
     pub is_durable: bool,
     /// Power was lost before its answer came.
     is_cut: bool,
+    /// A disk has written or read it at a wrong place: that others are not seen again proves nothing.
+    is_strayed: bool,
 }
 
 /// A value that was read in this time.
@@ -55,8 +57,8 @@ fn last_start(all: impl Iterator<Item = (u64, u64)>, time: u64) -> u64 {
 
 impl Block {
     pub fn new() -> Block {
-        let (state, is_durable, is_cut) = (State::Done, true, false);
-        let zero = Version { number: 0, value: 0, start: 0, end: 0, state, is_durable, is_cut };
+        let (state, is_durable, is_cut, is_strayed) = (State::Done, true, false, false);
+        let zero = Version { number: 0, value: 0, start: 0, end: 0, state, is_durable, is_cut, is_strayed };
         Block { versions: vec![zero], seen: Vec::new(), lost: 0 }
     }
 
@@ -70,6 +72,15 @@ impl Block {
             state: State::Pending,
             is_durable: false,
             is_cut: false,
+            is_strayed: false,
+        });
+    }
+
+    /// It may have a value from now on by a fault of the disk, and then what it had before again.
+    pub fn stray(&mut self, number: u64, value: u64, now: u64) {
+        self.begin(number, value, now);
+        self.versions.iter_mut().filter(|it| it.number == number).for_each(|it| {
+            (it.state, it.is_strayed) = (State::Maybe, true);
         });
     }
 
@@ -100,6 +111,9 @@ impl Block {
         // What has ended before this time was replaced before the read began.
         let replaced = last_start(writes.chain(others), start);
         let is_possible = |it: &Version| it.value == value && it.start <= end && it.end >= replaced;
+        if self.versions.iter().any(|it| it.is_strayed && is_possible(it)) {
+            return Ok(());
+        }
         if !self.versions.iter().any(is_possible) {
             return Err(format!("value {value:#x} was read from {start} to {end}; it may be {:?}", self));
         }
@@ -206,6 +220,19 @@ mod tests {
         block.answer(2, 45, State::Done, false);
         assert!(block.clone().read(0, 60, 70).is_ok());
         assert!(block.read(7, 60, 70).is_ok(), "power took both");
+    }
+
+    #[test]
+    fn a_fault_of_the_disk_takes_nothing_away() {
+        let mut block = written(&[(1, 10, 20), (2, 30, 40)]);
+        block.stray(9, 7, 50);
+        assert!(block.clone().read(7, 40, 45).is_err(), "before the fault");
+        assert!(block.read(7, 60, 70).is_ok() && block.read(2, 80, 90).is_ok() && block.read(7, 95, 96).is_ok());
+        assert!(block.read(1, 97, 98).is_err(), "another value than these two");
+        block.bound(9, 99);
+        block.begin(10, 3, 100);
+        block.answer(10, 110, State::Done, true);
+        assert!(block.clone().read(3, 120, 130).is_ok() && block.read(7, 120, 130).is_err(), "it was written again");
     }
 
     #[test]

@@ -100,11 +100,12 @@ impl Stranger<'_> {
 
     /// One of the ways to fail.
     fn lie(&mut self) -> Result<(), Lost> {
-        match below(13) {
+        match below(16) {
             0..=1 => self.have_wrong_secret(),
-            2..=3 => self.change_reply(),
-            4 => self.change_number(),
-            5 => self.offer_wrong(),
+            2..=4 => self.change_reply(),
+            5 => self.change_number(),
+            12..=13 => self.offer_wrong(),
+            14 => self.confirm_wrong(),
             6 => self.come_out_of_turn(),
             7 => self.use_wrong_words(),
             8 => self.leave(),
@@ -125,7 +126,7 @@ impl Stranger<'_> {
 
     /// Judges the explanation of Failure1. The target may have other keys by now, and then no secret is right.
     fn judge(&mut self, given: Option<u8>, wanted: u8) -> Result<(), Lost> {
-        let may_fail = check(|it| it.keys.has_changed(self.path.host, self.begun));
+        let may_fail = check(|it| it.keys.may_fail(self.path.host, self.begun));
         match given {
             Some(given) if given == wanted || may_fail && given == FAILED => self.end(),
             _ => broken(format!("Failure1 has explanation {given:?}, not {wanted}")),
@@ -263,15 +264,16 @@ impl Stranger<'_> {
         if status != SEQUENCE {
             return broken(format!("Authentication Receive has status {status:x} before a message"));
         }
-        let (peers, mut messages) = (self.peers.clone(), vec![success2(9), vec![1, 2, 0, 0, 0, 0, 0, 0, 0, 0, 0, 0]]);
+        let peers = self.peers.clone();
+        // Of a reply and of Success2 a part alone.
+        let mut messages = vec![(success2(9), MESSAGE), (vec![1, 2, 0, 0], PAYLOAD), (vec![1, 4, 0, 0], PAYLOAD)];
         if below(2) == 0 {
             if self.reply(&peers, None)?.is_none() {
                 return Ok(());
             }
-            messages = vec![success2(9), negotiate(9, &[1], &[0])];
+            messages = vec![(success2(9), MESSAGE), (negotiate(9, &[1], &[0]), MESSAGE)];
         }
-        let message = messages.swap_remove(below(2));
-        let wanted = if message.len() == 12 { PAYLOAD } else { MESSAGE };
+        let (message, wanted) = messages.swap_remove(below(messages.len()));
         self.fail(&message, wanted)
     }
 
@@ -294,7 +296,7 @@ impl Stranger<'_> {
         self.queue.tell(&negotiate(9, &[hash], &[group]))?;
         let status = self.queue.call(&receive_command(one_of(&[4, 44])))?.status;
         // Instead of a challenge there may be Failure1, which is short.
-        if status == SUCCESS && check(|it| it.keys.has_changed(self.path.host, self.begun)) {
+        if status == SUCCESS && check(|it| it.keys.may_fail(self.path.host, self.begun)) {
             return self.end();
         }
         if status != INVALID_FIELD {
@@ -411,6 +413,25 @@ impl Stranger<'_> {
         };
         let reply = Reply::to(&challenge, &peers, Some(&challenge.value));
         self.fail(&reply.message, FAILED)
+    }
+
+    /// Success2 of another authentication, after the controller has proved itself.
+    fn confirm_wrong(&mut self) -> Result<(), Lost> {
+        let (peers, own) = (self.peers.clone(), random_bytes(size(self.peers.choice.hash)));
+        let reply = match self.reply(&peers, Some(&own))? {
+            Some(reply) => reply,
+            None => return Ok(()),
+        };
+        if peers.controller.is_none() {
+            return self.fail(&reply.message, FAILED);
+        }
+        self.queue.tell(&reply.message)?;
+        match self.queue.ask()? {
+            Ok(message) => reply.judge(&message).map_err(Lost::Broken)?,
+            Err(given) => return self.judge(Some(given), FAILED),
+        };
+        let transaction = u16::from_le_bytes([reply.message[4], reply.message[5]]) ^ 1;
+        self.fail(&success2(transaction), PAYLOAD)
     }
 
     /// Sends nothing more, perhaps after a challenge: the target ends the connection in two minutes.

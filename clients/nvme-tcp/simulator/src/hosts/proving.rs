@@ -135,7 +135,7 @@ impl Session<'_> {
 
     /// The target does not believe the host: there must be a reason.
     pub fn judge_proof(&mut self, proof: Proof) -> Result<(), Lost> {
-        if check(|it| it.keys.has_changed(self.path.host, self.begun)) {
+        if check(|it| it.keys.may_fail(self.path.host, self.begun)) {
             self.may_end = true;
             return Ok(());
         }

@@ -185,8 +185,8 @@ impl Session<'_> {
     fn refuse(&mut self, status: u16, after: &str) -> Result<(), Lost> {
         self.rest(SECOND / 2)?;
         self.admin.call(&Command { opcode: KEEP_ALIVE, ..Command::default() })?;
-        let has_other_keys = check(|it| it.keys.has_changed(self.path.host, self.begun));
-        if has_other_keys || was_stopped(self.process, self.begun) {
+        let may_fail = check(|it| it.keys.may_fail(self.path.host, self.begun));
+        if may_fail || was_stopped(self.process, self.begun) {
             return Err(Lost::Ended);
         }
         Err(Lost::Broken(format!("its I/O queue is refused with status {status:x} after {after}")))

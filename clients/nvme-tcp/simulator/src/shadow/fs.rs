@@ -2,7 +2,9 @@
 
 pub use super::metadata::{metadata, FileType, Metadata, Permissions};
 use crate::fiber;
-use crate::world::disk::Kind;
+use crate::hosts::checker::check;
+use crate::world::disk::{Kind, SECTOR};
+use crate::world::misdirection::Strayed;
 use crate::world::{self, with, World, MICROSECOND, MILLISECOND};
 use ::std::io::{self, ErrorKind, Read, Seek, SeekFrom, Write};
 use ::std::path::Path;
@@ -93,6 +95,15 @@ fn spend(time: &Time) {
     world::pause(nanoseconds);
 }
 
+/// The checker has to know which blocks may have which values by a fault of the disk.
+fn stray(name: &'static str, it: &Strayed) {
+    with(|world| {
+        *world.injected.entry(name).or_default() += 1;
+        world.note(&format!("{name}: {} from block {} on", it.bytes.len() / SECTOR, it.block));
+    });
+    check(|check| check.stray(it.block, &it.bytes));
+}
+
 fn failed() -> io::Error {
     io::Error::from_raw_os_error(INPUT_OUTPUT)
 }
@@ -119,7 +130,8 @@ impl Open {
         }
         let is_medium = self.is_medium();
         let _call = Call::begin(if is_medium { &MEDIUM } else { &CACHED });
-        with(|world| {
+        let mut strayed = None;
+        let result = with(|world| {
             let (fails, short) = (world.chances.failed_read, world.chances.short);
             if world.disks.inodes[self.inode].kind == Kind::Folder {
                 return Err(io::Error::from_raw_os_error(IS_FOLDER));
@@ -142,8 +154,17 @@ impl Open {
                 count = PAGE * (1 + world.random.index(count / PAGE));
             }
             room[..count].copy_from_slice(&world.disks.inodes[self.inode].data[place..place + count]);
+            let World { disks, random, .. } = world;
+            let before = disks.misdirection.reads;
+            strayed = disks.misread(self.inode, place, &mut room[..count], random);
+            if disks.misdirection.reads != before {
+                *world.injected.entry("misread state").or_default() += 1;
+                world.note(&format!("the disk reads other bytes than those at {place}"));
+            }
             Ok(count)
-        })
+        });
+        strayed.into_iter().for_each(|it| stray("misdirected read of blocks", &it));
+        result
     }
 
     fn write_at(&self, bytes: &[u8], place: u64) -> io::Result<usize> {
@@ -164,14 +185,16 @@ impl Open {
             Ok(if is_short { PAGE * (1 + world.random.index(bytes.len() / PAGE)) } else { bytes.len() })
         })?;
         // The kernel copies page by page, and notices a kill in between.
-        let place = with(|world| {
+        let (place, strayed) = with(|world| {
             let World { disks, random, injected, .. } = world;
-            let written = disks.place_of(self.inode, place as usize, &bytes[..count], random);
+            let (written, strayed) = disks.place_of(self.inode, place as usize, &bytes[..count], random);
             if written != place as usize {
                 *injected.entry("misdirected write").or_default() += 1;
+                world.note(&format!("the disk writes {count} bytes at {written} that belong at {place}"));
             }
-            written
+            (written, strayed)
         });
+        strayed.iter().for_each(|it| stray("misdirected blocks", it));
         let (mut at, end) = (place, place + count);
         while at < end {
             let next = end.min((at / PAGE + 1) * PAGE);

@@ -4,6 +4,7 @@ use super::Supervisor;
 use crate::ending::{has_ended, lose_sectors, stop_in_write};
 use crate::hosts::checker::check;
 use crate::shadow::os::unix::net::UnixStream;
+use crate::world::misdirection::Stray;
 use crate::world::{self, with, World, MICROSECOND, MILLISECOND, SECOND};
 use std::io::{Read, Write};
 
@@ -63,24 +64,38 @@ impl Supervisor {
             "cycle" => self.cycle(at),
             "hold" => self.hold(at),
             // A target that keeps its run ends at a read that fails.
-            "disk" if !self.scenario.keeps_run && with(|it| it.random.once_in(2)) => lose_sectors(),
+            "disk" if !self.scenario.keeps_run && with(|it| it.random.once_in(2)) => self.lose_or_misdirect_blocks(),
             "disk" if self.scenario.is_volume && self.running.len() == 1 => self.misdirect(at),
             _ => (),
         }
     }
 
+    /// Some blocks can't be read from now on; or the next read or write of blocks goes to a wrong place. Of a target that
+    /// keeps its run the program would not have read the same.
+    fn lose_or_misdirect_blocks(&self) {
+        let next = match with(|it| it.random.below(4)) {
+            0 => Stray::ReadBlocks,
+            1 => Stray::WrittenBlocks,
+            _ => return lose_sectors(),
+        };
+        with(|it| it.disks.misdirection.next = Some(next));
+    }
+
     /// A write to the journal of a volume goes to a wrong place of it, and the target is killed soon. The next one either
     /// has all that was promised, or refuses the volume, which an operator puts back then.
     fn misdirect(&mut self, at: usize) {
-        with(|it| (it.disks.misdirects, it.disks.misdirected) = (true, None));
+        if with(|it| it.disks.misdirection.misdirected.is_some()) {
+            return;
+        }
+        with(|it| it.disks.misdirection.next = Some(Stray::Journal));
         let process = self.running[at].process;
         let end = with(|it| it.now) + SECOND;
-        while with(|it| it.now < end && it.disks.misdirected.is_none()) && !has_ended(process) {
+        while with(|it| it.now < end && it.disks.misdirection.misdirected.is_none()) && !has_ended(process) {
             world::pause(100 * MICROSECOND);
         }
-        with(|it| it.disks.misdirects = false);
+        with(|it| it.disks.misdirection.next = None);
         self.collect();
-        if with(|it| it.disks.misdirected.is_some()) && !self.running.is_empty() {
+        if with(|it| it.disks.misdirection.misdirected.is_some()) && !self.running.is_empty() {
             self.kill(0);
         }
     }

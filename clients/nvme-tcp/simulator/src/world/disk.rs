@@ -1,15 +1,12 @@
 //! Files and block devices: what processes see, and what is left after a power cut.
 
+use super::misdirection::Misdirection;
 use super::World;
 use crate::chance::Random;
 use std::collections::{BTreeMap, BTreeSet, VecDeque};
 use std::mem;
-use std::ops::Range;
 use std::path::{Path, PathBuf};
 
-/// The place of the journal in a volume.
-const JOURNAL: Range<usize> = 128 << 10..1152 << 10;
-const PAGE: usize = 4096;
 /// A power cut leaves each of these old or new.
 pub const SECTOR: usize = 512;
 
@@ -168,18 +165,7 @@ pub struct Disks {
     pub lacks_holes: bool,
     /// Sectors of what is served that can't be read until they are written.
     pub unreadable: BTreeSet<usize>,
-    /// Whether the next write to the journal of a volume goes to a wrong place of it, and what one has replaced there.
-    pub misdirects: bool,
-    pub misdirected: Option<Misdirected>,
-}
-
-/// A write that went to a wrong place.
-#[derive(Debug)]
-pub struct Misdirected {
-    right: usize,
-    wrong: usize,
-    bytes: Vec<u8>,
-    replaced: Vec<u8>,
+    pub misdirection: Misdirection,
 }
 
 impl Disks {
@@ -194,8 +180,7 @@ impl Disks {
             hides_names: false,
             lacks_holes: false,
             unreadable: BTreeSet::new(),
-            misdirects: false,
-            misdirected: None,
+            misdirection: Misdirection::default(),
         };
         for folder in ["/", "/run", "/dev", "/etc", "/state", "."] {
             disks.create(Path::new(folder), Kind::Folder);
@@ -285,36 +270,6 @@ impl Disks {
     /// The bytes of a file, as processes see them.
     pub fn content(&self, path: &str) -> Vec<u8> {
         self.find(Path::new(path)).map_or(Vec::new(), |inode| self.inodes[inode].data.clone())
-    }
-
-    /// The place to which the disk writes bytes of a file that belong at another: elsewhere in the journal if they are
-    /// of it, and the disk misdirects.
-    pub fn place_of(&mut self, inode: usize, right: usize, bytes: &[u8], random: &mut Random) -> usize {
-        let is_journal = JOURNAL.contains(&right) && self.served.map_or(false, |(served, _)| served == inode);
-        if !is_journal || !self.misdirects {
-            return right;
-        }
-        let wrong = JOURNAL.start + PAGE * random.index((JOURNAL.len() - bytes.len()) / PAGE + 1);
-        if wrong != right {
-            let replaced = self.inodes[inode].data[wrong..wrong + bytes.len()].to_vec();
-            self.misdirected = Some(Misdirected { right, wrong, bytes: bytes.to_vec(), replaced });
-            self.misdirects = false;
-        }
-        wrong
-    }
-
-    /// An operator undoes a misdirected write, and syncs that; whether there was one.
-    pub fn put_back(&mut self) -> bool {
-        match (self.misdirected.take(), self.served) {
-            (Some(it), Some((inode, _))) => {
-                self.inodes[inode].write(it.wrong, &it.replaced);
-                self.inodes[inode].write(it.right, &it.bytes);
-                let until = self.inodes[inode].written();
-                self.inodes[inode].sync(until);
-                true
-            }
-            _ => false,
-        }
     }
 
     /// Whether some of these bytes of a file can't be read.
