@@ -1,6 +1,7 @@
 """The simulator: seeds of the gate find nothing, and a seed gives the same events each time."""
 import os
 import platform
+import random
 import re
 import shutil
 import subprocess
@@ -15,16 +16,32 @@ sys.path.insert(0, str(HERE / "simulator"))
 import coverage
 
 SEEDS, MANY, COVERING = (1, 2), 72, 165
+# How many faults are planted.
+PLANTED = 3
 COMMANDS = 300
 
 
 def seed_of_commit() -> "int | None":
-    """The first of the seeds that the commit chooses, so that each gate tries others; nothing without git."""
+    """A number that the commit chooses, so that each gate tries other seeds and faults; nothing without git."""
     if not shutil.which("git"):
         return None
     ran = subprocess.run(["git", "-C", HERE, "rev-parse", "HEAD"], stdout=subprocess.PIPE, stderr=subprocess.DEVNULL,
                          text=True)
     return int(ran.stdout[:7], 16) if ran.returncode == 0 else None
+
+
+def has_libcrypto() -> bool:
+    """Whether the linker finds libcrypto."""
+    if not shutil.which("cc"):
+        return False
+    found = subprocess.run(["cc", "-print-file-name=libcrypto.so"], stdout=subprocess.PIPE, text=True)
+    return Path(found.stdout.strip()).is_absolute()
+
+
+def faults_with_seeds() -> "list[str]":
+    """The faults of planted.txt that a seed finds."""
+    text = (HERE / "simulator/planted.txt").read_text(encoding="utf-8")
+    return re.findall(r"^name: (.+)\nseed: \d+$", text, re.M)
 
 
 class Coverage(unittest.TestCase):
@@ -57,7 +74,8 @@ class Coverage(unittest.TestCase):
             self.assertEqual(str(coverage.Entry("some.rs", "f", "b();")), "some.rs f `b();`")
 
 
-@unittest.skipUnless(shutil.which("cargo") and platform.machine() == "x86_64", "the simulator needs cargo and x86-64")
+@unittest.skipUnless(shutil.which("cargo") and has_libcrypto() and platform.machine() == "x86_64",
+                     "the simulator needs cargo, libcrypto and x86-64")
 @unittest.skipUnless(os.environ.get("NVMESIM_LIB") or (HERE / "out/library/lib").is_dir(), "nothing was built here")
 class Simulate(unittest.TestCase):
     def run_seed(self, seed: int, log: Path) -> str:
@@ -85,6 +103,14 @@ class Simulate(unittest.TestCase):
                              text=True)
         self.assertEqual(ran.returncode, 0, ran.stdout)
         self.assertRegex(ran.stdout, r"\b[1-9]\d* passed")
+
+    def test_planted(self) -> None:
+        """Faults that the commit chooses are planted, and each is found by its seed, or soon by another."""
+        names = random.Random(seed_of_commit() or 0).sample(faults_with_seeds(), PLANTED)
+        ran = subprocess.run([HERE / "simulator/plant", "--again", *names], stdout=subprocess.PIPE,
+                             stderr=subprocess.STDOUT, text=True)
+        self.assertEqual(ran.returncode, 0, ran.stdout)
+        self.assertIn(f"{PLANTED} of {PLANTED} found", ran.stdout)
 
     def run_many(self, first: int) -> None:
         """A hundred thousand commands."""

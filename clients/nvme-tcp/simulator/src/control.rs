@@ -204,7 +204,10 @@ fn exchange(asked: &Asked, lines: &str) -> Option<String> {
     stream.set_nonblocking(true).ok()?;
     let is_sent = stream.write_all(lines.as_bytes()).is_ok() && stream.shutdown(Shutdown::Write).is_ok();
     let (mut text, mut room) = (Vec::new(), [0; 8192]);
-    while is_sent {
+    if !is_sent {
+        return None;
+    }
+    loop {
         match stream.read(&mut room) {
             Ok(0) => break,
             Ok(count) => text.extend(&room[..count]),
@@ -220,6 +223,5 @@ fn exchange(asked: &Asked, lines: &str) -> Option<String> {
             Err(_) => return None,
         }
     }
-    let is_whole = is_sent && !is_excused(asked.process, begun);
-    is_whole.then(|| String::from_utf8_lossy(&text).into_owned())
+    (!is_excused(asked.process, begun)).then(|| String::from_utf8_lossy(&text).into_owned())
 }

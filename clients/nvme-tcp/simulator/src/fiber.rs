@@ -42,9 +42,9 @@ pub type Work = Box<dyn FnOnce()>;
 
 thread_local! {
     /// The stack pointer of the simulator itself while a fiber runs.
-    static ROOT: Cell<usize> = Cell::new(0);
+    static ROOT: Cell<usize> = const { Cell::new(0) };
     /// The place that keeps the running fiber's.
-    static CURRENT: Cell<*mut usize> = Cell::new(std::ptr::null_mut());
+    static CURRENT: Cell<*mut usize> = const { Cell::new(std::ptr::null_mut()) };
 }
 
 /// A fiber that is not running.

@@ -6,7 +6,8 @@ use crate::hosts::chap::Choice;
 
 /// The kinds.
 pub const HABITS: [&str; 13] = [
-    "admin", "attach", "protect", "visit", "err", "type", "operator", "option", "memory", "tool", "fail", "space", "keys",
+    "admin", "attach", "protect", "visit", "err", "type", "operator", "option", "memory", "tool", "fail", "space",
+    "keys",
 ];
 
 #[derive(Clone, Copy, Debug, Default)]

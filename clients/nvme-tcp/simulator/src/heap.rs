@@ -11,7 +11,7 @@
 //! after its allocation, if that is to fill it with zeros from its beginning on.
 
 use std::cell::Cell;
-use std::ffi::{c_int, c_void};
+use std::os::raw::{c_int, c_void};
 
 /// A block of this size is large.
 const LARGE: usize = 16 << 10;
@@ -123,7 +123,7 @@ extern "C" fn memset(block: *mut c_void, byte: c_int, count: usize) -> *mut c_vo
         return block;
     }
     // The compiler makes a call of `memset` of it if it sees that both numbers are the same.
-    unsafe { __memset_chk(block, byte, count, std::hint::black_box(count)) }
+    unsafe { __memset_chk(block, byte, count, std::ptr::read_volatile(&count)) }
 }
 
 #[no_mangle]

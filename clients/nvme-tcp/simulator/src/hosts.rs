@@ -19,6 +19,7 @@ mod proving;
 pub mod queue;
 mod queues;
 pub mod reservations;
+mod strayed;
 pub mod visits;
 mod wrong;
 
@@ -26,8 +27,8 @@ use crate::ending::crash;
 use crate::habits::Habits;
 use crate::world::{self, with, MILLISECOND, SECOND};
 use admin::Known;
-use checker::{check, Act, Sent};
 use chap::Choice;
+use checker::{check, Act, Sent};
 use choice::Area;
 use pdu::Digests;
 use proving::Proof;
@@ -195,15 +196,17 @@ impl Path {
         }
     }
 
+    /// Connects a queue, whose host authenticates itself if it has to; whether the target takes both.
+    fn connect_queue(&self, queue: &mut Queue, qid: u16, keep_alive_ms: u32) -> Result<bool, Lost> {
+        let connected = queue.connect(&self.connect_of(qid, keep_alive_ms))?;
+        Ok(connected.status == 0 && self.prove(queue, &connected)? == Proof::Done)
+    }
+
     fn connect(&self, address: SocketAddr) -> Result<Session<'_>, Lost> {
         let keep_alive = if below(3) == 0 { [1, 2, 10][below(3)] } else { 0 };
         let (process, begun) = (process_at(address), now());
         let mut admin = Queue::open(address, self.digests)?;
-        let connected = admin.connect(&self.connect_of(0, keep_alive * 1_000))?;
-        if connected.status != 0 {
-            return Err(Lost::Refused);
-        }
-        if self.prove(&mut admin, &connected)? != Proof::Done {
+        if !self.connect_queue(&mut admin, 0, keep_alive * 1_000)? {
             return Err(Lost::Refused);
         }
         // Its association has ended, and with it all of its commands.
@@ -216,8 +219,7 @@ impl Path {
             return Err(Lost::Ended);
         }
         let mut io = Queue::open(address, self.digests)?;
-        let connected = io.connect(&self.connect_of(1, 0))?;
-        if connected.status != 0 || self.prove(&mut io, &connected)? != Proof::Done {
+        if !self.connect_queue(&mut io, 1, 0)? {
             return Err(Lost::Ended);
         }
         with(|it| it.note(&format!("path {} is connected to {address}", self.cntlid)));

@@ -6,7 +6,7 @@
 //! numbers is a constant, as long-lived as the program.
 
 use crate::world::with;
-use std::ffi::{c_int, c_void};
+use std::os::raw::{c_int, c_void};
 use std::ptr;
 
 /// BIGNUM.
@@ -132,8 +132,7 @@ pub fn digest(hash: u8, bytes: &[u8]) -> Vec<u8> {
 pub fn hmac(hash: u8, key: &[u8], bytes: &[u8]) -> Vec<u8> {
     let (mut code, mut count) = (vec![0; size(hash)], 0);
     let (of_key, data) = (key.as_ptr().cast(), bytes.as_ptr());
-    let made =
-        unsafe { HMAC(kind(hash), of_key, count_of(key), data, bytes.len(), code.as_mut_ptr(), &mut count) };
+    let made = unsafe { HMAC(kind(hash), of_key, count_of(key), data, bytes.len(), code.as_mut_ptr(), &mut count) };
     assert!(!made.is_null() && count as usize == code.len(), "libcrypto makes no HMAC");
     code
 }

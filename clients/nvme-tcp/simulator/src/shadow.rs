@@ -1,6 +1,7 @@
 //! What the target imports from `std`, over the simulated world. Names, signatures and errors are those of the standard
 //! library, as far as the target uses them; everything else is re-exported as it is.
 
+mod calls;
 pub mod collections;
 pub mod fs;
 pub mod io;

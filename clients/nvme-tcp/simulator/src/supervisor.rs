@@ -187,8 +187,7 @@ impl Supervisor {
         let may_lose_lease = !self.running.is_empty();
         self.running.iter_mut().for_each(|it| it.may_lose_lease = true);
         let (begun, faults, strayed) = with(|it| (it.now, faults(it), it.disks.misdirection.reads));
-        let it =
-            Running { process, machine, script, control, address, second, begun, faults, strayed, may_lose_lease };
+        let it = Running { process, machine, script, control, address, second, begun, faults, strayed, may_lose_lease };
         self.running.push(it);
         if self.scenario.manner.is_memory {
             check(|it| it.begin_memory(process));

@@ -286,6 +286,9 @@ fn use_volumes(act: Act) {
     }
 }
 
+/// Bytes at a place.
+type Patch<'b> = (usize, &'b [u8]);
+
 /// Volumes whose superblocks or journals are damaged in each way.
 fn damage_volumes(act: Act) {
     let (good, size) = (content("/copy"), content("/copy").len());
@@ -300,7 +303,7 @@ fn damage_volumes(act: Act) {
         page[DIGEST_AT..DIGEST_AT + 4].copy_from_slice(&sum);
         page
     };
-    let damages: [(&[(usize, &[u8])], u8); 8] = [
+    let damages: [(&[Patch], u8); 8] = [
         (&[(100, b"x")], 0),
         (&[(100, b"x"), (SECOND_COPY + 100, b"x")], REFUSED),
         (&[(SECOND_COPY, &newer)], REFUSED),

@@ -169,11 +169,11 @@ impl Log {
 }
 
 thread_local! {
-    static WORLD: RefCell<Option<World>> = RefCell::new(None);
+    static WORLD: RefCell<Option<World>> = const { RefCell::new(None) };
 }
 
 thread_local! {
-    static PLANTED: RefCell<String> = RefCell::new(String::new());
+    static PLANTED: RefCell<String> = const { RefCell::new(String::new()) };
 }
 
 /// Plants a fault, in a copy of the target.

@@ -272,12 +272,7 @@ impl Controller {
 
 /// The data that are stored with a command, and their address: its own, or zeros where it may store fewer than its host
 /// expects.
-fn stored_data<'d>(
-    qid: u16,
-    entry: &SubmissionEntry,
-    data: Data<'d>,
-    buffer: DataBuffer,
-) -> (u64, Cow<'d, [u8]>) {
+fn stored_data<'d>(qid: u16, entry: &SubmissionEntry, data: Data<'d>, buffer: DataBuffer) -> (u64, Cow<'d, [u8]>) {
     match data {
         Data::ToController(bytes) if !bytes.is_empty() => (buffer.start(bytes.len()), Cow::Borrowed(bytes)),
         Data::FromController(length) if length != 0 && !buffers::is_filled(entry.bytes(), qid == 0, length) => {

@@ -5,6 +5,7 @@ use super::keyring::KeyRing;
 use super::protection::Protection;
 use super::queue::Completion;
 use super::reservations::{entries_of, Registrations};
+use super::strayed::Strayed;
 use crate::world::{with, SECOND};
 use std::cell::RefCell;
 use std::collections::{BTreeMap, BTreeSet};
@@ -108,8 +109,7 @@ pub struct Checker {
     open: BTreeMap<u64, Sent>,
     /// Commands of connections that were lost, with their numbers.
     given_up: Vec<(u64, Sent)>,
-    /// Blocks that may have a value by a fault of the disk, with the numbers of these, while targets run.
-    strayed: Vec<(usize, u64)>,
+    strayed: Strayed,
     next: u64,
     next_value: u64,
     fence: Option<Fence>,
@@ -143,7 +143,7 @@ pub struct Checker {
 }
 
 thread_local! {
-    static CHECKER: RefCell<Option<Checker>> = RefCell::new(None);
+    static CHECKER: RefCell<Option<Checker>> = const { RefCell::new(None) };
 }
 
 pub fn check<R>(act: impl FnOnce(&mut Checker) -> R) -> R {
@@ -161,7 +161,7 @@ pub fn begin(blocks: usize, first: usize, writes_through: bool, persists: bool) 
         statuses: BTreeMap::new(),
         open: BTreeMap::new(),
         given_up: Vec::new(),
-        strayed: Vec::new(),
+        strayed: Strayed::default(),
         next: 0,
         next_value: 0,
         fence: None,
@@ -454,18 +454,9 @@ impl Checker {
         self.given_up.push((number, sent));
     }
 
-    /// By a fault of the disk, blocks may have these values from now on, or as long as a target has them in its memory.
-    /// They have no digests, so a target can't know.
+    /// Blocks may have these bytes from now on, by a fault of the disk.
     pub fn stray(&mut self, slba: usize, bytes: &[u8]) {
-        let (now, values) = (now(), bytes.chunks_exact(BLOCK).map(value_of));
-        for (block, value) in (slba..).zip(values) {
-            self.next += 1;
-            let number = self.next;
-            if let Some((it, value)) = self.blocks.get_mut(block).zip(value) {
-                it.stray(number, value, now);
-                self.strayed.push((block, number));
-            }
-        }
+        self.next = self.strayed.add(&mut self.blocks, slba, bytes, self.next, now());
     }
 
     /// Nothing that was given up is executed from now on: of this controller, or of all.
@@ -473,8 +464,7 @@ impl Checker {
         let end = now();
         self.bound_protection(cntlid);
         if cntlid.is_none() {
-            let blocks = &mut self.blocks;
-            self.strayed.drain(..).for_each(|(block, number)| blocks[block].bound(number, end));
+            self.strayed.bound(&mut self.blocks, end);
         }
         let (over, rest): (Vec<_>, Vec<_>) =
             self.given_up.drain(..).partition(|(_, it)| cntlid.map_or(true, |cntlid| it.cntlid == cntlid));

@@ -91,7 +91,7 @@ impl Path {
         let (place, count) = self.extent(area);
         let slba = area.base + place;
         let forced = if once_in(self.forces) { FORCED } else { 0 };
-        let words = [&(place as u64).to_le_bytes()[..], &(count as u32 - 1 | forced).to_le_bytes()].concat();
+        let words = [&(place as u64).to_le_bytes()[..], &((count as u32 - 1) | forced).to_le_bytes()].concat();
         let command = |opcode| Command { opcode, nsid: area.nsid, words: words.clone(), ..Command::default() };
         let bytes = |values: &[u64]| values.iter().flat_map(|it| bytes_of(*it)).collect::<Vec<u8>>();
         match self.kind() {

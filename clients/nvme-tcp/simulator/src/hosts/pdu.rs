@@ -63,7 +63,7 @@ pub fn digest(bytes: &[u8]) -> u32 {
     let (mut value, mut pieces) = (!0, bytes.chunks_exact(8));
     for it in &mut pieces {
         let (low, high) = (u32_at(it, 0) ^ value, u32_at(it, 4));
-        let of = |at: usize, part: u32| TABLES[7 - at][(part >> 8 * (at % 4) & 0xff) as usize];
+        let of = |at: usize, part: u32| TABLES[7 - at][(part >> (8 * (at % 4)) & 0xff) as usize];
         value = (0..4).fold(0, |sum, at| sum ^ of(at, low) ^ of(at + 4, high));
     }
     let rest = pieces.remainder().iter();

@@ -108,7 +108,9 @@ impl Path {
         match self.choice {
             Some(choice) => {
                 let proof = queue.prove(&self.peers(choice))?;
-                with(|it| *it.injected.entry(if proof == Proof::Done { "proof" } else { "no proof" }).or_default() += 1);
+                with(|it| {
+                    *it.injected.entry(if proof == Proof::Done { "proof" } else { "no proof" }).or_default() += 1
+                });
                 Ok(proof)
             }
             None => Ok(Proof::Done),

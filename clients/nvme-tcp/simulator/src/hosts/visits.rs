@@ -167,7 +167,7 @@ impl Path {
 
     /// Connects to the neighbour of its controller, which may be of another host, or in use.
     fn take_another(&self, queue: &mut Queue) -> Result<(), Lost> {
-        let (cntlid, begun) = (one_of(&[0xffff, (self.cntlid - 1 ^ 1) + 1]), with(|it| it.now));
+        let (cntlid, begun) = (one_of(&[0xffff, ((self.cntlid - 1) ^ 1) + 1]), with(|it| it.now));
         let given = queue.connect(&Connect { cntlid, ..self.connect_of(0, 0) })?.status;
         let has_no_line = given == HOST && check(|it| it.keys.has_changed(self.host, begun));
         if has_no_line || [SUCCESS, PARAMETERS, BUSY].contains(&given) {

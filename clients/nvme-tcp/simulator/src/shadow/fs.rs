@@ -1,11 +1,11 @@
 //! Files over the simulated disks.
 
+use super::calls::{Call, CACHED, MEDIUM, SYNC};
 pub use super::metadata::{metadata, FileType, Metadata, Permissions};
-use crate::fiber;
 use crate::hosts::checker::check;
 use crate::world::disk::{Kind, SECTOR};
 use crate::world::misdirection::Strayed;
-use crate::world::{self, with, World, MICROSECOND, MILLISECOND};
+use crate::world::{self, with, World};
 use ::std::io::{self, ErrorKind, Read, Seek, SeekFrom, Write};
 use ::std::path::Path;
 use ::std::sync::atomic::{AtomicU64, Ordering};
@@ -50,49 +50,6 @@ impl Drop for Shared {
             it.wake_all(world::Key::Lock);
         });
     }
-}
-
-/// How long a call of a disk takes, in microseconds.
-struct Time {
-    least: u64,
-    most: u64,
-}
-
-const CACHED: Time = Time { least: 1, most: 8 };
-const MEDIUM: Time = Time { least: 20, most: 200 };
-const SYNC: Time = Time { least: 50, most: 1_500 };
-
-/// A call on a disk. One that has begun takes effect though its process is stopped; it returns afterwards.
-struct Call {
-    is_inside: bool,
-}
-
-impl Call {
-    fn begin(time: &Time) -> Call {
-        let is_inside = fiber::is_inside();
-        if is_inside {
-            world::call(true);
-            spend(time);
-        }
-        Call { is_inside }
-    }
-}
-
-impl Drop for Call {
-    fn drop(&mut self) {
-        if self.is_inside {
-            world::call(false);
-        }
-    }
-}
-
-fn spend(time: &Time) {
-    let nanoseconds = with(|it| {
-        let late = it.chances.late_disk;
-        let factor = if it.happens("late disk", late) { it.random.within(20, 2_000) } else { 1 };
-        (it.random.within(time.least, time.most) * MICROSECOND * factor).min(600 * MILLISECOND)
-    });
-    world::pause(nanoseconds);
 }
 
 /// The checker has to know which blocks may have which values by a fault of the disk.
@@ -153,18 +110,39 @@ impl Open {
             if count > PAGE && world.happens("short read", short) {
                 count = PAGE * (1 + world.random.index(count / PAGE));
             }
-            room[..count].copy_from_slice(&world.disks.inodes[self.inode].data[place..place + count]);
-            let World { disks, random, .. } = world;
-            let before = disks.misdirection.reads;
-            strayed = disks.misread(self.inode, place, &mut room[..count], random);
-            if disks.misdirection.reads != before {
-                *world.injected.entry("misread state").or_default() += 1;
-                world.note(&format!("the disk reads other bytes than those at {place}"));
-            }
+            strayed = self.fill(world, &mut room[..count], place);
             Ok(count)
         });
         strayed.into_iter().for_each(|it| stray("misdirected read of blocks", &it));
         result
+    }
+
+    /// Reads what the disk returns, and which blocks it has read elsewhere.
+    fn fill(&self, world: &mut World, room: &mut [u8], place: usize) -> Option<Strayed> {
+        room.copy_from_slice(&world.disks.inodes[self.inode].data[place..place + room.len()]);
+        let World { disks, random, .. } = world;
+        let before = disks.misdirection.reads;
+        let strayed = disks.misread(self.inode, place, room, random);
+        if disks.misdirection.reads != before {
+            *world.injected.entry("misread state").or_default() += 1;
+            world.note(&format!("the disk reads other bytes than those at {place}"));
+        }
+        strayed
+    }
+
+    /// The place to which the disk writes bytes.
+    fn place_of(&self, bytes: &[u8], place: usize) -> usize {
+        let (written, strayed) = with(|world| {
+            let World { disks, random, injected, .. } = world;
+            let (written, strayed) = disks.place_of(self.inode, place, bytes, random);
+            if written != place {
+                *injected.entry("misdirected write").or_default() += 1;
+                world.note(&format!("the disk writes {} bytes at {written} that belong at {place}", bytes.len()));
+            }
+            (written, strayed)
+        });
+        strayed.iter().for_each(|it| stray("misdirected blocks", it));
+        written
     }
 
     fn write_at(&self, bytes: &[u8], place: u64) -> io::Result<usize> {
@@ -185,16 +163,7 @@ impl Open {
             Ok(if is_short { PAGE * (1 + world.random.index(bytes.len() / PAGE)) } else { bytes.len() })
         })?;
         // The kernel copies page by page, and notices a kill in between.
-        let (place, strayed) = with(|world| {
-            let World { disks, random, injected, .. } = world;
-            let (written, strayed) = disks.place_of(self.inode, place as usize, &bytes[..count], random);
-            if written != place as usize {
-                *injected.entry("misdirected write").or_default() += 1;
-                world.note(&format!("the disk writes {count} bytes at {written} that belong at {place}"));
-            }
-            (written, strayed)
-        });
-        strayed.iter().for_each(|it| stray("misdirected blocks", it));
+        let place = self.place_of(&bytes[..count], place as usize);
         let (mut at, end) = (place, place + count);
         while at < end {
             let next = end.min((at / PAGE + 1) * PAGE);

@@ -68,7 +68,8 @@ fn number_at(bytes: &[u8], at: usize) -> u64 {
 /// The newest batch of a volume's journal. Without it the journal is as after a loss of power before it was synced, which
 /// nobody could tell apart.
 fn newest_batch(volume: &[u8]) -> Range<usize> {
-    let pages = JOURNAL.step_by(PAGE).filter(|at| volume.get(*at..*at + PAGE).map_or(false, |it| it.starts_with(MAGIC)));
+    let pages =
+        JOURNAL.step_by(PAGE).filter(|at| volume.get(*at..*at + PAGE).map_or(false, |it| it.starts_with(MAGIC)));
     let newest = pages.max_by_key(|at| (number_at(volume, at + SEGMENT_AT), number_at(volume, at + NUMBER_AT)));
     newest.map_or(0..0, |at| at..at + HEAD + (number_at(volume, at + LENGTH_AT) as u32) as usize)
 }
@@ -123,9 +124,8 @@ impl Disks {
             _ => return (right, Vec::new()),
         };
         let place = wrong..wrong + bytes.len();
-        let hides_newest = next != Some(Stray::Journal)
-            && self.is_volume()
-            && meets(&place, &newest_batch(&self.inodes[inode].data));
+        let hides_newest =
+            next != Some(Stray::Journal) && self.is_volume() && meets(&place, &newest_batch(&self.inodes[inode].data));
         if wrong == right || place.end > end || hides_newest {
             return (right, Vec::new());
         }
