@@ -255,6 +255,8 @@ def report(program, profile):
         wrong += faults(own, path, counts)
         sums = [one + other for one, other in zip(sums, (reached, count, left_out))]
         rows += [f"{name}: {reached} of {count}" + (f", {left_out} left out" if left_out else ""), *told]
-    percent = 100 * sums[0] / max(1, sums[1])
-    head = f"{sums[0]} of {sums[1]} lines, {percent:.1f} percent; {sums[2]} left out by unreached.txt"
+    reached, count, left_out = sums
+    percent, of_all = (100 * reached / max(1, it) for it in (count, count + left_out))
+    head = (f"{reached} of {count} lines, {percent:.1f} percent; with {left_out} that unreached.txt leaves out "
+            f"{of_all:.1f} percent of all")
     return "\n".join([head, *rows]) + "\n", wrong

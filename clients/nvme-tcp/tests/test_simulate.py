@@ -129,9 +129,10 @@ class Simulate(unittest.TestCase):
             ran = subprocess.run([HERE / "simulate", "--coverage", folder, "--seeds", str(COVERING), "--no-shrink"],
                                  stdout=subprocess.PIPE, stderr=subprocess.STDOUT, text=True)
         self.assertEqual(ran.returncode, 0, ran.stdout)
-        reached = re.search(r"^\d+ of \d+ lines, ([\d.]+) percent", ran.stdout, re.M)
+        reached = re.search(r"^\d+ of \d+ lines, ([\d.]+) percent; .* ([\d.]+) percent of all", ran.stdout, re.M)
         self.assertIsNotNone(reached, ran.stdout)
         self.assertGreaterEqual(float(reached[1]), 99, ran.stdout)
+        self.assertGreaterEqual(float(reached[2]), 97.5, ran.stdout)
 
     def test_many_seeds(self) -> None:
         self.run_many(1)
