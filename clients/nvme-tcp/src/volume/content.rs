@@ -32,7 +32,7 @@ impl Content {
         Content::of(superblock::read(file)?, || log::read(file), length)
     }
 
-    /// The same for an owner, while nobody else writes: a disk that returns bytes of another place is not believed.
+    /// Reads them while nobody writes, until two reads agree: a disk may return bytes of another place.
     pub fn read_settled(file: &File, length: u64) -> Result<Content, Refusal> {
         Content::of(settled(|| superblock::read(file))?, || settled(|| log::read(file)), length)
     }

@@ -1,5 +1,5 @@
-//! Hosts that do not prove who they are: with wrong secrets, with messages that lie in a field or come out of turn, and
-//! that end in the midst. No command of theirs is executed.
+//! Hosts that do not prove who they are: with wrong secrets, with messages that are false in a field or come out of
+//! turn, and that end in the midst. No command of theirs is executed.
 
 use super::admin::{one_of, words, ID_CONFLICT, INVALID_FIELD, SEQUENCE, SGL_LENGTH, SUCCESS};
 use super::chap::{failure2, negotiate, success2, Choice, Peers, Reply, Secret, HEAD};
@@ -98,7 +98,7 @@ impl Stranger<'_> {
         }
     }
 
-    /// One of the ways to fail.
+    /// Fails in one of many ways.
     fn lie(&mut self) -> Result<(), Lost> {
         match below(16) {
             0..=1 => self.have_wrong_secret(),
