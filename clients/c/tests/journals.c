@@ -1,5 +1,6 @@
 /* Tests of the calls on journals. */
 #include "hosts.h"
+#include <nvmetcp.h>
 
 static bool lasts(uint8_t opcode, uint8_t dw10, bool is_admin) {
     uint8_t entry[64] = {opcode};
