@@ -186,6 +186,7 @@ impl Session<'_> {
         self.rest(SECOND / 2)?;
         self.admin.call(&Command { opcode: KEEP_ALIVE, ..Command::default() })?;
         let may_fail = check(|it| it.keys.may_fail(self.path.host, self.begun));
+        self.may_end |= may_fail;
         if may_fail || was_stopped(self.process, self.begun) {
             return Err(Lost::Ended);
         }
