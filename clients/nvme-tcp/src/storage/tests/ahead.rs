@@ -65,10 +65,12 @@ fn reads_ahead_delay_no_others() {
     let mut it = Trial::new(Fake::new(4 * CACHED), false);
     [0, 8].into_iter().for_each(|first| assert!(it.read_in_order(0, first, 8) != 0));
     it.disk.close(true);
-    // All of these wait at the gate, which no thread has passed, and are begun before what is ahead of them.
+    // Each of the eight threads has one of the first eight, and waits at the gate. What is ahead comes next.
     let ids: Vec<u64> = (0..12).map(|_| it.id()).collect();
-    it.storage.read_ahead(0, Need::Read { first: 16, blocks: 8 });
     for (at, id) in (0..).zip(&ids) {
+        if at == 8 {
+            it.storage.read_ahead(0, Need::Read { first: 16, blocks: 8 });
+        }
         assert!(!it.storage.prepare(Need::Read { first: CACHED + 64 * at, blocks: 8 }, *id));
     }
     it.disk.close(false);
