@@ -63,10 +63,12 @@ fn chosen(random: &mut Random, without: &[String], kind: &str, of_twelve: u64) -
     is_chosen && !without.iter().any(|it| it == kind)
 }
 
-/// The hash and the DH group of a seed. Long numbers take time.
+/// The hash and the DH group of a seed. Long numbers take time, and the two longest most of it.
 fn choice_of(seed: u64) -> Choice {
     let groups = [0, 1, 0, 2, 0, 1, 0, 3, 0, 1, 0, 4, 0, 1, 0, 5];
-    Choice { hash: 1 + (seed / 3 % 3) as u8, group: groups[(seed / 2 % 16) as usize] }
+    let group = groups[(seed / 2 % 16) as usize];
+    let is_too_long = group > 3 && seed / 32 % 4 != 0;
+    Choice { hash: 1 + (seed / 3 % 3) as u8, group: if is_too_long { 0 } else { group } }
 }
 
 impl Manner {
