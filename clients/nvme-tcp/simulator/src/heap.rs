@@ -55,6 +55,14 @@ pub fn set_owner(process: usize) -> usize {
     BLOCKS.with(|it| it.owner.replace(process))
 }
 
+/// Does something that allocates for no process.
+pub fn of_no_process<R>(act: impl FnOnce() -> R) -> R {
+    let owner = set_owner(0);
+    let result = act();
+    set_owner(owner);
+    result
+}
+
 fn note(block: *mut c_void, size: usize) -> *mut c_void {
     if size >= LARGE && !block.is_null() {
         BLOCKS.with(|it| {

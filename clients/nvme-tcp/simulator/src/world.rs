@@ -187,10 +187,7 @@ pub fn is_planted(name: &str) -> bool {
 
 /// Does something with the world. It must not switch. What it allocates is the world's.
 pub fn with<R>(act: impl FnOnce(&mut World) -> R) -> R {
-    let owner = heap::set_owner(HOSTS);
-    let result = WORLD.with(|it| act(it.borrow_mut().as_mut().expect("there is a world")));
-    heap::set_owner(owner);
-    result
+    heap::of_no_process(|| WORLD.with(|it| act(it.borrow_mut().as_mut().expect("there is a world"))))
 }
 
 /// Begins a world.

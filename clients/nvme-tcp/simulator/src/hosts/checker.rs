@@ -6,8 +6,7 @@ use super::protection::Protection;
 use super::queue::Completion;
 use super::reservations::{entries_of, Registrations};
 use super::strayed::Strayed;
-use crate::heap;
-use crate::world::{with, HOSTS, SECOND};
+use crate::world::{with, SECOND};
 use std::cell::RefCell;
 use std::collections::{BTreeMap, BTreeSet};
 
@@ -147,13 +146,9 @@ thread_local! {
     static CHECKER: RefCell<Option<Checker>> = const { RefCell::new(None) };
 }
 
-/// Asks or tells the checker. What it keeps is of no process, also if a process's own call comes here: that of a disk
-/// which goes wrong.
+/// Asks the checker. What it keeps is of no process, also if a process's own call comes here.
 pub fn check<R>(act: impl FnOnce(&mut Checker) -> R) -> R {
-    let owner = heap::set_owner(HOSTS);
-    let result = CHECKER.with(|it| act(it.borrow_mut().as_mut().expect("there is a checker")));
-    heap::set_owner(owner);
-    result
+    crate::heap::of_no_process(|| CHECKER.with(|it| act(it.borrow_mut().as_mut().expect("there is a checker"))))
 }
 
 pub fn begin(blocks: usize, first: usize, writes_through: bool, persists: bool) {
