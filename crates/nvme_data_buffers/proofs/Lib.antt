@@ -2,8 +2,8 @@ mod Listed
 mod Pointers
 mod Areas
 mod Placed
-mod OwnData
+pub mod OwnData
 mod Returned
-mod Stores
-mod Executions
+pub mod Stores
+pub mod Executions
 mod Fields

@@ -96,7 +96,7 @@ again : (w part : List ℕ) (at : ℕ) → at + length part ≤ length w → sli
 again w part at within there =
     ap (with_bytes w at) (sym there) ∙ same_lists _ _ (search (rules, places)) (λ k d h. grind (arith, places))
 
-is-buffer : (b : DataBuffer) → 1 ≤ capacity b → IsArea (Buffer b)
+pub is-buffer : (b : DataBuffer) → 1 ≤ capacity b → IsArea (Buffer b)
 is-buffer AtOnce some = tt
 is-buffer (Held n) some =
     ⊎_elim {C = n < 16} (λ (few : n < 16). few)

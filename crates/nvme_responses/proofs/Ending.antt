@@ -50,17 +50,17 @@ nothing-dropped-keeps s cid h = by (place s.outstanding cid) h where
 
 -- ---- after the end
 
-abbrev Closed : Stage → Type 0
+abbrev pub Closed : Stage → Type 0
 Closed stage.Open = ⊥
 Closed stage.Ending = Unit {0}
 Closed stage.Ended = Unit {0}
 
-ended-closed : (g : Stage) → Closed (ended_by g)
+pub ended-closed : (g : Stage) → Closed (ended_by g)
 ended-closed stage.Open = tt
 ended-closed stage.Ending = tt
 ended-closed stage.Ended = tt
 
-stays-closed : (s : State) (call : Call) → Closed s.stage → Closed (after s call).stage
+pub stays-closed : (s : State) (call : Call) → Closed s.stage → Closed (after s call).stage
 stays-closed s (Accepts cid) h = subst Closed (sym (accept-stage (accepted s cid) s cid)) h
 stays-closed s (Responds r) h = subst Closed (sym (respond-stage (response s r) s r.cid)) h
 stays-closed s (Forgets cid) h = h

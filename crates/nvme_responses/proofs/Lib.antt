@@ -1,9 +1,9 @@
 mod Taking
-mod Tallies
-mod Steps
-mod EachOnce
+pub mod Tallies
+pub mod Steps
+pub mod EachOnce
 mod Stages
-mod Waiting
+pub mod Waiting
 mod Heads
-mod Ending
+pub mod Ending
 mod Fields

@@ -43,7 +43,7 @@ none-taken Requests = refl
 none-taken (Takes p) = ap (λ o. part_if (taken_by o p) p) (no-transfer p.tag)
 none-taken Ends = refl
 
-none-whole : (run : List Call) (call : Call) → state_after run ≡ ended → completes run call ≡ []
+pub none-whole : (run : List Call) (call : Call) → state_after run ≡ ended → completes run call ≡ []
 none-whole run (Begins c) over = refl
 none-whole run Requests over = refl
 none-whole run (Takes p) over =

@@ -2,10 +2,10 @@ mod Fitting
 mod Slots
 mod Steps
 mod Lists
-mod Ordered
-mod Flights
-mod OwnParts
+pub mod Ordered
+pub mod Flights
+pub mod OwnParts
 mod PartsOnce
-mod Ending
+pub mod Ending
 mod Completing
 mod Rooms
