@@ -1,7 +1,7 @@
 /* nvmetcp: NVMe/TCP as a part of libnvmesim, for a program that is a controller's end of connections: what the PDUs of
- * a connection are, byte by byte, which connection is a queue of which controller, which data are whose, and where they
- * are in the memory of a controller's host. The program has the sockets, computes the digests, knows keys and addresses,
- * and executes what the commands say.
+ * a connection are, byte by byte, which connection is a queue of which controller, which commands are refused, which
+ * data are whose, and where they are in the memory of a controller's host. The program has the sockets, computes the
+ * digests, knows keys and addresses, and executes what the commands say.
  *
  * The rules of nvmesim.h hold here too. Only these calls write a struct nvmesim_connection, nvmesim_session,
  * nvmesim_fabrics or nvmesim_transfers once it is what its comment says; each has one call at a time.
@@ -11,14 +11,19 @@
  *  2. If the stage is NVMESIM_STAGE_WHOLE, compute the digests that the layout has, and call nvmesim_connection_judge.
  *  3. If the PDU is complete, do what it says, or call nvmesim_connection_refuse. Then continue with the bytes that
  *     were not taken. At BAD_PDU send C2HTermReq (nvmesim_pdu_termination), which repeats `kept`, and close the connection.
- * For each command of a connection call nvmesim_responses_accept, and once it is done nvmesim_responses_respond; send
- * what that has written. nvmesim_fabrics_live returns what the connection is. For Connect:
+ * For each command capsule call nvmesim_capsules_take, and act on its outcome:
+ *  - NVMESIM_BAD_PDU: call nvmesim_connection_refuse. NVMESIM_CAPSULE_REFUSED: respond with the status.
+ *  - NVMESIM_CAPSULE_WAITS: its data come by R2T. Then, and whenever a command is complete, send an R2T for each
+ *    nvmesim_transfers_next_request, and for each H2CData call nvmesim_transfers_take or nvmesim_transfers_store. A
+ *    complete command is ready if its data are sound; if not, respond with Transient Transport Error.
+ *  - Any other command is ready: it is for what nvmesim_capsules_destination returns, by nvmesim_fabrics_live.
+ * Once a command is done call nvmesim_responses_respond, and send what that has written. A program that has rules of
+ * its own for which commands are refused and where data are calls nvmesim_responses_accept and nvmesim_transfers_begin,
+ * and never nvmesim_capsules_take, which does what both do. For Connect:
  *  1. nvmesim_fabrics_admitted. If it is for an I/O queue, and hosts have no keys, create the queues.
  *  2. nvmesim_fabrics_connect, with the status of that.
  *  3. If the session is authenticating, and once the host is authentic: nvmesim_fabrics_admits, create the queues, and
  *     nvmesim_fabrics_authenticate.
- * For a command whose data come by R2T: nvmesim_transfers_begin. Then, and whenever one is complete, send an R2T for
- * each nvmesim_transfers_next_request, and for each H2CData call nvmesim_transfers_take or nvmesim_transfers_store.
  * For a command that the subsystem executes: store its data at nvmesim_buffers_start, and what nvmesim_buffers_place
  * makes of its entry in the queue. Store the bytes of nvmesim_buffers_list before a controller is enabled.
  * If the access state has to outlast the program, keep each command that succeeded and nvmesim_journal_lasts.
@@ -274,6 +279,45 @@ typedef struct nvmesim_part_taken {
     uint8_t entry[64]; /* the submission queue entry of the command that is complete */
 } nvmesim_part_taken;
 
+/* A command capsule. */
+typedef struct nvmesim_capsule {
+    uint8_t entry[64];    /* its submission queue entry */
+    uint32_t data_length; /* the number of bytes of data in it */
+    bool is_sound;        /* whether the digest of its data is right, or there is none */
+} nvmesim_capsule;
+
+/* The outcome of a command capsule. Data have at most 128 KiB. */
+enum {
+    NVMESIM_CAPSULE_REFUSED = 1,        /* the command is not executed, but answered with a status */
+    NVMESIM_CAPSULE_WAITS = 2,          /* it waits for `length` bytes, which its host sends in answer to R2T */
+    NVMESIM_CAPSULE_TO_CONTROLLER = 3,  /* ready: its data are `length` of the capsule's, from the offset `begin` on */
+    NVMESIM_CAPSULE_FROM_CONTROLLER = 4 /* ready: the controller returns at most `length` bytes, or none */
+};
+
+typedef struct nvmesim_capsule_taken {
+    uint32_t what;          /* NVMESIM_OK; or NVMESIM_BAD_PDU, and the connection ends; or NVMESIM_CLOSED */
+    uint32_t field;         /* the offset of the wrong field, or 0 */
+    uint32_t outcome;       /* NVMESIM_CAPSULE_REFUSED ..; 0 unless `what` is NVMESIM_OK */
+    uint32_t begin, length; /* 0 if the outcome has none */
+    uint16_t fatal;         /* the Fatal Error Status, or 0 */
+    uint8_t sct, sc;        /* the status of a command that is refused */
+} nvmesim_capsule_taken;
+
+/* The destination of a command that is ready. */
+enum {
+    NVMESIM_DESTINATION_FABRICS = 0,   /* it is a command of Fabrics, for the calls on associations */
+    NVMESIM_DESTINATION_DISCOVERY = 1, /* the discovery controller */
+    NVMESIM_DESTINATION_ADMIN = 2,     /* the Admin Queue of the controller at the place `index` */
+    NVMESIM_DESTINATION_IO = 3,        /* its I/O queue `qid` */
+    NVMESIM_DESTINATION_REFUSED = 4    /* none: it is not executed, but answered with the status */
+};
+
+typedef struct nvmesim_destination {
+    uint32_t kind;       /* NVMESIM_DESTINATION_FABRICS .. */
+    uint16_t index, qid; /* the place of the controller, CNTLID less one; the I/O queue */
+    uint8_t sct, sc;     /* the status of a command that is refused */
+} nvmesim_destination;
+
 /* Data buffers in the 4 MiB of memory that a controller has with its host: 128 KiB for a command that is executed as
  * soon as it is fetched, and 8 KiB each for 16 held commands, with the numbers 1 to 16. */
 enum {
@@ -430,6 +474,21 @@ nvmesim_part_taken nvmesim_transfers_store(nvmesim_transfers *transfers, const n
 
 /* The connection ends: all commands are dropped, and no more are taken. OK, or CLOSED. */
 uint32_t nvmesim_transfers_end(nvmesim_transfers *transfers);
+
+/* Takes a command capsule of a connection with this session: counts its command as nvmesim_responses_accept does, and
+ * returns the outcome. A command that waits for its data is among `transfers` then. A refused one has the status of
+ * the first rule that it breaks: before Connect only that comes, before authentication only its commands and
+ * Disconnect; the digest of the data is right; no other command without a response has the identifier; PSDT is 1; if
+ * there are data, the SGL has at most 128 KiB, a type that their direction allows, and an offset and a length within
+ * the data of the capsule; and the data of Connect are in its capsule. BAD_PDU: the queue is full or takes no more
+ * commands, and nothing has changed, or the command can't wait. CLOSED: no transfers are open; nothing has changed. */
+nvmesim_capsule_taken nvmesim_capsules_take(nvmesim_responses *responses, nvmesim_transfers *transfers,
+                                            const nvmesim_session *session, const nvmesim_capsule *capsule);
+
+/* The destination of a command that is ready, by its entry (64 bytes), on a connection that is `live` now. `has_queue`:
+ * whether the controller has the queue that the connection is, if it is one. */
+nvmesim_destination nvmesim_capsules_destination(const nvmesim_live_session *live, const uint8_t *entry,
+                                                 bool has_queue);
 
 #ifdef __cplusplus
 }

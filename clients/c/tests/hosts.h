@@ -55,5 +55,6 @@ void responses(void);
 void buffers(void);
 void journals(void);
 void transfers(void);
+void capsules(void);
 
 #endif

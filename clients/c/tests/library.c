@@ -448,6 +448,7 @@ int main(int count, char **words) {
     buffers();
     journals();
     transfers();
+    capsules();
     reservations();
     names();
     texts();

@@ -140,6 +140,19 @@ impl Live {
             _ => Live::Ended,
         }
     }
+
+    /// The struct of `nvmetcp.h`.
+    #[inline]
+    pub(crate) fn raw(self) -> layout::LiveSession {
+        let (kind, index, qid) = match self {
+            Live::NotConnected => (0, 0, 0),
+            Live::Authenticating(index) => (AUTHENTICATING, index, 0),
+            Live::Queue { index, qid } => (2, index, qid),
+            Live::Discovery => (3, 0, 0),
+            Live::Ended => (4, 0, 0),
+        };
+        layout::LiveSession { what: OK, kind, index, qid }
+    }
 }
 
 /// A Fabrics command that its connection may issue.
@@ -158,7 +171,7 @@ pub enum Command {
 /// What a connection was when a call last changed it: `Fabrics::live` says what it is now.
 #[derive(Clone)]
 pub struct Session {
-    raw: layout::Session,
+    pub(crate) raw: layout::Session,
     /// What `live` has returned, and the stamp of the associations then.
     seen: Cell<(u64, Live)>,
 }

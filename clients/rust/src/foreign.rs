@@ -1,9 +1,11 @@
 //! The calls of libnvmesim that take pointers, as `nvmesim.h` and `nvmetcp.h` declare them. `raw.rs` makes them.
 
+use crate::capsules::Capsule;
 use crate::layout::{
-    Answer, Bytes, Change, Connection, Disk, Event, Fabrics, HostId, HostView, Notices, PartTaken, Placed, Read, Sim,
-    Taken, Transfers, Written,
+    Answer, Bytes, CapsuleTaken, Change, Connection, Disk, Event, Fabrics, HostId, HostView, Notices, PartTaken,
+    Placed, Read, Session, Sim, Taken, Transfers, Written,
 };
+use crate::responses::Raw;
 use crate::transfers::Part;
 use crate::{Attachment, Controller, Namespace};
 
@@ -106,5 +108,11 @@ extern "C" {
         room: *mut u8,
         room_count: usize,
     ) -> PartTaken;
+    pub fn nvmesim_capsules_take(
+        responses: *mut Raw,
+        transfers: *mut Transfers,
+        session: *const Session,
+        capsule: *const Capsule,
+    ) -> CapsuleTaken;
     pub fn nvmesim_answer_line(event: *const Event, answer: *const Answer, line: *mut u8, room: usize) -> Written;
 }

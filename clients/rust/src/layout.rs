@@ -372,6 +372,27 @@ pub struct PartTaken {
     pub entry: [u8; 64],
 }
 
+#[repr(C)]
+pub struct CapsuleTaken {
+    pub what: u32,
+    pub field: u32,
+    pub outcome: u32,
+    pub begin: u32,
+    pub length: u32,
+    pub fatal: u16,
+    pub sct: u8,
+    pub sc: u8,
+}
+
+#[repr(C)]
+pub struct DestinationSeen {
+    pub kind: u32,
+    pub index: u16,
+    pub qid: u16,
+    pub sct: u8,
+    pub sc: u8,
+}
+
 /// A configuration, as the calls take it.
 pub type Parts<'p> = (&'p [Controller], &'p [Namespace], &'p [Attachment]);
 

@@ -91,6 +91,7 @@
 #![warn(missing_docs)]
 
 pub mod buffers;
+pub mod capsules;
 mod commands;
 pub mod connection;
 pub mod fabrics;

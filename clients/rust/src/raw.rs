@@ -5,13 +5,13 @@
 
 use crate::foreign::*;
 use crate::layout::{
-    Admitted, Answer, Blocks, Bytes, Change, Command, Completed, CompletedOver, Connection, Event, Executed,
-    ExecutedOver, Fabrics, FabricsAnswer, Hold, HostId, HostView, Judged, Lent, LiveSession, Needed, NextRequest,
-    Notices, PartTaken, Parts, PduFields, PduLayout, Placed, Queue, QueueConnection, Read, Registered, Request,
-    Session, Sim, Taken, Transfers, Verdict, Written,
+    Admitted, Answer, Blocks, Bytes, CapsuleTaken, Change, Command, Completed, CompletedOver, Connection,
+    DestinationSeen, Event, Executed, ExecutedOver, Fabrics, FabricsAnswer, Hold, HostId, HostView, Judged, Lent,
+    LiveSession, Needed, NextRequest, Notices, PartTaken, Parts, PduFields, PduLayout, Placed, Queue, QueueConnection,
+    Read, Registered, Request, Session, Sim, Taken, Transfers, Verdict, Written,
 };
 use crate::responses::{Raw, Reply};
-use crate::{pdu::Agreed, transfers::Part, Attachment, Controller, Namespace};
+use crate::{capsules::Capsule, pdu::Agreed, transfers::Part, Attachment, Controller, Namespace};
 #[cfg(target_arch = "x86_64")]
 use std::arch::x86_64::{_mm_prefetch, _MM_HINT_T0};
 use std::marker::PhantomData;
@@ -245,6 +245,7 @@ pdu_calls! {
     buffers_completion_queue = nvmesim_buffers_completion_queue(qid: u16) -> u64;
     journal_lasts = nvmesim_journal_lasts(entry: &[u8; 64], is_admin: bool) -> bool;
     journal_kept_length = nvmesim_journal_kept_length(head: &[u8; 2], is_admin: bool) -> u32;
+    capsules_destination = nvmesim_capsules_destination(at: &LiveSession, entry: &[u8; 64], has: bool) -> DestinationSeen;
 }
 
 /// Associations that are open.
@@ -299,6 +300,11 @@ impl Commands {
     pub fn store(&mut self, part: &Part, bytes: &[u8], room: &mut [u8]) -> PartTaken {
         let (b, r) = ((bytes.as_ptr(), bytes.len()), (room.as_mut_ptr(), room.len()));
         unsafe { nvmesim_transfers_store(&mut self.transfers, part, b.0, b.1, r.0, r.1) }
+    }
+
+    #[inline]
+    pub fn take_capsule(&mut self, responses: &mut Raw, session: &Session, capsule: &Capsule) -> CapsuleTaken {
+        unsafe { nvmesim_capsules_take(responses, &mut self.transfers, session, capsule) }
     }
 }
 

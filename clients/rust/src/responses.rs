@@ -64,7 +64,7 @@ pub(crate) struct Raw {
 /// The commands of a connection that have no response yet, at most 64. It takes no memory.
 #[derive(Clone)]
 pub struct Responses {
-    raw: Raw,
+    pub(crate) raw: Raw,
 }
 
 impl Default for Responses {
@@ -80,8 +80,8 @@ impl Responses {
         Responses { raw: Raw { sqsize, head, count, stage, is_flow_control_disabled, outstanding: [0; 64] } }
     }
 
-    /// Counts a command. Whether its identifier is that of another without a response: then its own has to be Command
-    /// ID Conflict.
+    /// Counts a command, for programs that don't call [`crate::capsules::take`]. Whether its identifier is that of
+    /// another without a response: then its own has to be Command ID Conflict.
     ///
     /// # Errors
     ///

@@ -17,9 +17,11 @@
 //! # Ok::<(), Box<dyn std::error::Error>>(())
 //! ```
 
-use crate::layout::PartTaken;
+use crate::capsules::Capsule;
+use crate::layout::{CapsuleTaken, PartTaken, Session};
 use crate::pdu::Fatal;
 use crate::raw::Commands;
+use crate::responses::Raw;
 use crate::{OpenError, OK};
 use std::{error, fmt};
 
@@ -123,7 +125,7 @@ impl Transfers {
         self.count() != 0 && self.raw.has(cid)
     }
 
-    /// A command that expects `length` bytes waits for its R2T.
+    /// A command that expects `length` bytes waits for its R2T: for programs that don't call [`crate::capsules::take`].
     pub fn begin(&mut self, entry: &[u8; 64], length: u32) -> Result<(), Refused> {
         self.counted = None;
         match self.raw.begin(entry, length) {
@@ -133,6 +135,13 @@ impl Transfers {
             MANY_WAIT => Err(Refused::ManyWait),
             _ => Err(Refused::Ended),
         }
+    }
+
+    /// Takes a capsule, whose command may wait for its R2T then.
+    #[inline]
+    pub(crate) fn take_capsule(&mut self, responses: &mut Raw, session: &Session, capsule: &Capsule) -> CapsuleTaken {
+        self.counted = None;
+        self.raw.take_capsule(responses, session, capsule)
     }
 
     /// The R2T of the command that waits longest, if a tag is free.

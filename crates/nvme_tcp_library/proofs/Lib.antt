@@ -3,3 +3,4 @@ mod ReadBack
 pub mod TransferValues
 pub mod Values
 pub mod Verdicts
+mod CapsulesRead

@@ -3,6 +3,7 @@ use Rattle.std.specs.Prelude.{ℕ, Option, replicate}
 use Rattle.nvme_pdu.specs.declared.fatal.Fatal.{Fatal}
 use Rattle.nvme_connection.specs.declared.taken.Taken.{Taken as Bytes}
 use Rattle.nvme_responses.specs.declared.reply.Response.{Response}
+use Rattle.nvme_tcp_library.specs.declared.answers.LiveSession.{LiveSession}
 use Rattle.nvme_tcp_library.specs.declared.opening.HostId.{HostId}
 use Rattle.nvme_tcp_library.specs.declared.responses.RawReply.{RawReply}
 use Rattle.nvme_tcp_library.specs.declared.sessions.RawRequest.{RawRequest}
@@ -37,3 +38,7 @@ asked = record {
 
 abbrev pub host : HostId
 host = record { low = 1; high = 2 }
+
+-- a live session of this kind
+abbrev pub live : ℕ → LiveSession
+live kind = record { what = 0; kind = kind; index = 3; qid = 2 }

@@ -1,5 +1,6 @@
 pub mod Answers
 pub mod Buffers
+pub mod Capsules
 pub mod Connections
 pub mod Examples
 pub mod Fabrics

@@ -88,6 +88,26 @@ pub const PLACE_CONTROLLER: u32 = 1;
 /// A Connect is for a discovery controller.
 pub const PLACE_DISCOVERY: u32 = 2;
 
+/// A command is not executed: a status answers it.
+pub const CAPSULE_REFUSED: u32 = 1;
+/// It waits for its data.
+pub const CAPSULE_WAITS: u32 = 2;
+/// It is ready: its data are in its capsule.
+pub const CAPSULE_TO_CONTROLLER: u32 = 3;
+/// It is ready: the controller returns data, or it has none.
+pub const CAPSULE_FROM_CONTROLLER: u32 = 4;
+
+/// A command is one of Fabrics.
+pub const DESTINATION_FABRICS: u32 = 0;
+/// It is for the discovery controller.
+pub const DESTINATION_DISCOVERY: u32 = 1;
+/// It is for the Admin Queue of a controller.
+pub const DESTINATION_ADMIN: u32 = 2;
+/// It is for an I/O queue of a controller.
+pub const DESTINATION_IO: u32 = 3;
+/// It is not executed: a status answers it.
+pub const DESTINATION_REFUSED: u32 = 4;
+
 /// The data buffer of a command that is executed as soon as it is fetched. That of the n-th held command has the number
 /// n + 1.
 pub const BUFFER_AT_ONCE: u32 = 0;

@@ -8,7 +8,11 @@ ghost use Rattle.nvme_fabrics.specs.Answers.{with_cntlid, in_data};
 ghost use Rattle.nvme_tcp_library.specs.Answers.{answer_seen, connection_seen, live_seen, rules_seen};
 ghost use Rattle.nvme_tcp_library.specs.Connections.{taken_seen, verdict_seen};
 ghost use Rattle.nvme_responses.specs.declared.refused.Refused.TheVariants as refused;
-ghost use Rattle.nvme_tcp_library.specs.Examples.{asked, failed, four, host, of_kind, response};
+ghost use Rattle.nvme_tcp_library.specs.Examples.{asked, failed, four, host, live, of_kind, response};
+ghost use Rattle.nvme_tcp_library.specs.Capsules.{destination_seen, live_of, no_capsule, outcome_seen};
+ghost use Rattle.nvme_capsules.specs.declared.destination.Destination.TheVariants as destination_of;
+ghost use Rattle.nvme_capsules.specs.declared.outcome.Data.TheVariants as data_of;
+ghost use Rattle.nvme_capsules.specs.declared.outcome.Outcome.TheVariants as outcome;
 ghost use Rattle.nvme_tcp_library.specs.Fabrics.{host_at, hosts_of};
 ghost use Rattle.nvme_tcp_library.specs.Responses.{acceptance, answered, entry_if, forgotten, reply_of};
 ghost use Rattle.nvme_tcp_library.specs.Sessions.{request_of, session_of, session_seen, subsystem_of};
@@ -109,4 +113,42 @@ fn transfers()
       is_sound = true;
       entry = (command 7 8).entry;
     } }
+{}
+
+/// What C sees of command capsules.
+fn capsules()
+    ensures breaks { (outcome_seen (outcome.Breaks (record { status = 2; field = 9 }))).what ≡ 40 }
+    ensures fatal { (outcome_seen (outcome.Breaks (record { status = 2; field = 9 }))).fatal ≡ 2 }
+    ensures field { (outcome_seen (outcome.Breaks (record { status = 2; field = 9 }))).field ≡ 9 }
+    ensures refused { outcome_seen (outcome.Refused (record { sct = 1; sc = 145 })) ≡ record {
+      what = 0;
+      field = 0;
+      outcome = 1;
+      begin = 0;
+      length = 0;
+      fatal = 0;
+      sct = 1;
+      sc = 145;
+    } }
+    ensures waits { (outcome_seen (outcome.Waits 8)).outcome ≡ 2 }
+    ensures sends { (outcome_seen (outcome.Ready (data_of.InCapsule 4 8))).outcome ≡ 3 }
+    ensures begin { (outcome_seen (outcome.Ready (data_of.InCapsule 4 8))).begin ≡ 4 }
+    ensures length { (outcome_seen (outcome.Ready (data_of.InCapsule 4 8))).length ≡ 8 }
+    ensures returns { (outcome_seen (outcome.Ready (data_of.FromController 8))).outcome ≡ 4 }
+    ensures closed { no_capsule.what ≡ 16 }
+    ensures no_outcome { no_capsule.outcome ≡ 0 }
+{}
+
+/// What C sees of destinations.
+fn destinations()
+    ensures admin { destination_seen (destination_of.Admin 3)
+        ≡ record { kind = 2; index = 3; qid = 0; sct = 0; sc = 0 } }
+    ensures io { destination_seen (destination_of.Io 3 1) ≡ record { kind = 3; index = 3; qid = 1; sct = 0; sc = 0 } }
+    ensures refused { (destination_seen (destination_of.Refused (record { sct = 1; sc = 145 }))).kind ≡ 4 }
+    ensures discovery { (destination_seen destination_of.Discovery).kind ≡ 1 }
+    ensures fabrics { (destination_seen destination_of.Fabrics).kind ≡ 0 }
+    ensures first { live_of (live 0) ≡ session.NotConnected }
+    ensures queue { live_of (live 2) ≡ session.Queue 3 2 }
+    ensures other_discovery { live_of (live 3) ≡ session.Discovery }
+    ensures ended { live_of (live 5) ≡ session.Ended }
 {}

@@ -1,6 +1,9 @@
 //! Laws that follow from the definitions. Each is the contract of an empty function.
 
 ghost use Rattle.nvme_tcp_library.specs.Laws.{
+  DestinationsDiffer,
+  LiveSessionsServe,
+  OutcomesDiffer,
   PartsDiffer,
   RefusalsDiffer,
   RequestsDiffer,
@@ -19,4 +22,11 @@ fn outcomes_differ()
     ensures parts { PartsDiffer }
     ensures refusals { RefusalsDiffer }
     ensures requests { RequestsDiffer }
+{}
+
+/// What C sees of a command capsule loses nothing.
+fn capsules_differ()
+    ensures outcomes { OutcomesDiffer }
+    ensures destinations { DestinationsDiffer }
+    ensures sessions { LiveSessionsServe }
 {}

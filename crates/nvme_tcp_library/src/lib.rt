@@ -5,6 +5,7 @@
 
 pub mod answers;
 pub mod buffers;
+pub mod capsules;
 mod codes;
 pub mod connecting;
 pub mod connections;
@@ -24,6 +25,7 @@ mod transfers_handle;
 mod transfers_slot;
 
 pub use answers::{Admitted, Executed, FabricsAnswer, LiveSession, QueueConnection};
+pub use capsules::{CapsuleTaken, DestinationSeen};
 pub use connections::{Taken, Verdict};
 pub use handle::FabricsHandle;
 pub use opening::HostId;

@@ -35,6 +35,8 @@ TYPES = {
     "Admitted": ["nvmesim_admitted"], "Executed": ["nvmesim_executed"], "LiveSession": ["nvmesim_live_session"],
     "QueueConnection": ["nvmesim_queue_connection"], "&mut TransfersHandle": ["nvmesim_transfers *"],
     "&Part": ["const nvmesim_part *"], "PartTaken": ["nvmesim_part_taken"], "NextRequest": ["nvmesim_next_request"],
+    "&Capsule": ["const nvmesim_capsule *"], "CapsuleTaken": ["nvmesim_capsule_taken"],
+    "&LiveSession": ["const nvmesim_live_session *"], "DestinationSeen": ["nvmesim_destination"],
 }
 # The structs that C sees whole, by their names there.
 STRUCTS = {"Answer": "nvmesim_answer", "Controller": "nvmesim_controller", "Namespace": "nvmesim_namespace",
@@ -50,11 +52,12 @@ STRUCTS = {"Answer": "nvmesim_answer", "Controller": "nvmesim_controller", "Name
            "RawJudged": "nvmesim_judged", "FabricsAnswer": "nvmesim_fabrics_answer", "Admitted": "nvmesim_admitted",
            "Executed": "nvmesim_executed", "LiveSession": "nvmesim_live_session",
            "QueueConnection": "nvmesim_queue_connection", "Part": "nvmesim_part", "PartTaken": "nvmesim_part_taken",
-           "NextRequest": "nvmesim_next_request"}
+           "NextRequest": "nvmesim_next_request", "Capsule": "nvmesim_capsule",
+           "CapsuleTaken": "nvmesim_capsule_taken", "DestinationSeen": "nvmesim_destination"}
 # Structs of another crate that C holds.
 OTHERS = ("nvme_brought/src/disk.rt", "nvme_notices/src/notice.rt", "nvme_notices/src/raw.rt",
           "nvme_pdu/src/agreed.rt", "nvme_connection/src/raw.rt", "nvme_responses/src/responses.rt",
-          "nvme_transfers/src/part.rt")
+          "nvme_transfers/src/part.rt", "nvme_capsules/src/capsule.rt")
 EXPORT = re.compile(r'#\[unsafe\(no_mangle\)\]\s*pub extern "C" fn (\w+)\(([^)]*)\)(?: -> (\w+))?')
 NUMBER = re.compile(r"^pub const (\w+): u(?:32|8) = (\d+);", re.M)
 

@@ -23,7 +23,7 @@ COUNTED = 1000000
 WRAPPED = "-Wl," + ",".join(f"--wrap={it}" for it in
                             ("malloc", "calloc", "realloc", "aligned_alloc", "posix_memalign", "free"))
 # The lines of the crate's file that may be unsafe, at most.
-UNSAFE = 322
+UNSAFE = 328
 
 
 class Trial:
@@ -35,7 +35,7 @@ class Trial:
         self.archive = self.prefix / "lib" / "libnvmesim.a"
         self.sources = [self.clients / "tests" / f"{it}.c"
                         for it in ("library", "needs", "brought", "pdus", "connections", "transfers", "responses",
-                                   "buffers", "journals", "placing", "hosts")]
+                                   "buffers", "journals", "capsules", "placing", "hosts")]
 
     def check(self, what, problem):
         if problem:

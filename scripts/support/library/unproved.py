@@ -36,17 +36,18 @@ VALUES = {"Global": "alloc", "&mut Handle": "&mut sim", "u8": "n as u8", "u16": 
           "&mut Responses": "&mut responses", "&RawReply": "&reply",
           "&mut FabricsHandle": "&mut fabrics", "&RawSession": "&session", "&mut RawSession": "&mut session",
           "&RawRequest": "&asked", "&RawJudged": "&judged", "&mut TransfersHandle": "&mut transfers",
-          "&Part": "&part",
+          "&Part": "&part", "&Capsule": "&capsule", "&LiveSession": "&live",
           "LentBytes": "LentBytes { at: ptr::null_mut(), len: n }",
           "Disk": "Disk { blocks: n as u64, content: DiskContent {} }"}
 MAIN = """
 use nvme_brought::{{Disk, DiskContent}};
+use nvme_capsules::Capsule;
 use nvme_connection::RawConnection;
 use nvme_lent::LentBytes;
 use nvme_notices::{{Notice, RawNotices}};
 use nvme_pdu::Agreed;
 use nvme_responses::Responses;
-use nvme_tcp_library::{{FabricsHandle, HostId, RawJudged, RawReply, RawRequest, RawSession, TransfersHandle}};
+use nvme_tcp_library::{{FabricsHandle, HostId, LiveSession, RawJudged, RawReply, RawRequest, RawSession, TransfersHandle}};
 use nvme_transfers::Part;
 use std::process::ExitCode;
 use std::rt::Env;
@@ -87,6 +88,8 @@ fn main(rt: HostRuntime) -> io::Result<ExitCode> {{
     let mut transfers = TransfersHandle::closed(alloc);
     let part = Part {{ cid: n as u16, tag: n as u16, offset: n as u32, length: n as u32, is_last: n == 3,
         is_sound: n == 4 }};
+    let capsule = Capsule {{ entry: [n as u8; 64], data_length: n as u32, is_sound: n == 3 }};
+    let live = LiveSession {{ what: n as u32, kind: n as u32, index: n as u16, qid: n as u16 }};
 {calls}
     Ok(ExitCode::from(0))
 }}
@@ -215,7 +218,7 @@ def archive(top: Path) -> Path:
             for name, folder in copies(top, room).items():
                 kit.crates[name].folder = str(folder)
             used = (TCP, "nvme_pdu", "nvme_connection", "nvme_transfers", "nvme_responses", "nvme_data_buffers",
-                    "nvme_journal")
+                    "nvme_journal", "nvme_capsules")
             kit.crates[CRATE].deps += [kit.crates[it] for it in used]
             unproved.kept_module(kit, CRATE, room)
         except (unproved.NotBuilt, unproved.toolchain.NoToolchain) as error:
