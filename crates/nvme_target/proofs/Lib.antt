@@ -4,3 +4,5 @@ pub mod Openings
 pub mod ExampleSessions
 pub mod Journals
 pub mod Replays
+mod Destinations
+mod OwnData

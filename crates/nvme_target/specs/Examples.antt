@@ -32,3 +32,10 @@ resets k = Write32 k 0x14 0
 
 abbrev pub executes : ℕ → Event
 executes k = Execute k 0
+
+-- the entries of a Read and of a command of Fabrics, as far as their destination goes
+abbrev pub read : List ℕ
+read = 2 ∷ []
+
+abbrev pub of_fabrics : List ℕ
+of_fabrics = 127 ∷ []

@@ -5,7 +5,18 @@ ghost use Rattle.nvme_machine.specs.declared.event.Event.TheVariants.{Read32, Fe
 ghost use Rattle.nvme_fabrics.specs.Examples.{hosts, two_queues, other_command};
 ghost use Rattle.nvme_fabrics.specs.Runs.{Executes};
 ghost use Rattle.nvme_target.specs.Causes.{Commands, Ending, Proving, Accessing, LosingPower, MayCause};
-ghost use Rattle.nvme_target.specs.Examples.{May, closed, ended, asked, connecting, resets, executes};
+ghost use Rattle.nvme_target.specs.Destinations.{IsOfDestination, destination_after};
+ghost use Rattle.nvme_target.specs.Examples.{
+  May,
+  closed,
+  ended,
+  asked,
+  connecting,
+  resets,
+  executes,
+  read,
+  of_fabrics,
+};
 
 /// A connection that is a queue causes events of its controller, and no others.
 fn commands()
@@ -52,4 +63,15 @@ fn target_itself()
     ensures execution { May two_queues (Accessing 0) (executes 1) → ⊥ }
     ensures power { May two_queues LosingPower PowerCycle }
     ensures no_power { May two_queues LosingPower (resets 1) → ⊥ }
+{}
+
+/// A command is for the queue that its connection is.
+fn destinations()
+    ensures own { IsOfDestination (destination_after hosts false two_queues 8 read true) (executes 1) }
+    ensures of_another { IsOfDestination (destination_after hosts false two_queues 8 read true) (executes 2) → ⊥ }
+    ensures no_queue { IsOfDestination (destination_after hosts false two_queues 8 read false) (executes 1) → ⊥ }
+    ensures not_connected { IsOfDestination (destination_after hosts false two_queues 9 read true) (executes 1) → ⊥ }
+    ensures closed { IsOfDestination (destination_after hosts false closed 8 read true) (executes 1) → ⊥ }
+    ensures ended { IsOfDestination (destination_after hosts false ended 8 read true) (executes 1) → ⊥ }
+    ensures fabrics { IsOfDestination (destination_after hosts false two_queues 8 of_fabrics true) (executes 1) → ⊥ }
 {}

@@ -1,5 +1,6 @@
 //! Laws over any inputs of the associations and any run of the subsystem. Each is the contract of an empty function.
 
+ghost use Rattle.nvme_target.specs.Destinations.{DestinationsAreOfNamedHosts, DestinationsMayCause};
 ghost use Rattle.nvme_target.specs.Journals.{
   JournalHoldsTheAccessState,
   JournalRestoresTheAccessState,
@@ -14,16 +15,40 @@ ghost use Rattle.nvme_target.specs.Laws.{
   OpeningHasItsHosts,
   HostsStay,
 };
+ghost use Rattle.nvme_target.specs.OwnData.{
+  AdmittedDataFit,
+  BuffersHoldWhatWasReturned,
+  ExecutedAdminCommandsMoveTheirOwn,
+  ExecutedCommandsMoveTheirOwn,
+  FetchedCommandsArePlaced,
+  StoresGiveData,
+};
 
 /// What a connection causes happens at a controller whose host that connection has named.
 pub fn events_are_of_named_hosts()
     ensures { EventsAreOfNamedHosts }
 {}
 
+/// What happens at the destination of a command is of the controller of a host that its connection has named.
+pub fn events_at_destinations()
+    ensures causes { DestinationsMayCause }
+    ensures hosts { DestinationsAreOfNamedHosts }
+{}
+
 /// A reservation fences the connections of the hosts that it excludes, at each single event of any run.
 pub fn fencing_holds_over_the_wire()
     ensures writes { FencingHoldsOverTheWire }
     ensures reads { SecrecyHoldsOverTheWire }
+{}
+
+/// A command that a target has placed moves its own data when it is executed.
+pub fn executed_commands_move_their_own()
+    ensures stores { StoresGiveData }
+    ensures placed { FetchedCommandsArePlaced }
+    ensures fit { AdmittedDataFit }
+    ensures executions { ExecutedCommandsMoveTheirOwn }
+    ensures admin { ExecutedAdminCommandsMoveTheirOwn }
+    ensures returned { BuffersHoldWhatWasReturned }
 {}
 
 /// What no connection causes writes nothing.
