@@ -37,14 +37,13 @@ impl Default for Choice {
 }
 
 /// The host, with its secrets, and the name of the subsystem.
-#[derive(Clone, Debug)]
+#[derive(Clone)]
 pub struct Peers {
     host: Arc<Host>,
     subsystem: Arc<str>,
 }
 
 /// A challenge of the controller. It is used once.
-#[derive(Debug)]
 pub struct Offer {
     choice: Choice,
     sequence: u32,
@@ -69,14 +68,12 @@ impl Offer {
 }
 
 /// A computation that may take milliseconds, with its inputs.
-#[derive(Debug)]
 pub enum Work {
     Draw(Choice),
     Judge(Box<Judgement>),
 }
 
 /// A reply, with the challenge that it answers.
-#[derive(Debug)]
 pub struct Judgement {
     transaction: u16,
     offer: Offer,
@@ -85,7 +82,6 @@ pub struct Judgement {
 }
 
 /// The result of work: a challenge; or for a valid reply the controller's response, if the host asked for one.
-#[derive(Debug)]
 pub enum Done {
     Drawn(Result<Offer, Failed>),
     Judged(Result<Option<Vec<u8>>, Explanation>),
@@ -152,7 +148,6 @@ impl Judgement {
 }
 
 /// The next step of an authentication.
-#[derive(Debug)]
 enum Step {
     /// The host sends Negotiate.
     Negotiate,
@@ -175,7 +170,6 @@ enum Step {
 }
 
 /// The effect of a host's message.
-#[derive(Debug)]
 pub enum Taken {
     /// The next message to the host is ready.
     Ready,
@@ -207,7 +201,6 @@ pub enum Sent {
 }
 
 /// The authentication of a queue's host. It may be repeated after success.
-#[derive(Debug)]
 pub struct Authentication {
     choice: Choice,
     transaction: u16,
@@ -290,9 +283,10 @@ impl Authentication {
         matches!(self.step, Step::Success1(None))
     }
 
-    /// Replaces the next message by Failure1.
-    pub fn fail(&mut self, explanation: Explanation) {
+    /// Replaces the next message by Failure1, which is no longer than any other.
+    pub fn fail(&mut self, explanation: Explanation) -> Vec<u8> {
         self.step = Step::Failure1(explanation);
+        messages::failure1(self.transaction, explanation)
     }
 
     /// Records that the next message was sent.

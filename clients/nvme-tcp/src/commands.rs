@@ -20,7 +20,7 @@ pub fn print(text: &str) -> Result<(), Exit> {
 /// The version, and how the library was built, as this build records it.
 pub fn version() -> String {
     let made = option_env!("NVMETCP_LIBRARY").unwrap_or("in an unrecorded way");
-    let proofs = if libcrypto::IS_THERE { "with --keys" } else { "without --keys: there was no libcrypto" };
+    let proofs = if libcrypto::AVAILABLE.is_ok() { "with --keys" } else { "without --keys: there was no libcrypto" };
     format!("nvmetcp {}\nover libnvmesim built {made}\nbuilt {proofs}\n", env!("CARGO_PKG_VERSION"))
 }
 

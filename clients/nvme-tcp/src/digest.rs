@@ -4,33 +4,22 @@
 mod processor;
 
 /// What each byte adds, with 0 to 7 bytes after it.
-static TABLES: [[u32; 256]; 8] = tables();
-
-const fn tables() -> [[u32; 256]; 8] {
+static TABLES: [[u32; 256]; 8] = {
     let mut tables = [[0; 256]; 8];
-    let mut n = 0;
-    while n < 256 {
-        let mut value = n as u32;
+    let mut at = 0;
+    while at < 8 * 256 {
+        let (after, byte) = (at / 256, at % 256);
+        let mut value = if after == 0 { byte as u32 } else { tables[after - 1][byte] };
         let mut bit = 0;
         while bit < 8 {
             value = if value & 1 == 1 { value >> 1 ^ 0x82f6_3b78 } else { value >> 1 };
             bit += 1;
         }
-        tables[0][n] = value;
-        n += 1;
-    }
-    shifted(tables)
-}
-
-const fn shifted(mut tables: [[u32; 256]; 8]) -> [[u32; 256]; 8] {
-    let mut at = 256;
-    while at < 8 * 256 {
-        let before = tables[at / 256 - 1][at % 256];
-        tables[at / 256][at % 256] = before >> 8 ^ tables[0][(before & 255) as usize];
+        tables[after][byte] = value;
         at += 1;
     }
     tables
-}
+};
 
 /// The CRC32C of bytes.
 pub fn crc32c(bytes: &[u8]) -> u32 {

@@ -15,7 +15,7 @@ pub mod state;
 use crate::admin::identity::Identity;
 use crate::fault::{Fault, Outcome};
 use crate::files::watched::changed;
-use crate::journal::record::{newest, push_command, push_cycle, Current, Record};
+use crate::journal::record::{newest, Current, Event, Record};
 use crate::nvme::entry::SubmissionEntry;
 use crate::target::controller::Data;
 use crate::waker::{self, Waker, Wakeup};
@@ -156,21 +156,19 @@ impl Journal {
     pub fn follow(&mut self, cntlid: u16, qid: u16, entry: &SubmissionEntry, data: Data<'_>) {
         if lasts(entry.bytes(), qid == 0) {
             let data = if let Data::ToController(bytes) = data { kept(bytes, qid == 0) } else { &[] };
-            let epoch = self.epoch;
-            self.give(|records| push_command(records, epoch, (cntlid, qid), entry, data));
+            self.give(Event::Command { cntlid, qid, entry: *entry, data: data.to_vec() });
         }
     }
 
     /// Appends a power cycle.
     pub fn cycle(&mut self) {
-        let epoch = self.epoch;
-        self.give(|records| push_cycle(records, epoch));
+        self.give(Event::Cycle);
     }
 
-    fn give(&mut self, push: impl FnOnce(&mut Vec<u8>)) {
+    fn give(&mut self, event: Event) {
         self.count += 1;
         let mut given = self.queue.given();
-        push(&mut given.records);
+        Record { epoch: self.epoch, event }.append_to(&mut given.records);
         given.count = self.count;
         drop(given);
         self.queue.has_more.notify_one();
@@ -217,7 +215,7 @@ fn newest_of(records: &[Record]) -> io::Result<u64> {
 #[cfg(test)]
 mod tests {
     use super::*;
-    use crate::journal::record::{records_of, Event};
+    use crate::journal::record::records_of;
     use crate::nvme::RESERVATION_REGISTER;
     use std::sync::mpsc::{sync_channel, Receiver, SyncSender};
 

@@ -76,9 +76,6 @@ pub const RESERVATION_REPORT: u8 = 0x0e;
 pub const RESERVATION_ACQUIRE: u8 = 0x11;
 pub const RESERVATION_RELEASE: u8 = 0x15;
 
-/// The opcode of all Fabrics commands, and the values of the Fabrics Command Type, the fifth byte of their entries.
+/// The opcode of all Fabrics commands, and the Fabrics Command Type of one, the fifth byte of its entry.
 pub const FABRICS: u8 = 0x7f;
-pub const CONNECT: u8 = 0x01;
-pub const AUTHENTICATION_SEND: u8 = 0x05;
 pub const AUTHENTICATION_RECEIVE: u8 = 0x06;
-pub const DISCONNECT: u8 = 0x08;

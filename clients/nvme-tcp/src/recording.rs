@@ -18,7 +18,7 @@ use crate::bytes::{u16_at, u32_at, u64_at};
 use crate::configuration::Configuration;
 use crate::fault::Fault;
 use crate::recording::appended::Appended;
-use crate::recording::frame::{Head, TooLong};
+use crate::recording::frame::Head;
 use crate::recording::pipeline::Piece;
 use crate::recording::run::{Event, Events, Run, Synced};
 use crate::recording::script::head_of;
@@ -133,7 +133,7 @@ fn take<'b>(bytes: &mut &'b [u8], count: usize) -> Option<&'b [u8]> {
 }
 
 /// Reads the batch of a frame into `events`, which are replaced; whether it is one.
-fn read_batch(count: u32, content: &[u8], events: &mut Events) -> bool {
+fn read_batch(count: usize, content: &[u8], events: &mut Events) -> bool {
     events.clear();
     let (mut rest, mut stored) = (content, 0_usize);
     for _ in 0..count {
@@ -162,8 +162,7 @@ impl Recording {
     pub fn new(file: File, head: &str) -> io::Result<Recording> {
         let mut file = Appended::new(file)?;
         let mut first = [MAGIC, format!("{VERSION}\n").as_bytes()].concat();
-        let frame = Head::new(0, head.as_bytes(), &[]).map_err(|it| io::Error::new(io::ErrorKind::InvalidData, it))?;
-        first.extend(frame.bytes(first.len() as u64));
+        first.extend(Head::new(0, head.as_bytes(), &[]).bytes(first.len() as u64)?);
         file.append_both(&first, head.as_bytes())?;
         Ok(Recording { file, first })
     }
@@ -185,8 +184,6 @@ pub fn keep(file: File, configuration: &Configuration) -> io::Result<Run> {
 pub struct Batch {
     head: Head,
     fields: Vec<u8>,
-    /// Why there is no head, if there is none.
-    fault: Option<TooLong>,
 }
 
 impl Piece<Recording> for Events {
@@ -199,8 +196,7 @@ impl Piece<Recording> for Events {
     fn make(&self, made: &mut Batch) {
         made.fields.clear();
         self.list.iter().for_each(|event| Fields(&mut made.fields).put(event));
-        let head = Head::new(self.list.len(), &made.fields, &self.stored);
-        (made.head, made.fault) = (head.unwrap_or_default(), head.err());
+        made.head = Head::new(self.list.len(), &made.fields, &self.stored);
     }
 
     /// If there are no events, the file gives back disk space that it has reserved.
@@ -209,12 +205,9 @@ impl Piece<Recording> for Events {
             recording.file.give_back();
             return Ok(());
         }
-        if let Some(fault) = made.fault {
-            return Err(io::Error::new(io::ErrorKind::InvalidData, fault));
-        }
         let Recording { file, first } = recording;
         first.clear();
-        first.extend(made.head.bytes(file.length()));
+        first.extend(made.head.bytes(file.length())?);
         first.extend_from_slice(&made.fields);
         file.append_both(first, &self.stored)?;
         self.clear();

@@ -180,8 +180,7 @@ impl<'a> Server<'a> {
                 name => is_idle &= !self.serve(name, *it)?,
             }
         }
-        if self.target.has_turn() {
-            self.target.take_turn()?;
+        if self.target.take_turn()? {
             self.apply_effects()?;
         } else if is_idle {
             self.target.hand_out();

@@ -78,10 +78,7 @@ fn read_keys(options: &Options) -> Result<Option<Keys>, Exit> {
         Some(path) => path,
         None => return Ok(None),
     };
-    if !libcrypto::IS_THERE {
-        let text = "--keys: this build has no authentication; install libssl-dev, and build it again";
-        return Err(Exit::new(BAD_COMMAND_LINE, text));
-    }
+    libcrypto::AVAILABLE.map_err(Exit::about(BAD_COMMAND_LINE, "--keys"))?;
     system::hide_memory().map_err(Exit::about(FAILED, "the system can't keep the keys secret"))?;
     Keys::read(path).map(Some).map_err(|error| Exit::new(REFUSED, error))
 }

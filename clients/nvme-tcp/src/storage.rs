@@ -289,10 +289,13 @@ impl Storage {
     /// the room go to the disk if it writes, whatever it is answered.
     pub fn take(&mut self, need: Need, at_hand: u64, ticket: u64) {
         match need {
-            _ if self.failure.is_some() => (),
-            Need::Write { first, blocks } => self.take_written(Extent { first, blocks }, at_hand, ticket),
-            Need::Zero { first, blocks } => self.take_zeros(Extent { first, blocks }.front(at_hand), ticket),
-            Need::Read { .. } | Need::Flush | Need::Nothing => (),
+            Need::Write { first, blocks } if self.failure.is_none() => {
+                self.take_written(Extent { first, blocks }, at_hand, ticket);
+            }
+            Need::Zero { first, blocks } if self.failure.is_none() && at_hand != 0 => {
+                self.take_zeros(Extent { first, blocks }.front(at_hand), ticket);
+            }
+            _ => (),
         }
     }
 
@@ -425,11 +428,8 @@ impl Storage {
     pub fn sync(&mut self) -> Outcome<()> {
         self.wait_for_records(0, u64::MAX);
         self.begin(false)?;
-        while self.workers.under_way != 0 {
-            match self.workers.wait() {
-                Some(done) => self.finish(done)?,
-                None => break,
-            }
+        while let Some(done) = self.workers.wait() {
+            self.finish(done)?;
             self.begin(false)?;
         }
         match self.failure.take() {

@@ -19,8 +19,8 @@ use crate::fabrics::association::{Association, ConnectionId, HostQueue};
 use crate::fault::{Fault, Outcome};
 use crate::journal::Journal;
 use crate::nvme::entry::SubmissionEntry;
-use crate::nvme::status::{AUTHENTICATION_REQUIRED, COMMAND_SEQUENCE, INACCESSIBLE, SUCCESS};
-use crate::nvme::{DATASET_MANAGEMENT, FABRICS, NAMESPACE_ATTACHMENT};
+use crate::nvme::status::{Status, INACCESSIBLE, SUCCESS};
+use crate::nvme::{DATASET_MANAGEMENT, NAMESPACE_ATTACHMENT};
 use crate::storage::pending::{Issued, Waiting};
 use crate::storage::zeroes::LongZeroes;
 use crate::storage::Storage;
@@ -30,6 +30,7 @@ use crate::target::holding::Held;
 use crate::target::machine::Machine;
 use crate::target::notices::Watch;
 use crate::transport::output::Buffers;
+use nvmesim::capsules::Destination;
 use nvmesim::fabrics::{Fabrics, Live};
 use nvmesim::{Attachment, Need};
 use std::collections::VecDeque;
@@ -169,20 +170,24 @@ impl<'a> Target<'a> {
         entry: &SubmissionEntry,
         data: Data<'_>,
     ) -> Outcome<Option<Answer>> {
-        if entry.opcode() == FABRICS {
-            return self.execute_fabrics(queue, entry, data);
-        }
-        match self.fabrics.live(&queue.session) {
-            Live::NotConnected | Live::Ended => Ok(Some(Answer::of(COMMAND_SEQUENCE))),
-            Live::Authenticating(_) => Ok(Some(Answer::of(AUTHENTICATION_REQUIRED))),
-            Live::Discovery => Ok(Some(self.discover(queue, entry, data))),
-            Live::Queue { index, qid } if !self.controllers[usize::from(index)].has_queue(qid) => {
-                self.say(format_args!("controller {} has no queue {qid}", index + 1));
-                Ok(Some(Answer::of(COMMAND_SEQUENCE)))
+        let live = self.fabrics.live(&queue.session);
+        match Destination::of(live, entry.bytes(), self.has_queue(live)) {
+            Destination::Fabrics => self.execute_fabrics(queue, entry, data),
+            Destination::Discovery => Ok(Some(self.discover(queue, entry, data))),
+            Destination::Admin(index) => self.admin(index.into(), entry, data),
+            Destination::Io { index, qid } => self.io(queue.connection(), index.into(), qid, entry, data),
+            Destination::Refused { sct, sc } => {
+                if let Live::Queue { index, qid } = live {
+                    self.say(format_args!("controller {} has no queue {qid}", index + 1));
+                }
+                Ok(Some(Answer::of(Status { sct, sc })))
             }
-            Live::Queue { index, qid: 0 } => self.admin(index.into(), entry, data),
-            Live::Queue { index, qid } => self.io(queue.connection(), index.into(), qid, entry, data),
         }
+    }
+
+    /// Whether the controller has the queue that a connection is, if it is one.
+    fn has_queue(&self, live: Live) -> bool {
+        matches!(live, Live::Queue { index, qid } if self.controllers[usize::from(index)].has_queue(qid))
     }
 
     fn io(

@@ -5,5 +5,4 @@ pub mod input;
 pub mod listening;
 pub mod output;
 pub mod pdu;
-pub mod pointer;
 pub mod transfers;

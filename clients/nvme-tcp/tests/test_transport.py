@@ -248,6 +248,27 @@ class Digests(TargetTest):
         self.assertEqual(queue.completion().status, 0x022)
         self.assertEqual(host.read(0, 1).data, bytes(512))
 
+    def test_the_first_rule_that_is_broken_decides(self) -> None:
+        """Each capsule breaks rules after the one that decides, too."""
+        queue = Queue(self.target.port, digests=2)
+        self.addCleanup(queue.close)
+
+        def status(opcode: int, cid: int, wrong: int, mode: int, offset: int = 9, length: int = 512) -> int:
+            entry = bytearray(entry_of(opcode, cid, 1, struct.pack("<QI", 0, 0), length, 0x01))
+            entry[1], entry[24] = mode, offset
+            unit = bytearray(queue.pdu(CAPSULE, bytes(entry), bytes(8)))
+            unit[-1] ^= wrong
+            queue.socket.sendall(unit)
+            return queue.completion().status
+
+        self.assertEqual([status(0x01, 4, 1, 0), status(0x7f, 4, 1, 0), status(0x7f, 4, 0, 0)], [0x00c, 0x022, 0x4002])
+        self.assertEqual(queue.connect(0, 0xa1).status, 0)
+        queue.send(CAPSULE, entry_of(0x01, 4, 1, b"", 512, 0x5a))
+        self.assertEqual(queue.unit()[0], READY_TO_TRANSFER)
+        self.assertEqual([status(0x01, 4, 1, 0), status(0x01, 4, 0, 0), status(0x01, 5, 0, 0)], [0x022, 0x4003, 0x4002])
+        self.assertEqual([status(0x01, 5, 0, 0x40), status(0x01, 5, 0, 0x40, 8)], [0x4016, 0x400f])
+        self.assertEqual(status(0x01, 5, 0, 0x40, 8, 0), 0x00c, "the controller is not enabled")
+
     def test_the_digest_itself(self) -> None:
         self.assertEqual(digest_of(b"123456789"), struct.pack("<I", 0xe3069283))
 

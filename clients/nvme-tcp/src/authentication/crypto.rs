@@ -2,14 +2,13 @@
 
 use crate::authentication::groups::Group;
 use crate::authentication::libcrypto;
-use std::fmt;
 use std::ops::Deref;
 
 /// libcrypto has failed: it has no memory, or no random numbers.
 #[derive(Clone, Copy, Debug, PartialEq, Eq)]
 pub struct Failed;
 
-/// Secret bytes: they are overwritten when dropped, and `Debug` does not show them.
+/// Secret bytes: they are overwritten when dropped. They have no `Debug`, nor has anything that has some.
 pub struct Wiped(Vec<u8>);
 
 impl Wiped {
@@ -42,12 +41,6 @@ impl Deref for Wiped {
 impl Drop for Wiped {
     fn drop(&mut self) {
         libcrypto::wipe(&mut self.0);
-    }
-}
-
-impl fmt::Debug for Wiped {
-    fn fmt(&self, f: &mut fmt::Formatter<'_>) -> fmt::Result {
-        f.write_str("(secret)")
     }
 }
 
@@ -84,7 +77,6 @@ impl Hash {
 }
 
 /// One side of a DH exchange, in a group other than null.
-#[derive(Debug)]
 pub struct Exchange {
     prime: Vec<u8>,
     private: Wiped,

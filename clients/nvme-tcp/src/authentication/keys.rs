@@ -21,7 +21,6 @@ const OTHERS: u32 = 0o077;
 const FORM: &str = "a line is HOSTID HOSTNQN SECRET, or HOSTID HOSTNQN SECRET SECRET-OF-THE-CONTROLLER";
 
 /// A line of the file.
-#[derive(Debug)]
 pub struct Host {
     id: [u8; 16],
     pub(super) name: String,
@@ -52,7 +51,7 @@ impl Host {
 }
 
 /// Hosts. No two share a HOSTID, a HOSTNQN or a secret.
-#[derive(Debug, Default)]
+#[derive(Default)]
 pub struct Keys {
     hosts: Vec<Arc<Host>>,
 }
@@ -277,7 +276,7 @@ mod tests {
     const THREE: &str = "DHHC-1:01:1aR4IC0vg5jjcfK7kB1OQ40U3mS4rcaVkNXC5f0u5zF4RzU0:";
 
     fn refused(text: &str) -> String {
-        Keys::of(text.as_bytes()).unwrap_err().to_string()
+        Keys::of(text.as_bytes()).err().unwrap().to_string()
     }
 
     #[test]
@@ -314,6 +313,6 @@ mod tests {
             let told = refused(text);
             assert!(told.starts_with(wanted) && !told.contains("3X0j") && told.contains("; "), "{told}");
         }
-        assert!(Keys::of(b"\n\xff").unwrap_err().to_string().starts_with("2:1: this is not UTF-8"));
+        assert!(Keys::of(b"\n\xff").err().unwrap().to_string().starts_with("2:1: this is not UTF-8"));
     }
 }

@@ -56,8 +56,8 @@ extern "C" {
     ) -> i32;
 }
 
-/// Whether this build has libcrypto.
-pub const IS_THERE: bool = true;
+/// Why this build has no libcrypto, if it has none.
+pub const AVAILABLE: Result<(), &str> = Ok(());
 
 fn kind(hash: Hash) -> *const Digest {
     match hash {

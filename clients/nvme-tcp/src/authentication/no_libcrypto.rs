@@ -2,8 +2,8 @@
 
 use crate::authentication::crypto::{Failed, Hash};
 
-/// Whether this build has libcrypto.
-pub const IS_THERE: bool = false;
+/// Why this build has no libcrypto, if it has none.
+pub const AVAILABLE: Result<(), &str> = Err("this build has no authentication; install libssl-dev, and build it again");
 
 pub fn digest(_: Hash, _: &[u8]) -> Result<Vec<u8>, Failed> {
     Err(Failed)

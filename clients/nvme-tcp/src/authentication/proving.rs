@@ -12,7 +12,7 @@ use crate::nvme::entry::SubmissionEntry;
 use crate::nvme::status::{
     AUTHENTICATION_REQUIRED, COMMAND_SEQUENCE, CONNECT_HOST, INVALID_FIELD, INVALID_OPCODE, SGL_LENGTH, SUCCESS,
 };
-use crate::nvme::{AUTHENTICATION_RECEIVE, AUTHENTICATION_SEND, DISCONNECT, FABRICS};
+use crate::nvme::{AUTHENTICATION_RECEIVE, FABRICS};
 use crate::target::answer::Answer;
 use crate::target::controller::Data;
 use crate::target::{uuid, Target};
@@ -66,12 +66,6 @@ pub struct Proof {
     life: Arc<()>,
 }
 
-/// Whether a command is executed before authentication.
-pub fn goes_before_proof(entry: &SubmissionEntry) -> bool {
-    entry.opcode() == FABRICS
-        && matches!(entry.fabrics_type(), AUTHENTICATION_SEND | AUTHENTICATION_RECEIVE | DISCONNECT)
-}
-
 impl Target<'_> {
     /// Whether the keys have a line for a host, or there are no keys.
     pub fn knows(&self, host_id: &[u8; 16], host_name: &[u8]) -> bool {
@@ -103,13 +97,23 @@ impl Target<'_> {
 
     /// Authentication Send: a message of the host.
     pub fn take_message(&mut self, queue: &mut HostQueue, entry: &SubmissionEntry, data: Data<'_>) -> Outcome<Answer> {
+        let answer = self.with_proof(queue, |it, queue, proof| it.take_message_of(queue, proof, entry, data))?;
+        Ok(answer.unwrap_or(Answer::of(INVALID_OPCODE)))
+    }
+
+    /// Does something with the proof of a queue, if it has one.
+    fn with_proof<R>(
+        &mut self,
+        queue: &mut HostQueue,
+        act: impl FnOnce(&mut Self, &mut HostQueue, &mut Proof) -> Outcome<R>,
+    ) -> Outcome<Option<R>> {
         let mut proof = match queue.proof.take() {
             Some(proof) => proof,
-            None => return Ok(Answer::of(INVALID_OPCODE)),
+            None => return Ok(None),
         };
-        let answer = self.take_message_of(queue, &mut proof, entry, data);
+        let result = act(self, queue, &mut proof);
         queue.proof = Some(proof);
-        answer
+        result.map(Some)
     }
 
     fn take_message_of(
@@ -126,19 +130,17 @@ impl Target<'_> {
         if entry.security_protocol() != PROTOCOL {
             return Ok(Answer::of(INVALID_FIELD));
         }
-        let prover = match &self.prover {
-            Some(prover) => prover,
-            None => return Ok(Answer::of(INVALID_OPCODE)),
-        };
-        let host = prover.keys.host(&proof.data.host_id, &proof.data.host_name);
-        let peers = host.map(|host| Peers { host: host.clone(), subsystem: prover.subsystem.clone() });
+        let peers = self.peers_of(proof);
+        let host = peers.as_ref().map(|it| Arc::clone(&it.host));
         match proof.authentication.take(bytes, peers) {
             Taken::Ready => (),
             Taken::Work(work) => {
                 if matches!(work, Work::Draw(_)) {
-                    proof.host = host.cloned();
+                    proof.host = host;
                 }
-                prover.worker.begin(queue.connection(), &proof.life, work);
+                if let Some(prover) = &self.prover {
+                    prover.worker.begin(queue.connection(), &proof.life, work);
+                }
             }
             Taken::Proved => return self.admit(queue, proof),
             Taken::Ended(explanation) => {
@@ -149,6 +151,13 @@ impl Target<'_> {
         Ok(Answer::of(SUCCESS))
     }
 
+    /// The host of a proof, as the keys have it, and this subsystem.
+    fn peers_of(&self, proof: &Proof) -> Option<Peers> {
+        let prover = self.prover.as_ref()?;
+        let host = prover.keys.host(&proof.data.host_id, &proof.data.host_name)?;
+        Some(Peers { host: Arc::clone(host), subsystem: Arc::clone(&prover.subsystem) })
+    }
+
     /// Authentication Receive: a message to the host. It has no answer yet if the message needs work.
     pub fn give_message(
         &mut self,
@@ -156,10 +165,17 @@ impl Target<'_> {
         entry: &SubmissionEntry,
         data: Data<'_>,
     ) -> Outcome<Option<Answer>> {
-        let proof = match &mut queue.proof {
-            Some(proof) => proof,
-            None => return Ok(Some(Answer::of(INVALID_OPCODE))),
-        };
+        let answer = self.with_proof(queue, |it, queue, proof| it.give_message_of(queue, proof, entry, data))?;
+        Ok(answer.unwrap_or(Some(Answer::of(INVALID_OPCODE))))
+    }
+
+    fn give_message_of(
+        &mut self,
+        queue: &mut HostQueue,
+        proof: &mut Proof,
+        entry: &SubmissionEntry,
+        data: Data<'_>,
+    ) -> Outcome<Option<Answer>> {
         let length = match data {
             Data::FromController(length) if length == entry.cdw11() as usize => length,
             _ => return Ok(Some(Answer::of(SGL_LENGTH))),
@@ -174,48 +190,32 @@ impl Target<'_> {
             proof.waiting = Some((entry.command_id(), length));
             return Ok(None);
         }
-        self.give(queue, length).map(Some)
+        self.give(queue, proof, length).map(Some)
     }
 
     /// Takes the result of a queue's work; the answer to the command that waited for it.
     pub fn finish_work(&mut self, queue: &mut HostQueue, done: Done) -> Outcome<Option<(SubmissionEntry, Answer)>> {
-        let waiting = match &mut queue.proof {
-            Some(proof) => {
-                proof.authentication.finish(done);
-                proof.waiting.take()
+        let answered = self.with_proof(queue, |it, queue, proof| {
+            proof.authentication.finish(done);
+            match proof.waiting.take() {
+                Some((cid, length)) => it.give(queue, proof, length).map(|answer| Some((receive_entry(cid), answer))),
+                None => Ok(None),
             }
-            None => None,
-        };
-        match waiting {
-            Some((cid, length)) => self.give(queue, length).map(|answer| Some((receive_entry(cid), answer))),
-            None => Ok(None),
-        }
+        })?;
+        Ok(answered.flatten())
     }
 
     /// Answers Authentication Receive with the next message.
-    fn give(&mut self, queue: &mut HostQueue, length: usize) -> Outcome<Answer> {
-        let mut proof = match queue.proof.take() {
-            Some(proof) => proof,
-            None => return Ok(Answer::of(COMMAND_SEQUENCE)),
-        };
-        let answer = self.give_of(queue, &mut proof, length);
-        queue.proof = Some(proof);
-        answer
-    }
-
-    fn give_of(&mut self, queue: &mut HostQueue, proof: &mut Proof, length: usize) -> Outcome<Answer> {
-        match proof.authentication.due() {
-            Due::Message(bytes) if bytes.len() <= length => (),
+    fn give(&mut self, queue: &mut HostQueue, proof: &mut Proof, length: usize) -> Outcome<Answer> {
+        let mut message = match proof.authentication.due() {
+            Due::Message(bytes) if bytes.len() <= length => bytes,
             Due::Message(_) => return Ok(Answer::of(INVALID_FIELD)),
             Due::Later | Due::Nothing => return Ok(Answer::of(COMMAND_SEQUENCE)),
-        }
-        if proof.authentication.proves_next() && self.admit(queue, proof)?.status != SUCCESS {
-            proof.authentication.fail(Explanation::Failed);
-        }
-        let answer = match proof.authentication.due() {
-            Due::Message(bytes) => Answer::with(bytes, length),
-            Due::Later | Due::Nothing => Answer::of(COMMAND_SEQUENCE),
         };
+        if proof.authentication.proves_next() && self.admit(queue, proof)?.status != SUCCESS {
+            message = proof.authentication.fail(Explanation::Failed);
+        }
+        let answer = Answer::with(message, length);
         if let Sent::Failed(explanation) = proof.authentication.sent() {
             self.say(format_args!("{} has not proved who it is: {explanation:?}", who(proof)));
             let host = uuid(u128::from_le_bytes(proof.data.host_id));

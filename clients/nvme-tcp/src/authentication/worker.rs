@@ -55,10 +55,8 @@ impl Worker {
 fn serve(todo: &Receiver<Job>, results: &Sender<Finished>, waker: &Waker) {
     for Job { connection, work, life } in todo {
         if life.upgrade().is_some() {
-            let finished = Finished { connection, done: work.run() };
-            if results.send(finished).is_err() {
-                return;
-            }
+            // If nobody takes the result, there is no more work either.
+            let _ = results.send(Finished { connection, done: work.run() });
             waker.wake();
         }
     }

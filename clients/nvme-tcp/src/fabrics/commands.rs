@@ -7,7 +7,7 @@ use crate::fabrics::discovery::{self, Discovery};
 use crate::fault::Outcome;
 use crate::nvme::entry::SubmissionEntry;
 use crate::nvme::status::{Status, COMMAND_SEQUENCE, SUCCESS};
-use crate::nvme::{AUTHENTICATION_RECEIVE, CONNECT, FABRICS, MOST_QUEUE};
+use crate::nvme::{AUTHENTICATION_RECEIVE, MOST_QUEUE};
 use crate::target::answer::Answer;
 use crate::target::controller::{Data, CAP, ENABLE};
 use crate::target::{Effect, Target};
@@ -42,11 +42,6 @@ impl ConnectBytes<'_> {
 /// The connections of the I/O queues of a controller.
 type IoConnections = [Option<ConnectionId>; MOST_QUEUE as usize];
 
-/// Whether an entry is a Connect, which is the first command of each queue.
-pub fn is_connect(entry: &SubmissionEntry) -> bool {
-    entry.opcode() == FABRICS && entry.fabrics_type() == CONNECT
-}
-
 /// The offset of a property, and the value that a Property Set gives it.
 fn property(entry: &SubmissionEntry) -> (u64, u32) {
     (entry.cdw11().into(), entry.cdw12())
@@ -66,7 +61,8 @@ impl Target<'_> {
         entry: &SubmissionEntry,
         data: Data<'_>,
     ) -> Outcome<Option<Answer>> {
-        if is_connect(entry) && queue.session.last() == Live::NotConnected {
+        // Before it, the library refuses all commands but Connect.
+        if queue.session.last() == Live::NotConnected {
             let answer = self.connect(queue, entry, data)?;
             self.log_connect(queue, data, &answer);
             return Ok(Some(answer));
@@ -231,6 +227,7 @@ fn of_property(value: u64) -> Answer {
 mod tests {
     use super::*;
     use crate::bytes::put;
+    use crate::nvme::FABRICS;
 
     #[test]
     fn fields_of_connect() {
@@ -242,8 +239,6 @@ mod tests {
         let it = ConnectBytes(&bytes);
         assert_eq!((it.host_id(), it.controller_id()), (&[0xa1; 16], 0xfffe));
         assert_eq!((it.subsystem_name(), it.host_name()), (&b"nqn.subsystem"[..], &b"nqn.host"[..]));
-        assert!(is_connect(&SubmissionEntry::new(FABRICS, 0, CONNECT.into())));
-        assert!(!is_connect(&SubmissionEntry::new(0, 0, CONNECT.into())));
         let entry = SubmissionEntry::new(FABRICS, 0, 0).with(0, 0x14);
         assert_eq!(property(&entry), (0x14, 0));
     }

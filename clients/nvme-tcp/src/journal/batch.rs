@@ -14,18 +14,20 @@ pub const MOST: usize = HEAD + 1 + LENGTH + MOST_CONTENT;
 
 /// Batches of records in their order. Sync each before the next is written.
 pub fn batches(records: &[u8]) -> Vec<Vec<u8>> {
-    let (mut batches, mut begun, mut at) = (Vec::new(), vec![BATCH], 0);
-    while let Some(content) = content_at(records, at) {
-        if begun.len() > 1 && HEAD + begun.len() + LENGTH + content.len() > MOST {
-            batches.push(framed(&begun));
-            begun.truncate(1);
+    let (mut batches, mut at) = (Vec::new(), 0);
+    loop {
+        let mut batch = vec![BATCH];
+        let has_room = |length: usize, content: &[u8]| length == 1 || HEAD + length + LENGTH + content.len() <= MOST;
+        while let Some(content) = content_at(records, at).filter(|it| has_room(batch.len(), it)) {
+            batch.extend((content.len() as u32).to_le_bytes());
+            batch.extend(content);
+            at += HEAD + content.len();
         }
-        begun.extend((content.len() as u32).to_le_bytes());
-        begun.extend(content);
-        at += HEAD + content.len();
+        batches.push(framed(&batch));
+        if content_at(records, at).is_none() {
+            return batches;
+        }
     }
-    batches.push(framed(&begun));
-    batches
 }
 
 fn framed(content: &[u8]) -> Vec<u8> {

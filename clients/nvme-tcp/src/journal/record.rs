@@ -76,27 +76,23 @@ impl Record {
     /// Its bytes in a journal.
     pub fn bytes(&self) -> Vec<u8> {
         let mut bytes = Vec::new();
-        match &self.event {
-            Event::Command { cntlid, qid, entry, data } => {
-                push_command(&mut bytes, self.epoch, (*cntlid, *qid), entry, data);
-            }
-            Event::Cycle => push_cycle(&mut bytes, self.epoch),
-            Event::Start => push(&mut bytes, &[&[START], &self.epoch.to_le_bytes()]),
-            Event::Checkpoint(it) => push(&mut bytes, &[&[CHECKPOINT], &self.epoch.to_le_bytes(), &it.bytes()]),
-        }
+        self.append_to(&mut bytes);
         bytes
     }
-}
 
-/// Appends the record of a command of a controller's queue.
-pub fn push_command(bytes: &mut Vec<u8>, epoch: u64, (cntlid, qid): (u16, u16), entry: &SubmissionEntry, data: &[u8]) {
-    let parts = [&[COMMAND], &epoch.to_le_bytes()[..], &cntlid.to_le_bytes(), &qid.to_le_bytes(), entry.bytes(), data];
-    push(bytes, &parts);
-}
-
-/// Appends the record of a power cycle.
-pub fn push_cycle(bytes: &mut Vec<u8>, epoch: u64) {
-    push(bytes, &[&[CYCLE], &epoch.to_le_bytes()]);
+    /// Appends its bytes in a journal.
+    pub fn append_to(&self, bytes: &mut Vec<u8>) {
+        let epoch = &self.epoch.to_le_bytes();
+        match &self.event {
+            Event::Command { cntlid, qid, entry, data } => {
+                let place = [cntlid.to_le_bytes(), qid.to_le_bytes()].concat();
+                push(bytes, &[&[COMMAND], epoch, &place, entry.bytes(), data]);
+            }
+            Event::Cycle => push(bytes, &[&[CYCLE], epoch]),
+            Event::Start => push(bytes, &[&[START], epoch]),
+            Event::Checkpoint(it) => push(bytes, &[&[CHECKPOINT], epoch, &it.bytes()]),
+        }
+    }
 }
 
 /// Appends a content, which is given in parts, with its length and digests.

@@ -61,10 +61,11 @@ impl Replica {
         })
     }
 
-    /// Executes the events of a journal; the number of the first that fails now, if one does.
-    pub fn follow(&mut self, events: &[Event]) -> Outcome<Option<usize>> {
+    /// Executes the events of a journal; the error says why it can't.
+    pub fn follow(&mut self, events: &[Event]) -> Result<(), String> {
         let Replica { machine, controllers, .. } = self;
-        Replay { machine, controllers, is_read_only: false }.all(events)
+        let failed = Replay { machine, controllers, is_read_only: false }.all(events).map_err(|it| it.to_string())?;
+        failed.map_or(Ok(()), |number| Err(format!("record {number} does not succeed again")))
     }
 
     /// What persists now.
@@ -172,14 +173,12 @@ impl Replay<'_, '_> {
     }
 
     fn make_one(&mut self, state: &NamespaceState) -> Outcome<bool> {
-        let nsid = state.nsid;
+        let (nsid, mut is_made) = (state.nsid, true);
         for index in 0..self.controllers.len() {
-            if self.is_attached(index, nsid) && !self.attach(index, index, nsid, DETACH)? {
-                return Ok(false);
-            }
+            is_made &= !self.is_attached(index, nsid) || self.attach(index, index, nsid, DETACH)?;
         }
         let protection = if self.is_read_only { 0 } else { state.reservation.protection };
-        let mut is_made = self.register_all(state)? && self.acquire(state)?;
+        is_made = is_made && self.register_all(state)? && self.acquire(state)?;
         // The reservation denies commands of other hosts.
         let issuer = Self::holder_of(state).and_then(|it| self.index_of(it.host)).unwrap_or(0);
         if protection != 0 {
@@ -263,12 +262,11 @@ impl Replay<'_, '_> {
     }
 
     fn repeat(&mut self, count: u64, index: usize, entry: &SubmissionEntry, key: u64) -> Outcome<bool> {
-        for _ in 0..count {
-            if !self.register(index, entry, key)? {
-                return Ok(false);
-            }
+        let mut done = 0;
+        while done != count && self.register(index, entry, key)? {
+            done += 1;
         }
-        Ok(true)
+        Ok(done == count)
     }
 }
 
@@ -366,7 +364,7 @@ mod tests {
             let mut replica = replica();
             for _ in 0..150 {
                 let (before, event) = (replica.checkpoint(), draw.event());
-                if replica.follow(&[event]).unwrap().is_some() {
+                if replica.follow(&[event]).is_err() {
                     assert_eq!(replica.checkpoint(), before, "a command that fails changes nothing");
                     continue;
                 }
@@ -375,7 +373,7 @@ mod tests {
                 let others = state.0.iter().map(|it| (it.reservation.protection, it.attached.clone()));
                 if shapes.insert((found.clone(), others.collect::<Vec<_>>())) {
                     let mut again = self::replica();
-                    assert_eq!(again.follow(&[Event::Checkpoint(state.clone())]).unwrap(), None, "{state:?}");
+                    assert_eq!(again.follow(&[Event::Checkpoint(state.clone())]), Ok(()), "{state:?}");
                     assert_eq!(again.checkpoint(), state);
                     kinds.extend(found);
                 }
@@ -396,16 +394,16 @@ mod tests {
 
     #[test]
     fn a_state_that_can_not_be_made_is_noticed() {
-        let mut replica = replica();
-        let Checkpoint(mut states) = replica.checkpoint();
+        let refused = Err("record 0 does not succeed again".to_owned());
+        let Checkpoint(mut states) = replica().checkpoint();
         states[0].reservation.registrants = vec![Registrant { host: 0xc3, key: 1 }];
-        assert_eq!(self::replica().follow(&[Event::Checkpoint(Checkpoint(states.clone()))]).unwrap(), Some(0));
+        assert_eq!(replica().follow(&[Event::Checkpoint(Checkpoint(states.clone()))]), refused);
         states[0].reservation.registrants.clear();
         states[0].reservation.holder = Holder::Host(1, 0xa1);
-        assert_eq!(self::replica().follow(&[Event::Checkpoint(Checkpoint(states.clone()))]).unwrap(), Some(0));
+        assert_eq!(replica().follow(&[Event::Checkpoint(Checkpoint(states.clone()))]), refused);
         states[0].reservation.holder = Holder::Nobody;
         states[0].attached = vec![9];
-        assert_eq!(self::replica().follow(&[Event::Checkpoint(Checkpoint(states))]).unwrap(), Some(0));
+        assert_eq!(replica().follow(&[Event::Checkpoint(Checkpoint(states))]), refused);
     }
 
     #[test]
@@ -416,7 +414,7 @@ mod tests {
             let Checkpoint(mut states) = replica.checkpoint();
             states[0].reservation.generation = generation;
             let mut again = self::replica();
-            assert_eq!(again.follow(&[Event::Checkpoint(Checkpoint(states.clone()))]).unwrap(), None);
+            assert_eq!(again.follow(&[Event::Checkpoint(Checkpoint(states.clone()))]), Ok(()));
             assert_eq!(again.checkpoint(), Checkpoint(states));
         }
     }

@@ -3,19 +3,15 @@
 use crate::bytes::{put, u16_at, u32_at, u64_at};
 use crate::nvme::ENTRY;
 
-/// Offsets of fields. SGL 1 is where PRP 1 and PRP 2 are.
+/// Offsets of fields.
 const COMMAND_ID: usize = 2;
 const NAMESPACE_ID: usize = 4;
 const PRP1: usize = 24;
 const PRP2: usize = 32;
-const SGL_LENGTH: usize = 32;
-const SGL_IDENTIFIER: usize = 39;
 const CDW10: usize = 40;
 const CDW11: usize = 44;
 const CDW12: usize = 48;
 const CDW14: usize = 56;
-/// PSDT: whether the entry has PRPs or an SGL.
-const PSDT: u8 = 0xc0;
 
 /// A command, as a submission queue or a capsule has it.
 #[derive(Clone, Copy, Debug, PartialEq, Eq)]
@@ -65,11 +61,6 @@ impl SubmissionEntry {
     }
 
     #[inline]
-    pub fn psdt(&self) -> u8 {
-        self.0[1] & PSDT
-    }
-
-    #[inline]
     pub fn command_id(&self) -> u16 {
         u16_at(&self.0, COMMAND_ID)
     }
@@ -83,23 +74,6 @@ impl SubmissionEntry {
     #[inline]
     pub fn fabrics_type(&self) -> u8 {
         self.0[NAMESPACE_ID]
-    }
-
-    /// The address of SGL 1, which is an offset if its data are in the capsule.
-    #[inline]
-    pub fn sgl_address(&self) -> u64 {
-        u64_at(&self.0, PRP1)
-    }
-
-    #[inline]
-    pub fn sgl_length(&self) -> u32 {
-        u32_at(&self.0, SGL_LENGTH)
-    }
-
-    /// Type and subtype of SGL 1.
-    #[inline]
-    pub fn sgl_identifier(&self) -> u8 {
-        self.0[SGL_IDENTIFIER]
     }
 
     #[inline]
@@ -209,9 +183,8 @@ mod tests {
     #[test]
     fn fields_are_where_the_standard_has_them() {
         let it = counting();
-        assert_eq!((it.opcode(), it.psdt(), it.command_id()), (0, 0, 0x0302));
+        assert_eq!((it.opcode(), it.command_id()), (0, 0x0302));
         assert_eq!((it.namespace_id(), it.fabrics_type()), (0x0706_0504, 4));
-        assert_eq!((it.sgl_address(), it.sgl_length(), it.sgl_identifier()), (0x1f1e_1d1c_1b1a_1918, 0x2322_2120, 39));
         assert_eq!((it.cdw10(), it.cdw11(), it.cdw12()), (0x2b2a_2928, 0x2f2e_2d2c, 0x3332_3130));
         assert_eq!((it.cdw14(), it.cdw10_low(), it.cdw10_upper()), (0x3b3a_3938, 0x28, 0x2b2a));
         assert_eq!((it.security_protocol(), it.connect_attributes()), ([41, 42, 43], 46));
@@ -226,9 +199,10 @@ mod tests {
         assert_eq!((it.opcode(), it.command_id(), it.namespace_id()), (0x7f, 0x1234, 9));
         assert_eq!((it.cdw10(), it.cdw11(), it.cdw12()), (10, 11, 0));
         it.set_prps(1 << 40, 7);
-        assert_eq!((it.sgl_address(), it.sgl_length()), (1 << 40, 7));
+        let prps = |it: &SubmissionEntry| (u64_at(it.bytes(), PRP1), u64_at(it.bytes(), PRP2));
+        assert_eq!(prps(&it), (1 << 40, 7));
         let other = it.on_blocks(8, 1 << 33, 255);
         assert_eq!((other.opcode(), other.command_id(), other.namespace_id()), (8, 0x1234, 9));
-        assert_eq!((other.slba(), other.nlb(), other.sgl_address()), (1 << 33, 255, 0));
+        assert_eq!((other.slba(), other.nlb(), prps(&other)), (1 << 33, 255, (0, 0)));
     }
 }

@@ -10,49 +10,36 @@ pub struct Status {
     pub sc: u8,
 }
 
-const fn generic(sc: u8) -> Status {
-    Status { sct: 0, sc }
-}
+/// Status Code Types.
+const GENERIC: u8 = 0;
+const SPECIFIC: u8 = 1;
+const MEDIA: u8 = 2;
+const PATH: u8 = 3;
 
-const fn specific(sc: u8) -> Status {
-    Status { sct: 1, sc }
-}
-
-const fn media(sc: u8) -> Status {
-    Status { sct: 2, sc }
-}
-
-const fn path(sc: u8) -> Status {
-    Status { sct: 3, sc }
-}
-
-pub const SUCCESS: Status = generic(0x00);
-pub const INVALID_OPCODE: Status = generic(0x01);
-pub const INVALID_FIELD: Status = generic(0x02);
-pub const COMMAND_ID_CONFLICT: Status = generic(0x03);
-pub const DATA_TRANSFER: Status = generic(0x04);
-pub const INVALID_NAMESPACE: Status = generic(0x0b);
-pub const COMMAND_SEQUENCE: Status = generic(0x0c);
-pub const SGL_LENGTH: Status = generic(0x0f);
-pub const SGL_TYPE: Status = generic(0x11);
-pub const SGL_OFFSET: Status = generic(0x16);
-pub const ABORTED_BY_PREEMPTION: Status = generic(0x1b);
-pub const TRANSIENT_TRANSPORT: Status = generic(0x22);
-pub const OUT_OF_RANGE: Status = generic(0x80);
-pub const RESERVATION_CONFLICT: Status = generic(0x83);
-pub const EVENT_LIMIT: Status = specific(0x05);
-pub const INVALID_LOG_PAGE: Status = specific(0x09);
-pub const FEATURE_NOT_SAVEABLE: Status = specific(0x0d);
-pub const FEATURE_NOT_CHANGEABLE: Status = specific(0x0e);
-pub const FEATURE_OF_NO_NAMESPACE: Status = specific(0x0f);
-pub const CONTROLLER_BUSY: Status = specific(0x81);
-pub const CONNECT_PARAMETERS: Status = specific(0x82);
-pub const SIZE_LIMIT: Status = specific(0x83);
-pub const CONNECT_HOST: Status = specific(0x84);
-pub const AUTHENTICATION_REQUIRED: Status = specific(0x91);
-pub const WRITE_FAULT: Status = media(0x80);
-pub const READ_ERROR: Status = media(0x81);
-pub const INACCESSIBLE: Status = path(0x02);
+pub const SUCCESS: Status = Status { sct: GENERIC, sc: 0x00 };
+pub const INVALID_OPCODE: Status = Status { sct: GENERIC, sc: 0x01 };
+pub const INVALID_FIELD: Status = Status { sct: GENERIC, sc: 0x02 };
+pub const DATA_TRANSFER: Status = Status { sct: GENERIC, sc: 0x04 };
+pub const INVALID_NAMESPACE: Status = Status { sct: GENERIC, sc: 0x0b };
+pub const COMMAND_SEQUENCE: Status = Status { sct: GENERIC, sc: 0x0c };
+pub const SGL_LENGTH: Status = Status { sct: GENERIC, sc: 0x0f };
+pub const ABORTED_BY_PREEMPTION: Status = Status { sct: GENERIC, sc: 0x1b };
+pub const TRANSIENT_TRANSPORT: Status = Status { sct: GENERIC, sc: 0x22 };
+pub const OUT_OF_RANGE: Status = Status { sct: GENERIC, sc: 0x80 };
+pub const RESERVATION_CONFLICT: Status = Status { sct: GENERIC, sc: 0x83 };
+pub const EVENT_LIMIT: Status = Status { sct: SPECIFIC, sc: 0x05 };
+pub const INVALID_LOG_PAGE: Status = Status { sct: SPECIFIC, sc: 0x09 };
+pub const FEATURE_NOT_SAVEABLE: Status = Status { sct: SPECIFIC, sc: 0x0d };
+pub const FEATURE_NOT_CHANGEABLE: Status = Status { sct: SPECIFIC, sc: 0x0e };
+pub const FEATURE_OF_NO_NAMESPACE: Status = Status { sct: SPECIFIC, sc: 0x0f };
+pub const CONTROLLER_BUSY: Status = Status { sct: SPECIFIC, sc: 0x81 };
+pub const CONNECT_PARAMETERS: Status = Status { sct: SPECIFIC, sc: 0x82 };
+pub const SIZE_LIMIT: Status = Status { sct: SPECIFIC, sc: 0x83 };
+pub const CONNECT_HOST: Status = Status { sct: SPECIFIC, sc: 0x84 };
+pub const AUTHENTICATION_REQUIRED: Status = Status { sct: SPECIFIC, sc: 0x91 };
+pub const WRITE_FAULT: Status = Status { sct: MEDIA, sc: 0x80 };
+pub const READ_ERROR: Status = Status { sct: MEDIA, sc: 0x81 };
+pub const INACCESSIBLE: Status = Status { sct: PATH, sc: 0x02 };
 
 impl fmt::Display for Status {
     /// Its type in one hexadecimal digit, and its code in two.

@@ -81,7 +81,7 @@ impl<R: Read> Source<R> {
         if !read_batch(count, content, &mut self.batch) {
             return Err(Refusal::Unreadable(self.frames.place()));
         }
-        self.events += u64::from(count);
+        self.events += count as u64;
         Ok(Some(&self.batch))
     }
 }

@@ -4,7 +4,7 @@
 use crate::bytes::{put, u32_at, u64_at};
 use crate::digest::{crc32c, crc32c_after};
 use std::fmt;
-use std::io::{self, Read};
+use std::io::{self, ErrorKind, Read};
 
 /// The size of a head: the position of its frame in the file, the length of its content, the number of its events, a
 /// digest of the content, and a digest of these four.
@@ -18,60 +18,43 @@ const MOST: usize = 8 << 20;
 /// The number of bytes to read at a time.
 const READ: usize = 1 << 20;
 
-/// Too many bytes for a frame.
-#[derive(Clone, Copy, Debug)]
-pub struct TooLong(usize);
-
-impl fmt::Display for TooLong {
-    fn fmt(&self, f: &mut fmt::Formatter<'_>) -> fmt::Result {
-        write!(f, "a frame has at most {MOST} bytes, not {}", self.0)
-    }
-}
-
-impl std::error::Error for TooLong {}
-
 /// The head of a frame, without its position.
 #[derive(Clone, Copy, Debug, Default)]
 pub struct Head {
-    events: u32,
-    length: u32,
+    events: usize,
+    length: usize,
     digest: u32,
 }
 
 impl Head {
     /// The head for a content, given in two parts. Each event takes at least one byte of it.
-    pub fn new(events: usize, first: &[u8], then: &[u8]) -> Result<Head, TooLong> {
-        let length = first.len() + then.len();
-        if length.max(events) > MOST {
-            return Err(TooLong(length.max(events)));
-        }
-        let digest = crc32c_after(crc32c(first), then);
-        Ok(Head { events: events as u32, length: length as u32, digest })
+    pub fn new(events: usize, first: &[u8], then: &[u8]) -> Head {
+        Head { events, length: first.len() + then.len(), digest: crc32c_after(crc32c(first), then) }
     }
 
-    /// The bytes of this head for a frame at `place` of the file.
-    pub fn bytes(&self, place: u64) -> [u8; HEAD] {
-        let mut bytes = [0; HEAD];
+    /// The bytes of this head for a frame at `place` of the file. An error if its content is longer than a reader takes.
+    pub fn bytes(&self, place: u64) -> io::Result<[u8; HEAD]> {
+        let (length, mut bytes) = (self.length.max(self.events), [0; HEAD]);
+        if length > MOST {
+            let text = format!("a frame has at most {MOST} bytes, not {length}");
+            return Err(io::Error::new(ErrorKind::InvalidData, text));
+        }
         put(&mut bytes, 0, &place.to_le_bytes());
-        put(&mut bytes, LENGTH_AT, &self.length.to_le_bytes());
-        put(&mut bytes, EVENTS_AT, &self.events.to_le_bytes());
+        put(&mut bytes, LENGTH_AT, &(self.length as u32).to_le_bytes());
+        put(&mut bytes, EVENTS_AT, &(self.events as u32).to_le_bytes());
         put(&mut bytes, CONTENT_DIGEST_AT, &self.digest.to_le_bytes());
         let digest = crc32c(&bytes[..HEAD_DIGEST_AT]);
         put(&mut bytes, HEAD_DIGEST_AT, &digest.to_le_bytes());
-        bytes
+        Ok(bytes)
     }
 
     /// The head that `bytes`, which are at `place` of the file, begin with, if there is one.
     fn of(bytes: &[u8], place: u64) -> Option<Head> {
         let bytes = bytes.get(..HEAD).filter(|it| u64_at(it, 0) == place)?;
-        let [length, events, digest] = [LENGTH_AT, EVENTS_AT, CONTENT_DIGEST_AT].map(|at| u32_at(bytes, at));
-        let head = Head { events, length, digest };
-        let is_right = crc32c(&bytes[..HEAD_DIGEST_AT]) == u32_at(bytes, HEAD_DIGEST_AT) && head.length() <= MOST;
+        let [length, events] = [LENGTH_AT, EVENTS_AT].map(|at| u32_at(bytes, at) as usize);
+        let head = Head { events, length, digest: u32_at(bytes, CONTENT_DIGEST_AT) };
+        let is_right = crc32c(&bytes[..HEAD_DIGEST_AT]) == u32_at(bytes, HEAD_DIGEST_AT) && length <= MOST;
         is_right.then_some(head)
-    }
-
-    fn length(&self) -> usize {
-        self.length as usize
     }
 }
 
@@ -80,7 +63,7 @@ impl Head {
 pub enum Broken {
     /// The last `count` bytes, from `place` on, have no whole frame. `events` is the number of events of the frame at
     /// `place`, if its head is intact.
-    Torn { place: u64, count: u64, events: Option<u32> },
+    Torn { place: u64, count: u64, events: Option<usize> },
     /// The frame at `place` is damaged, and a whole one follows at `next`.
     Damaged { place: u64, next: u64 },
     /// The bytes could not be read.
@@ -134,7 +117,7 @@ impl<R: Read> Frames<R> {
     }
 
     /// The next frame: the number of its events, and its content. `None` at the end.
-    pub fn next(&mut self) -> Result<Option<(u32, &[u8])>, Broken> {
+    pub fn next(&mut self) -> Result<Option<(usize, &[u8])>, Broken> {
         self.skip(self.read);
         self.read = 0;
         if !self.has(1)? {
@@ -142,9 +125,9 @@ impl<R: Read> Frames<R> {
         }
         match self.whole()? {
             Some(Head { events, length, .. }) => {
-                self.read = HEAD + length as usize;
+                self.read = HEAD + length;
                 let begin = self.at + HEAD;
-                Ok(Some((events, &self.buffer[begin..begin + length as usize])))
+                Ok(Some((events, &self.buffer[begin..begin + length])))
             }
             None => Err(self.judge()?),
         }
@@ -156,11 +139,11 @@ impl<R: Read> Frames<R> {
             return Ok(None);
         }
         let head = match Head::of(&self.buffer[self.at..], self.place) {
-            Some(head) if self.has(HEAD + head.length())? => head,
+            Some(head) if self.has(HEAD + head.length)? => head,
             _ => return Ok(None),
         };
         let begin = self.at + HEAD;
-        let is_whole = crc32c(&self.buffer[begin..begin + head.length()]) == head.digest;
+        let is_whole = crc32c(&self.buffer[begin..begin + head.length]) == head.digest;
         Ok(is_whole.then_some(head))
     }
 
@@ -209,9 +192,8 @@ mod tests {
         let (mut bytes, mut ends) = (Vec::new(), vec![0]);
         for content in contents {
             let (first, then) = content.split_at(content.len() / 3);
-            let head = Head::new(content.len(), first, then).unwrap();
             let place = PLACE + bytes.len() as u64;
-            bytes.extend(head.bytes(place));
+            bytes.extend(Head::new(content.len(), first, then).bytes(place).unwrap());
             bytes.extend_from_slice(content);
             ends.push(bytes.len());
         }
@@ -224,7 +206,7 @@ mod tests {
         loop {
             match frames.next() {
                 Ok(Some((events, content))) => {
-                    assert_eq!(events as usize, content.len());
+                    assert_eq!(events, content.len());
                     contents.push(content.to_vec());
                 }
                 Ok(None) => return (contents, None),
@@ -260,7 +242,7 @@ mod tests {
                 Some(Broken::Torn { place, count, events }) => {
                     assert_eq!((place, count), (PLACE + ends[whole] as u64, (cut - ends[whole]) as u64));
                     let has_head = cut - ends[whole] >= HEAD;
-                    assert_eq!(events, has_head.then_some(contents[whole].len() as u32));
+                    assert_eq!(events, has_head.then_some(contents[whole].len()));
                 }
                 Some(other) => panic!("{cut}: {other}"),
             }
@@ -306,7 +288,8 @@ mod tests {
 
     #[test]
     fn a_content_that_is_too_long_is_a_fault() {
-        assert!(Head::new(1, &vec![0; MOST], &[]).is_ok());
-        assert!(Head::new(1, &vec![0; MOST], &[0]).is_err());
+        assert!(Head::new(1, &vec![0; MOST], &[]).bytes(0).is_ok());
+        assert!(Head::new(1, &vec![0; MOST], &[0]).bytes(0).is_err());
+        assert!(Head::new(MOST + 1, &[], &[]).bytes(0).is_err());
     }
 }

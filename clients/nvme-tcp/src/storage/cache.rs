@@ -147,12 +147,8 @@ impl Cache {
         self.busy < self.most / 2
     }
 
-    /// The frame with this number. If it is not in memory it replaces another, and has no valid block.
+    /// The place of a frame that was not in memory: it is new, or replaces another, and has no valid block.
     pub fn take(&mut self, number: u64) -> usize {
-        if let Some(place) = self.find(number) {
-            self.frames[place].is_recent = true;
-            return place;
-        }
         let place = if let Some(place) = self.replaceable() {
             self.places.remove(&self.frames[place].number);
             self.frames[place].become_other(number);
@@ -241,7 +237,7 @@ mod tests {
         assert!((0..=most).all(|it| cache.find(it).is_some()) && !cache.has_room());
         (0..cache.most).for_each(|it| cache.change(it, |it| it.users = 0));
         assert!(cache.has_room() && cache.busy == 0);
-        for number in 0..9 * most {
+        for number in most + 1..9 * most {
             cache.take(number);
         }
         assert_eq!(cache.frames.len() as u64, most + 1);

@@ -70,11 +70,14 @@ impl Ledger {
     /// The answer of a command is known: it is given back if nothing is open, or all were given up.
     pub fn close(&mut self, ticket: u64, owed: Owed) -> Option<Owed> {
         match self.line(ticket) {
-            Some(line) => {
+            Some(line) if line.open > 1 => {
                 line.owed = Some(owed);
                 self.end(ticket)
             }
-            None => Some(owed),
+            _ => {
+                self.end(ticket);
+                Some(owed)
+            }
         }
     }
 

@@ -142,7 +142,7 @@ impl Target<'_> {
         if issued.opcode == DATASET_MANAGEMENT {
             let ticket = self.storage.as_mut().map(|it| it.open(issued.index));
             let answer = self.deallocate(issued.index, issued.qid, &issued.entry, data, ticket)?;
-            return Ok(ticket.and_then(|ticket| self.owe(ticket, &issued, answer)));
+            return Ok(self.owe(ticket, &issued, answer));
         }
         let Issued { index, qid, entry, .. } = issued;
         let token = match self.controllers[index].submit(&mut self.machine, qid, &entry, data, DataBuffer::AT_ONCE)? {
@@ -185,8 +185,8 @@ impl Target<'_> {
         Ok(None)
     }
 
-    /// Executes a command that has waited, if it has what it needs now: its answer, unless that waits too.
-    fn advance(&mut self, id: u64) -> Outcome<Option<(Issued, Answer)>> {
+    /// Takes a command out of those that wait, if it has what it needs now; with what that is.
+    fn take_ready(&mut self, id: u64) -> Outcome<Option<(Pending, Need)>> {
         let Target { waiting, controllers, machine, storage, .. } = self;
         let (pending, storage) = match (waiting.list.get(&id), storage) {
             (Some(pending), Some(storage)) => (pending, storage),
@@ -197,14 +197,19 @@ impl Target<'_> {
             return Ok(None);
         }
         let need = controllers[index].need(machine, pending.token)?;
-        if !storage.prepare(need, id) {
-            return Ok(None);
-        }
-        let pending = match waiting.remove(id) {
-            Some(pending) => pending,
+        let is_ready = storage.prepare(need, id);
+        Ok(if is_ready { waiting.remove(id).map(|it| (it, need)) } else { None })
+    }
+
+    /// Executes a command that has waited, if it has what it needs now: its answer, unless that waits too.
+    fn advance(&mut self, id: u64) -> Outcome<Option<(Issued, Answer)>> {
+        let (pending, need) = match self.take_ready(id)? {
+            Some(ready) => ready,
             None => return Ok(None),
         };
         let Pending { issued, token, buffer, was_held, .. } = pending;
+        let Target { controllers, machine, .. } = self;
+        let index = issued.index;
         if !was_held {
             // All commands that wait share one place for their data.
             controllers[index].place_data(machine, issued.qid, &issued.entry, pending.data(), buffer)?;
@@ -240,13 +245,8 @@ impl Target<'_> {
         let completed = self.execute_over(*index, token, need, buffer.start(data.length()), ticket)?;
         let answer = self.answer_of(*index, *qid, entry, data, completed, watch.as_ref())?;
         let ticket = ticket.or_else(|| self.storage.as_mut().and_then(|it| it.follow_writes(need, *index)));
-        Ok(match ticket {
-            Some(ticket) => {
-                let answer = self.kept(answer)?;
-                self.owe(ticket, issued, answer)
-            }
-            None => Some(answer),
-        })
+        let answer = if ticket.is_some() { self.kept(answer)? } else { answer };
+        Ok(self.owe(ticket, issued, answer))
     }
 
     /// Executes a fetched command over the blocks that it needs, whose data are at this address. What it writes goes to
@@ -283,12 +283,12 @@ impl Target<'_> {
         self.execute_over(index, token, need, DataBuffer::AT_ONCE.start(0), Some(ticket))
     }
 
-    /// The answer of a command with a ticket, if no write of it is in progress.
-    pub fn owe(&mut self, ticket: u64, issued: &Issued, answer: Answer) -> Option<Answer> {
+    /// The answer of a command, unless it has a ticket and a write of it is in progress.
+    fn owe(&mut self, ticket: Option<u64>, issued: &Issued, answer: Answer) -> Option<Answer> {
         let has_write_cache = self.has_write_cache(issued.index);
-        let storage = match &mut self.storage {
-            Some(storage) => storage,
-            None => return Some(answer),
+        let (storage, ticket) = match (&mut self.storage, ticket) {
+            (Some(storage), Some(ticket)) => (storage, ticket),
+            _ => return Some(answer),
         };
         let is_forced = issued.opcode != DATASET_MANAGEMENT && issued.entry.cdw12() & FORCE_UNIT_ACCESS != 0;
         let has_effect = answer.status == SUCCESS || matches!(issued.opcode, READ | COMPARE);

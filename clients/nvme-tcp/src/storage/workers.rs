@@ -173,8 +173,11 @@ impl Workers {
         Some(done)
     }
 
-    /// The next job that ends, which is waited for.
+    /// The next job that ends, which is waited for. `None` if there is none.
     pub fn wait(&mut self) -> Option<Done> {
+        if self.under_way == 0 {
+            return None;
+        }
         self.hand_out();
         let done = self.done.recv().ok()?;
         self.under_way -= 1;

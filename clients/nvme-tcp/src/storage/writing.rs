@@ -56,9 +56,6 @@ impl Storage {
         if self.room.len() > MOST_WRITTEN {
             self.room = Vec::new();
         }
-        if extent.blocks == 0 {
-            return;
-        }
         let mut tickets = vec![ticket];
         self.ledger.add(ticket);
         for part in extent.parts() {
@@ -181,11 +178,9 @@ impl Storage {
     }
 
     pub(super) fn finish_zeros(&mut self, extent: Extent, has_succeeded: bool) {
-        let found = self.zeroing.iter().position(|it| it.is_running && it.extent == extent);
-        let zeroing = match found {
-            Some(at) => self.zeroing.remove(at),
-            None => return,
-        };
+        let zeroing = mem::take(&mut self.zeroing).into_iter();
+        let (ended, others): (Vec<_>, Vec<_>) = zeroing.partition(|it| it.is_running && it.extent == extent);
+        self.zeroing = others;
         for number in extent.frames() {
             if let Some(place) = self.cache.find(number) {
                 let is_queued = self.cache.change(place, |it| it.dirty == 0 || mem::replace(&mut it.is_queued, true));
@@ -198,7 +193,7 @@ impl Storage {
             self.unsynced.push((self.syncs.next(), extent));
         }
         if has_succeeded {
-            self.end(&zeroing.tickets);
+            ended.iter().for_each(|it| self.end(&it.tickets));
         }
     }
 

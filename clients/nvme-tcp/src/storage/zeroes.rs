@@ -54,17 +54,20 @@ impl Target<'_> {
     }
 
     /// Whether a command can have its turn now.
+    #[inline]
     pub fn has_turn(&self) -> bool {
         !self.long_zeroes.list.is_empty() && self.storage.as_ref().map_or(false, |it| !it.has_many_zeroes())
     }
 
-    /// Executes the next command whose turn it is.
-    pub fn take_turn(&mut self) -> Outcome<()> {
-        let (issued, bytes) = match self.long_zeroes.list.pop_front() {
-            Some(next) => next,
-            None => return Ok(()),
-        };
-        let data = if bytes.is_empty() { Data::FromController(0) } else { Data::ToController(&bytes) };
+    /// Executes the next command, if it can have its turn now; whether there was one.
+    #[inline]
+    pub fn take_turn(&mut self) -> Outcome<bool> {
+        let next = if self.has_turn() { self.long_zeroes.list.pop_front() } else { None };
+        next.map_or(Ok(false), |(issued, bytes)| self.execute_long(issued, &bytes).map(|()| true))
+    }
+
+    fn execute_long(&mut self, issued: Issued, bytes: &[u8]) -> Outcome<()> {
+        let data = if bytes.is_empty() { Data::FromController(0) } else { Data::ToController(bytes) };
         if let Some(answer) = self.execute_now(issued, data)? {
             let Issued { connection, mut entry, opcode, .. } = issued;
             entry.set_opcode(opcode);

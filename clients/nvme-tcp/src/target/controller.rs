@@ -182,15 +182,12 @@ impl Controller {
 
     /// What a fetched command needs of the blocks now.
     pub fn need(&self, machine: &mut Machine<'_>, token: Token) -> Outcome<Need> {
-        self.place(token).map_or(Ok(Need::Nothing), |i| machine.need(self.cntlid, i))
+        machine.need(self.cntlid, self.place(token))
     }
 
     /// Executes a fetched command that needs this, and whose data are at this address; takes its completion.
     pub fn execute(&mut self, machine: &mut Machine<'_>, token: Token, need: Need, data: u64) -> Outcome<Completed> {
-        let i = match self.place(token) {
-            Some(i) => i,
-            None => return Ok(Completed::without_queue()),
-        };
+        let i = self.place(token);
         let executed = machine.complete(self.cntlid, i)?;
         Ok(self.completed(i, executed, (need, data)))
     }
@@ -203,17 +200,15 @@ impl Controller {
         (need, data): (Need, u64),
         (room, brought): (&mut [u8], Brought),
     ) -> Outcome<(Completed, u64)> {
-        let i = match self.place(token) {
-            Some(i) => i,
-            None => return Ok((Completed::without_queue(), 0)),
-        };
+        let i = self.place(token);
         let (executed, at_hand) = machine.complete_over(self.cntlid, i, room, brought)?;
         Ok((self.completed(i, executed, (need, data)), at_hand))
     }
 
-    /// The place of a command among those that were fetched.
-    fn place(&self, token: Token) -> Option<usize> {
-        self.fetched.iter().position(|(it, _)| *it == token)
+    /// The place of a command among those that were fetched. That of one that was dropped is after all of them: there
+    /// the subsystem has no command to execute.
+    fn place(&self, token: Token) -> usize {
+        self.fetched.iter().position(|(it, _)| *it == token).unwrap_or(self.fetched.len())
     }
 
     /// Places a command with its data; nothing if it was not fetched.
@@ -304,4 +299,42 @@ fn own_entry(opcode: u8, place: u64, dw10: u32, dw11: u32) -> SubmissionEntry {
     let mut entry = SubmissionEntry::new(opcode, 0xfffe, 0).with(dw10, dw11);
     entry.set_prps(place, 0);
     entry
+}
+
+#[cfg(test)]
+mod tests {
+    use super::*;
+    use crate::configuration::Configuration;
+    use nvmesim::Subsystem;
+
+    /// CC of a controller that is ready.
+    const READY: u32 = 4 << 20 | 6 << 16 | ENABLE;
+
+    #[test]
+    fn a_command_that_was_dropped_is_not_executed() {
+        let text = b"controller 1 host 0xa1\nnamespace 1 blocks 8 shared\nattached 1 1\n";
+        let Configuration { config, .. } = Configuration::read(text, 8).unwrap();
+        let mut machine = Machine::new(Subsystem::open_brought(&config, 8).unwrap(), None);
+        let (mut it, flush, none) = (Controller::new(1, 0xa1), SubmissionEntry::new(0, 7, 1), Data::None);
+        it.configure(&mut machine, READY, 8).unwrap();
+        for qid in [1, 2] {
+            assert_eq!(it.create_queues(&mut machine, qid, 8).unwrap(), SUCCESS);
+        }
+        let [dropped, kept] =
+            [1, 2].map(|qid| it.submit(&mut machine, qid, &flush, none, DataBuffer::AT_ONCE).unwrap().unwrap());
+        assert_eq!(it.need(&mut machine, dropped).unwrap(), Need::Flush);
+        it.delete_queues(&mut machine, 1).unwrap();
+        assert_eq!((it.need(&mut machine, dropped).unwrap(), it.fetched()), (Need::Nothing, 1));
+        assert_eq!(it.execute(&mut machine, dropped, Need::Nothing, 0).unwrap(), Completed::without_queue());
+        let over = it.execute_over(&mut machine, dropped, (Need::Flush, 0), (&mut [], Brought::default())).unwrap();
+        assert_eq!(over, (Completed::without_queue(), 0));
+        let brought = Brought { flushes: true, ..Brought::default() };
+        let (completed, _) = it.execute_over(&mut machine, kept, (Need::Flush, 0), (&mut [], brought)).unwrap();
+        assert_eq!((completed.status, it.fetched()), (SUCCESS, 0));
+        it.reset(&mut machine).unwrap();
+        assert_eq!(it.need(&mut machine, dropped).unwrap(), Need::Nothing);
+        assert_eq!(it.execute(&mut machine, dropped, Need::Nothing, 0).unwrap(), Completed::without_queue());
+        let over = it.execute_over(&mut machine, dropped, (Need::Flush, 0), (&mut [], Brought::default())).unwrap();
+        assert_eq!(over, (Completed::without_queue(), 0));
+    }
 }

@@ -48,9 +48,8 @@ impl<'a> Machine<'a> {
         (data_at, data): (u64, &[u8]),
     ) -> Outcome<bool> {
         let placed = match self.subsystem.place(cntlid, qid, entry.bytes(), data_at, data) {
-            Ok(placed) => placed,
             Err(Refusal::NotReady | Refusal::NoQueue | Refusal::Busy) => return Ok(false),
-            Err(refusal) => return Err(refusal.into()),
+            placed => placed?,
         };
         if let Some(run) = &mut self.run {
             run.stored(cntlid, placed.entry_at, entry.bytes())?;

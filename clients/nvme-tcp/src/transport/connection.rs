@@ -1,17 +1,13 @@
 //! A connection: bytes become PDUs, PDUs become commands, and their answers go back.
 
-use crate::authentication::proving::goes_before_proof;
 use crate::authentication::Done;
 use crate::bytes::first;
 use crate::control::counters::Closing;
 use crate::control::log::warn;
 use crate::fabrics::association::HostQueue;
-use crate::fabrics::commands;
 use crate::fault::{Fault, Outcome};
 use crate::nvme::entry::SubmissionEntry;
-use crate::nvme::status::{
-    Status, AUTHENTICATION_REQUIRED, COMMAND_ID_CONFLICT, COMMAND_SEQUENCE, SUCCESS, TRANSIENT_TRANSPORT,
-};
+use crate::nvme::status::{Status, SUCCESS, TRANSIENT_TRANSPORT};
 use crate::nvme::FLUSH;
 use crate::target::answer::{Answer, Payload};
 use crate::target::controller::Data;
@@ -19,8 +15,8 @@ use crate::target::Target;
 use crate::transport::input::{Input, Rooms};
 use crate::transport::output::Output;
 use crate::transport::pdu::{self, Fatal, HostData, Kind, Layout, COMMON};
-use crate::transport::pointer::Pointer;
 use crate::transport::transfers::{Part, Transfers};
+use nvmesim::capsules::{self, Capsule};
 use nvmesim::connection::{Connection as Framing, Stage, Verdict};
 use nvmesim::fabrics::Live;
 use nvmesim::responses::Reply;
@@ -105,11 +101,6 @@ impl Connection {
             is_closed: false,
             closing: None,
         }
-    }
-
-    /// Whether its Connect has not succeeded yet.
-    fn is_pending(&self) -> bool {
-        self.queue.session.last() == Live::NotConnected
     }
 
     pub fn is_late(&self, now: Instant) -> bool {
@@ -206,17 +197,8 @@ impl Connection {
         if let Some(fatal) = taken.breach {
             self.terminate(target, fatal);
         }
-        let layout = match self.framing.stage() {
-            Stage::Whole => self.framing.layout(),
-            _ => None,
-        };
-        let layout = match layout {
-            Some(layout) => layout,
-            None => return Ok(false),
-        };
         let unit = input.unit();
-        let verdict = self.framing.judge(pdu::has_right_header(&layout, unit), pdu::has_right_data(&layout, unit));
-        match verdict {
+        match self.verdict(unit) {
             Some(Verdict::Completes { layout, is_sound }) => match self.execute(target, &layout, is_sound, unit) {
                 Err(Stop::Fatal(fatal)) => {
                     self.framing.refuse(fatal);
@@ -226,10 +208,19 @@ impl Connection {
                 Ok(()) => (),
             },
             Some(Verdict::Breaks(fatal)) => self.terminate(target, fatal),
-            None => (),
+            None => return Ok(false),
         }
         input.drop_unit();
         Ok(true)
+    }
+
+    /// Judges the PDU in hand by its digests, if it is whole.
+    fn verdict(&mut self, unit: &[u8]) -> Option<Verdict> {
+        let layout = match self.framing.stage() {
+            Stage::Whole => self.framing.layout()?,
+            _ => return None,
+        };
+        self.framing.judge(pdu::has_right_header(&layout, unit), pdu::has_right_data(&layout, unit))
     }
 
     /// Executes a complete PDU.
@@ -249,38 +240,23 @@ impl Connection {
 
     /// A command. It is executed as soon as it has its data.
     fn capsule(&mut self, target: &mut Target<'_>, layout: &Layout, is_sound: bool, unit: &[u8]) -> Result<(), Stop> {
-        let entry = SubmissionEntry::from(*first(&unit[COMMON..]));
-        let accepted = self.queue.responses.accept(entry.command_id());
-        let is_conflict = accepted.map_err(|_| pdu::OUT_OF_SEQUENCE)?;
-        if let Some(status) = self.refusal(&entry, is_sound, is_conflict) {
-            return Ok(self.answer(target, &entry, Answer::of(status))?);
-        }
         let data = pdu::data_in(layout, unit);
-        match Pointer::of(&entry, data.len()) {
-            Err(status) => self.answer(target, &entry, Answer::of(status))?,
-            Ok(Pointer::OnRequest(_)) if self.is_pending() => {
-                self.answer(target, &entry, Answer::of(COMMAND_SEQUENCE))?;
+        let capsule = Capsule { entry: *first(&unit[COMMON..]), data_length: data.len() as u32, is_sound };
+        let HostQueue { session, responses, .. } = &mut self.queue;
+        let outcome = self.transfers.take_capsule(responses, session, &capsule);
+        let entry = capsule.entry.into();
+        match outcome {
+            capsules::Outcome::Breaks(fatal) => return Err(fatal.into()),
+            capsules::Outcome::Refused { sct, sc } => self.answer(target, &entry, Answer::of(Status { sct, sc }))?,
+            capsules::Outcome::Waits(_) => self.request_data(),
+            capsules::Outcome::Ready(capsules::Data::InCapsule(range)) => {
+                self.carry_out(target, &entry, Data::ToController(&data[range]))?;
             }
-            Ok(Pointer::OnRequest(length)) => {
-                // None is refused: its identifier is that of no other, and a queue has at most 64 entries.
-                self.transfers.begin(entry.bytes(), length).map_err(|_| pdu::OUT_OF_SEQUENCE)?;
-                self.request_data();
+            capsules::Outcome::Ready(capsules::Data::FromController(length)) => {
+                self.carry_out(target, &entry, Data::FromController(length))?;
             }
-            Ok(Pointer::InCapsule(range)) => self.carry_out(target, &entry, Data::ToController(&data[range]))?,
-            Ok(Pointer::FromController(length)) => self.carry_out(target, &entry, Data::FromController(length))?,
         }
         Ok(())
-    }
-
-    /// Why a command is not looked at, if it is not.
-    fn refusal(&self, entry: &SubmissionEntry, is_sound: bool, is_conflict: bool) -> Option<Status> {
-        match self.queue.session.last() {
-            Live::NotConnected if !commands::is_connect(entry) => Some(COMMAND_SEQUENCE),
-            Live::Authenticating(_) if !goes_before_proof(entry) => Some(AUTHENTICATION_REQUIRED),
-            _ if !is_sound => Some(TRANSIENT_TRANSPORT),
-            _ if is_conflict => Some(COMMAND_ID_CONFLICT),
-            _ => None,
-        }
     }
 
     /// Asks for data of commands that wait for them.

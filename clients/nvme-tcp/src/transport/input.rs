@@ -38,26 +38,31 @@ pub struct Input {
 
 impl Input {
     /// The bytes.
+    #[inline]
     pub fn waiting(&self) -> &[u8] {
         &self.bytes[self.begin..self.end]
     }
 
     /// Those of the PDU in hand, as far as they were taken.
+    #[inline]
     pub fn unit(&self) -> &[u8] {
         &self.waiting()[..self.in_hand]
     }
 
     /// Those that were not taken yet.
+    #[inline]
     pub fn fresh(&self) -> &[u8] {
         &self.waiting()[self.in_hand..]
     }
 
     /// Number of bytes taken of those that were not.
+    #[inline]
     pub fn taken(&mut self, count: usize) {
         self.in_hand += count;
     }
 
     /// The PDU in hand is done: its bytes are not needed any more.
+    #[inline]
     pub fn drop_unit(&mut self) {
         self.begin += self.in_hand;
         self.in_hand = 0;
@@ -71,6 +76,7 @@ impl Input {
 
     /// Appends what `receive` returns, up to `most` bytes in all. `receive` returns how many bytes it has written to
     /// the front of its slice.
+    #[inline]
     pub fn fill<E>(
         &mut self,
         rooms: &mut Rooms,
@@ -92,6 +98,7 @@ impl Input {
     }
 
     /// Returns the buffer, unless many bytes wait there.
+    #[inline]
     pub fn leave(&mut self, rooms: &mut Rooms) {
         if self.has_room && self.end - self.begin <= FEW {
             let few = self.waiting().to_vec();

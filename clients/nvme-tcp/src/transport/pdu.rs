@@ -19,20 +19,20 @@ pub const IN_CAPSULE: usize = 8192;
 /// The most bytes of any PDU that a host may send: PDO is a byte.
 pub const MOST: usize = 255 + MOST_DATA + DIGEST;
 
-/// A PDU came out of its turn.
-pub const OUT_OF_SEQUENCE: Fatal = Fatal { status: 2, field: 0 };
-
 /// Whether the digest of the header is right, if there is one.
+#[inline]
 pub fn has_right_header(layout: &Layout, unit: &[u8]) -> bool {
     !layout.header_digest || crc32c(&unit[..layout.header]) == u32_at(unit, layout.header)
 }
 
 /// Whether the digest of the data is right, if there is one.
+#[inline]
 pub fn has_right_data(layout: &Layout, unit: &[u8]) -> bool {
     !layout.data_digest || crc32c(data_in(layout, unit)) == u32_at(unit, layout.data_offset + layout.data_length)
 }
 
 /// The data of a PDU.
+#[inline]
 pub fn data_in<'u>(layout: &Layout, unit: &'u [u8]) -> &'u [u8] {
     &unit[layout.data_offset..layout.data_offset + layout.data_length]
 }
@@ -63,6 +63,7 @@ pub fn termination(out: &mut Output, fatal: Fatal, received: &[u8]) {
 }
 
 /// A completion queue entry.
+#[inline]
 pub fn response(out: &mut Output, agreed: Agreed, entry: &[u8; 16]) {
     put_header(out, |header| agreed.response(entry, header));
 }
@@ -73,6 +74,7 @@ pub fn ready_to_transfer(out: &mut Output, agreed: Agreed, cid: u16, tag: u16, l
 }
 
 /// All data of a command in one PDU: the header, and `length` bytes, all of which `fill` writes.
+#[inline]
 pub fn controller_data<E>(
     out: &mut Output,
     agreed: Agreed,

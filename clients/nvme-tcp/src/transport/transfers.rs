@@ -2,8 +2,11 @@
 
 use crate::nvme::ENTRY;
 use crate::transport::pdu::Fatal;
+use nvmesim::capsules::{self, Capsule, Outcome};
+use nvmesim::fabrics::Session;
+use nvmesim::responses::Responses;
 use nvmesim::transfers::{self, Completed, TAGS};
-pub use nvmesim::transfers::{Part, Refused, Request};
+pub use nvmesim::transfers::{Part, Request};
 use nvmesim::OpenError;
 use std::mem;
 
@@ -65,9 +68,9 @@ impl Transfers {
         Ok(Transfers { commands: transfers::Transfers::new()?, rooms: Default::default() })
     }
 
-    /// Takes a command that expects `length` bytes.
-    pub fn begin(&mut self, entry: &[u8; ENTRY], length: usize) -> Result<(), Refused> {
-        self.commands.begin(entry, length as u32)
+    /// Takes a capsule, whose command may wait for its data then.
+    pub fn take_capsule(&mut self, responses: &mut Responses, session: &Session, capsule: &Capsule) -> Outcome {
+        capsules::take(responses, &mut self.commands, session, capsule)
     }
 
     /// The next command to request data for, if a tag is free.
@@ -116,7 +119,7 @@ mod tests {
     /// A command of `length` bytes that was asked for them.
     fn asked(length: usize) -> Transfers {
         let mut transfers = Transfers::new().unwrap();
-        transfers.begin(&[0; ENTRY], length).unwrap();
+        transfers.commands.begin(&[0; ENTRY], length as u32).unwrap();
         assert_eq!(transfers.next_request(), Some(Request { cid: 0, tag: 0, length: length as u32 }));
         transfers
     }
@@ -130,7 +133,7 @@ mod tests {
         assert_eq!((whole.data(&[2; 4]), whole.is_sound()), (&[1, 1, 1, 1, 2, 2, 2, 2][..], true));
         let place = whole.bytes.as_ptr();
         transfers.give_back(whole);
-        transfers.begin(&[0; ENTRY], 6).unwrap();
+        transfers.commands.begin(&[0; ENTRY], 6).unwrap();
         transfers.next_request().unwrap();
         assert!(transfers.take(&part(0, &[3; 5], false), &[3; 5]).unwrap().is_none());
         let whole = transfers.take(&part(5, &[4], true), &[4]).unwrap().unwrap();
@@ -155,6 +158,6 @@ mod tests {
         assert!(transfers.rooms.iter().all(|room| room.bytes.capacity() == 0));
         transfers.end();
         assert_eq!((transfers.commands.count(), transfers.commands.has(0)), (0, false));
-        assert_eq!(transfers.begin(&[0; ENTRY], 8), Err(Refused::Ended));
+        assert_eq!(transfers.commands.begin(&[0; ENTRY], 8), Err(transfers::Refused::Ended));
     }
 }

@@ -51,10 +51,8 @@ impl Content {
             return Err(Refusal::Journal(format!("it is of epoch {newest}, and the superblock of {epoch}")));
         }
         let (current, mut replica) = (current(kept.records.clone()), log::replica(&configuration)?);
-        match replica.follow(&current.events).map_err(|fault| Refusal::Journal(fault.to_string()))? {
-            None => Ok(Content { chosen, configuration, kept, current, replica }),
-            Some(number) => Err(Refusal::Journal(format!("record {number} does not succeed again"))),
-        }
+        replica.follow(&current.events).map_err(Refusal::Journal)?;
+        Ok(Content { chosen, configuration, kept, current, replica })
     }
 
     fn open(path: &Path) -> Result<Content, Refusal> {

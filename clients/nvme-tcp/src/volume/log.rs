@@ -96,11 +96,7 @@ impl VolumeLog {
     /// Executes the commands of records in the replica.
     fn follow(&mut self, records: &[u8]) -> io::Result<()> {
         let events: Vec<Event> = records_of(records, 0)?.0.into_iter().map(|it| it.event).collect();
-        match self.replica.follow(&events) {
-            Ok(None) => Ok(()),
-            Ok(Some(number)) => Err(changed(format!("record {number} of a batch does not succeed again"))),
-            Err(fault) => Err(changed(fault.to_string())),
-        }
+        self.replica.follow(&events).map_err(changed)
     }
 }
 
