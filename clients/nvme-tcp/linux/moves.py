@@ -208,6 +208,12 @@ def machines(built: Path, folder: Path, opens: Callable[[Moves], None] = Moves.o
         raise AssertionError("; ".join(it.faults))
 
 
+def needs_guests(what: str) -> None:
+    """Ends a scene at once if its machines are namespaces."""
+    if NAMESPACES:
+        raise AssertionError(f"a machine in namespaces has no {what}: play this scene with guests")
+
+
 def killed(built: Path, folder: Path) -> None:
     """The machine with the target is killed without a word, and the other takes the volume over."""
     with machines(built, folder) as it:
@@ -258,6 +264,7 @@ def stopped(built: Path, folder: Path) -> None:
 
 def hung(built: Path, folder: Path) -> None:
     """The disk of the machine with the target hangs: no read or write ends."""
+    needs_guests("disk that can hang")
     with machines(built, folder) as it:
         say("the disk of t1 hangs")
         begun = time.monotonic()
@@ -276,6 +283,7 @@ def cut(built: Path, folder: Path) -> None:
 
 def watched(built: Path, folder: Path) -> None:
     """Corosync on the machine with the target hangs, and the power switch fails: the watchdog ends the machine."""
+    needs_guests("watchdog")
     with machines(built, folder) as it:
         it.fencer.kill = lambda name: it.guests[name].is_off(UNSWITCHED)
         say("Corosync on t1 is stopped, and no power switch works")

@@ -76,9 +76,6 @@ class Namespace(Guest):
         """Takes the cable to the other machine out."""
         subprocess.run(["nsenter", "-t", str(self.first), "-n", "ip", "link", "set", "eth1", "down"], check=True)
 
-    def hang(self) -> None:
-        raise AssertionError("the disk of a machine in namespaces can't hang: play this scene with guests")
-
     def end(self) -> None:
         """Ends all processes at once. Returns after their end."""
         with self.ending:

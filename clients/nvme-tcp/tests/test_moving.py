@@ -60,6 +60,8 @@ class Settings(unittest.TestCase):
         self.assertIn(f"token: {TOKEN}\n", text)
         self.assertNotRegex(text, r": (TOKEN|CONSENSUS)")
         self.assertEqual(text.count("--script"), 2)
+        # Else Pacemaker does one action at a time on a busy machine.
+        self.assertEqual(text.count("property load-threshold="), 2)
 
 
 class Power(unittest.TestCase):

@@ -6,6 +6,7 @@ import subprocess
 import time
 import unittest
 from pathlib import Path
+from typing import Set
 
 from tests.targets import PROGRAM
 from tests.volumes import VolumeTest
@@ -13,6 +14,11 @@ from tests.volumes import VolumeTest
 AGENT = Path(__file__).resolve().parent.parent / "ocf/nvmetcp"
 OCF = Path("/usr/lib/ocf")
 NO_ERROR, GENERIC, NOT_INSTALLED, NOT_CONFIGURED, NOT_RUNNING = 0, 1, 5, 6, 7
+# Takes the place of each program: it notes the name, and runs that program.
+NOTES = """#!/bin/sh
+echo "${0##*/}" >>"${0%/*}/../started"
+PATH=${PATH#*:} exec "${0##*/}" "$@"
+"""
 
 
 @unittest.skipUnless((OCF / "lib/heartbeat/ocf-shellfuncs").exists() and os.geteuid() == 0, "it needs Debian's package")
@@ -52,6 +58,45 @@ class Agent(VolumeTest):
         self.volume.write_bytes(self.volume.read_bytes()[:-1024 * 1024])
         self.settings["options"] = "--listen 127.0.0.1:0"
         self.assertEqual([self.act("start"), self.act("monitor")], [NOT_INSTALLED, NOT_RUNNING])
+
+    def started_by(self, action: str) -> Set[str]:
+        """The programs that the agent starts for an action, from the folders of PATH."""
+        folder, started, before = self.room / "noted", self.room / "started", os.environ["PATH"]
+        if not folder.exists():
+            folder.mkdir()
+            (self.room / "notes").write_text(NOTES)
+            (self.room / "notes").chmod(0o755)
+            for name in {it.name for place in before.split(":") for it in Path(place).glob("*")}:
+                (folder / name).symlink_to(self.room / "notes")
+        started.write_text("")
+        os.environ["PATH"] = f"{folder}:{before}"
+        try:
+            self.act(action)
+        finally:
+            os.environ["PATH"] = before
+        return set(started.read_text().split())
+
+    def test_programs(self) -> None:
+        """Hosts wait while the agent acts, and a busy machine takes long to start a program: it starts few."""
+        self.format()
+        shell = self.started_by("usage")
+        self.assertLessEqual(self.started_by("start") - shell, {"mkdir", "setsid", "timeout", "sleep", "readlink"})
+        self.assertEqual(self.started_by("monitor") - shell, {"timeout"})
+        self.assertEqual(self.started_by("stop") - shell - {"sleep"}, {"seq", "rm"})
+
+    def test_a_program_that_was_replaced(self) -> None:
+        """The agent knows its target after an update of the program, and another program is none."""
+        self.format()
+        program = self.room / "nvmetcp"
+        shutil.copy(PROGRAM, program)
+        self.settings["program"] = str(program)
+        self.assertEqual(self.act("start"), NO_ERROR)
+        program.unlink()
+        shutil.copy(PROGRAM, program)
+        self.assertEqual([self.act("monitor"), self.act("stop"), self.act("monitor")],
+                         [NO_ERROR, NO_ERROR, NOT_RUNNING])
+        (self.rundir / "pid").write_text(f"{os.getpid()}\n")
+        self.assertEqual([self.act("monitor"), self.act("stop")], [NOT_RUNNING, NO_ERROR])
 
     @unittest.skipUnless(shutil.which("cc"), "there is no cc")
     def test_a_thread_that_is_left(self) -> None:
