@@ -131,8 +131,8 @@ class Simulate(unittest.TestCase):
         self.assertEqual(ran.returncode, 0, ran.stdout)
         reached = re.search(r"^\d+ of \d+ lines, ([\d.]+) percent; .* ([\d.]+) percent of all", ran.stdout, re.M)
         self.assertIsNotNone(reached, ran.stdout)
-        self.assertGreaterEqual(float(reached[1]), 99, ran.stdout)
-        self.assertGreaterEqual(float(reached[2]), 97.5, ran.stdout)
+        self.assertGreaterEqual(float(reached[1]), 99.4, ran.stdout)
+        self.assertGreaterEqual(float(reached[2]), 99, ran.stdout)
 
     def test_many_seeds(self) -> None:
         self.run_many(1)

@@ -14,7 +14,7 @@ HERE = Path(__file__).resolve().parent.parent
 UNSAFE = sorted([HERE.parent / "rust/src/raw.rs",
                  *(HERE / f"simulator/src/{it}.rs" for it in ("fiber", "heap", "libcrypto")),
                  *(HERE / f"src/{it}.rs" for it in ("authentication/libcrypto", "digest/processor", "memory", "system"))])
-MOST_LINES = 322
+MOST_LINES = 328
 
 
 class Sources(unittest.TestCase):

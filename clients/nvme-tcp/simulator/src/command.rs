@@ -19,6 +19,7 @@ Runs the NVMe/TCP target in a simulated world, in which the seed decides everyth
 With --seed it runs that one; else the seeds from --first on, 1 by default: --seeds of them, or for --for, 60s by
 default: 30s, 10m, 1h.
   --jobs N         run seeds in N processes, by default one per processor
+  --dask ADDRESS   run --seeds COUNT on the Dask cluster of this scheduler, such as tcp://host:8786
   --commands M     commands that hosts send in a seed, by default 2000
   --without KIND   leave out a kind of trouble: KINDS
   --paths N, --depth N, --longest N
@@ -32,7 +33,8 @@ default: 30s, 10m, 1h.
   --coverage FOLDER
                    build with counters, and write there which lines of the target the seeds of --for reached
 A violation is printed with what the checker knows, and after it the smallest run that fails the same way.
-Exit status: 0 no violation; 1 a violation, which is printed with its seed; 3 bad command line; 70 not built.
+Exit status: 0 no violation; 1 a violation, which is printed with its seed; 3 bad command line; 70 not built, or seeds
+that a cluster has not run.
 ";
 
 /// A run, as one command line describes it.

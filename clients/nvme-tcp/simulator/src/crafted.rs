@@ -72,6 +72,9 @@ pub fn expand_events(act: Act) {
     if (count(&lines), count(&gave)) != (4 + 8, 8) {
         complain(format!("a recording of 8 events has {} lines, and gave {}", count(&lines), count(&gave)));
     }
+    expect(act, &["expand", "/run/events"], 0);
+    expect(act, &["expand", "/run/events", "/run/events", "--force"], FAILED);
+    expand_broken(act, events.concat().len());
     let wrong: [(u32, &[u8]); 5] = [(1, &[9, 1, 0]), (1, &[1, 1, 0]), (2, &[8]), (1, &[8, 8]), (0, &[])];
     for (count, bytes) in wrong {
         put("/run/events", Kind::File, &recording(count, bytes));
@@ -82,6 +85,17 @@ pub fn expand_events(act: Act) {
     headless.extend(frame(20, 1, &[8]));
     put("/run/events", Kind::File, &headless);
     expect(act, &["expand", "/run/events", "/run/events.nvme", "--force"], REFUSED);
+}
+
+/// The recording, cut in its last frame, with the head of that and without; and damaged in the first frame.
+fn expand_broken(act: Act, last: usize) {
+    let whole = content("/run/events");
+    let mut damaged = whole.clone();
+    damaged[60] ^= 1;
+    for bytes in [&whole[..whole.len() - 1], &whole[..whole.len() - last - 1], &damaged] {
+        put("/run/broken", Kind::File, bytes);
+        expect(act, &["expand", "/run/broken", "/run/events.nvme", "--force"], REFUSED);
+    }
 }
 
 /// A volume whose superblocks were changed, with digests that are right.

@@ -143,6 +143,11 @@ fn check_places(act: Act, volume: &[u8]) {
         patch("/crafted", place, &batches[2]);
         check_volume(act, &format!("its last batch at {place}"), REFUSED);
     }
+    // A longer batch that power loss has torn.
+    let longer = batch(NUMBER, 3, &of_kind(CYCLE, &[]).repeat(300));
+    write(volume, &State::good(), &batches[..2]);
+    patch("/crafted", newest + (FIRST + 2) * PAGE, &longer[..PAGE]);
+    check_volume(act, "a torn batch", 0);
     // A batch that is damaged, with another after it.
     write(volume, &State::good(), &batches);
     patch("/crafted", newest + (FIRST + 1) * PAGE + 40, &[0xff]);

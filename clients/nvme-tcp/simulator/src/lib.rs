@@ -24,6 +24,7 @@ mod journals;
 mod keyfiles;
 #[allow(unsafe_code)]
 mod libcrypto;
+mod meddling;
 mod page;
 mod processor;
 mod replay;

@@ -88,8 +88,11 @@ extern "C" fn fill(bytes: *mut u8, count: c_int) -> c_int {
     let bytes = unsafe { std::slice::from_raw_parts_mut(bytes, count) };
     let fails = with(|it| {
         bytes.iter_mut().for_each(|byte| *byte = it.random.next() as u8);
-        let fails = it.chances.failed_random;
-        it.happens("failed random", fails)
+        let once_in = it.chances.failed_random;
+        let fails = it.happens("failed random", once_in);
+        let failure = (it.process(), it.now);
+        it.failed_numbers.extend(fails.then_some(failure));
+        fails
     });
     c_int::from(!fails)
 }

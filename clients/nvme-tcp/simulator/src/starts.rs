@@ -4,6 +4,7 @@
 use crate::ending::has_ended;
 use crate::hosts::checker::check;
 use crate::journals::record;
+use crate::meddling;
 use crate::supervisor::{words, Act, CONFIG};
 use crate::tools::{complain, content, expect, patch, put, run, FAILED, REFUSED};
 use crate::world::disk::Kind;
@@ -12,7 +13,7 @@ use std::path::Path;
 
 /// How long a target may take to serve, and to notice what has changed.
 const LONGEST: u64 = 60 * SECOND;
-const ADDRESS: &str = "127.0.0.1:7777";
+pub const ADDRESS: &str = "127.0.0.1:7777";
 /// The head of a record of the journal.
 const HEAD: usize = 12;
 
@@ -78,7 +79,7 @@ impl Started {
     }
 
     /// It ends by itself with status 2, since something has changed.
-    fn notices(self, what: &str) {
+    pub fn notices(self, what: &str) {
         let list = self.list.clone();
         let (status, said) = self.wait();
         if status != FAILED {
@@ -102,7 +103,7 @@ fn serve(act: Act, list: &[&str]) -> String {
 pub fn use_all(act: Act, blocks: usize) {
     // The size of an image, in whole pages.
     let size = (512 * blocks + 4095) / 4096 * 4096;
-    for step in [use_places, use_images, damage_state, change_files, change_volume] {
+    for step in [use_places, use_images, damage_state, change_files, change_volume, meddling::use_all] {
         if check(|it| it.violations.is_empty()) {
             step(act, size);
         }

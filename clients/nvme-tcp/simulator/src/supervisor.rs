@@ -78,6 +78,11 @@ fn recording_of(script: &str) -> String {
     format!("{script}.recording")
 }
 
+/// Whether a target refuses the journal of a volume, or that of the state folder.
+fn names_journal(text: &str) -> bool {
+    text.contains("its journal") || text.contains("/state")
+}
+
 /// The injected faults that may end a target.
 fn faults(world: &World) -> u64 {
     let kinds = ["failed read", "unreadable", "failed write", "failed sync", "failed output"];
@@ -199,7 +204,6 @@ impl Supervisor {
         let serves = with(|it| it.processes[process].served.is_some());
         check(|it| it.has_lost_reservations(loss, serves));
         if serves && self.scenario.is_volume {
-            with(|it| it.disks.misdirection.misdirected = None);
             self.judge_epoch();
         }
         if self.running.len() == 1 {
@@ -275,7 +279,7 @@ impl Supervisor {
                 check(|check| check.sync());
                 self.replay(it, true)
             }
-            Err((REFUSED, text)) if text.contains("its journal") && with(|it| it.disks.put_back()) => {
+            Err((1..=2, text)) if names_journal(text) && with(|it| it.disks.put_back()) => {
                 with(|it| *it.injected.entry("misdirection noticed").or_default() += 1);
             }
             Err((REFUSED, text)) if text.contains(KEYS) && check(|check| check.keys.was_spoiled(it.begun)) => (),

@@ -270,20 +270,26 @@ fn use_volumes(act: Act) {
     put("/dev/dirty", Kind::BlockDevice, &vec![0; size]);
     patch("/dev/dirty", size / 2, &[7]);
     expect(act, &["format", "/dev/dirty", "--config", CONFIG], REFUSED);
-    // A sector of it can't be read.
-    let served = with(|it| {
-        let inode = it.disks.find(Path::new("/dev/dirty")).unwrap_or(0);
-        it.disks.unreadable = BTreeSet::from([100]);
-        it.disks.served.replace((inode, 0))
+    with_unreadable("/dev/dirty", 100, || {
+        expect(act, &["format", "/dev/dirty", "--config", CONFIG], FAILED);
     });
-    expect(act, &["format", "/dev/dirty", "--config", CONFIG], FAILED);
-    with(|it| (it.disks.served, it.disks.unreadable) = (served, BTreeSet::new()));
     expect(act, &["copy", "/volume", "/dev/dirty", "--force"], 0);
     expect(act, &["check", "/dev/dirty"], 0);
     let dumped = expect(act, &["dump", "/copy"], 0);
     if dumped != expect(act, &["dump", "/volume"], 0) {
         complain(format!("a copy of a volume has another dump: {dumped}"));
     }
+}
+
+/// Does something while a sector of a file can't be read.
+fn with_unreadable(path: &str, sector: usize, act: impl FnOnce()) {
+    let served = with(|it| {
+        let inode = it.disks.find(Path::new(path)).unwrap_or(0);
+        it.disks.unreadable = BTreeSet::from([sector]);
+        it.disks.served.replace((inode, 0))
+    });
+    act();
+    with(|it| (it.disks.served, it.disks.unreadable) = (served, BTreeSet::new()));
 }
 
 /// Bytes at a place.
@@ -341,6 +347,10 @@ fn expand_wrong(act: Act) {
     put("/run/newer", Kind::File, &[&head[..], b"2\n"].concat());
     put("/run/strange", Kind::File, &[&head[..], b"-1\n"].concat());
     put("/run/short", Kind::File, &[&head[..], b"1\n"].concat());
+    put("/dev/recording", Kind::BlockDevice, &[&head[..], b"1\n", &[0; 1024]].concat());
+    with_unreadable("/dev/recording", 1, || {
+        expect(act, &["expand", "/dev/recording"], FAILED);
+    });
     let lines: [(&[&str], u8); 9] = [
         (&["expand"], BAD),
         (&["expand", "--bogus", "/run/newer"], BAD),

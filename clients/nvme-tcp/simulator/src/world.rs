@@ -1,6 +1,7 @@
 //! The state of the simulated world, and its scheduler: which fiber continues, and when time passes.
 
 pub mod disk;
+pub mod meddler;
 pub mod misdirection;
 pub mod network;
 pub mod tap;
@@ -68,6 +69,8 @@ pub type Outcome = Result<(), (u8, String)>;
 /// A simulated process.
 pub struct Process {
     pub machine: usize,
+    /// It serves what the others of its kind serve, and is no tool.
+    pub is_target: bool,
     pub is_alive: bool,
     /// It was stopped, as by SIGSTOP.
     pub stopped_until: u64,
@@ -130,6 +133,8 @@ pub struct World {
     current: usize,
     /// Injected faults by their names, with how often each happened.
     pub injected: BTreeMap<&'static str, u64>,
+    /// The processes and times at which libcrypto had no random number, each until a host has been refused by it.
+    pub failed_numbers: Vec<(usize, u64)>,
 }
 
 /// The events of a run: their digest, and their lines if somebody reads them.
@@ -207,6 +212,7 @@ pub fn begin(seed: u64, chances: Chances, is_logged: bool) {
         threads: Vec::new(),
         current: usize::MAX,
         injected: BTreeMap::new(),
+        failed_numbers: Vec::new(),
     };
     processor::begin(seed % 4 != 0);
     WORLD.with(|it| *it.borrow_mut() = Some(world));
@@ -216,6 +222,7 @@ impl Process {
     fn new(machine: usize) -> Process {
         Process {
             machine,
+            is_target: false,
             is_alive: true,
             stopped_until: 0,
             stops_in_write: None,
@@ -404,7 +411,7 @@ pub fn step() -> bool {
 pub fn start_process(machine: usize, name: &str, work: impl FnOnce() -> Outcome + 'static) -> usize {
     with(|world| {
         world.boots.entry(machine).or_insert(1);
-        world.processes.push(Process::new(machine));
+        world.processes.push(Process { is_target: name == "target", ..Process::new(machine) });
         let process = world.processes.len() - 1;
         let name = format!("{name} {process}");
         let now = world.now;

@@ -126,11 +126,23 @@ impl Stranger<'_> {
 
     /// Judges the explanation of Failure1. The target may have other keys by now, and then no secret is right.
     fn judge(&mut self, given: Option<u8>, wanted: u8) -> Result<(), Lost> {
-        let may_fail = check(|it| it.keys.may_fail(self.path.host, self.begun));
         match given {
-            Some(given) if given == wanted || may_fail && given == FAILED => self.end(),
+            Some(given) if given == wanted || given == FAILED && self.may_fail() => self.end(),
             _ => broken(format!("Failure1 has explanation {given:?}, not {wanted}")),
         }
+    }
+
+    /// Judges the explanation of a Failure1 after a message that is right: there must be a reason.
+    fn judge_refusal(&mut self, given: u8) -> Result<(), Lost> {
+        if given == FAILED && self.may_fail() {
+            return self.end();
+        }
+        broken(format!("a message that is right is answered by Failure1 with explanation {given}"))
+    }
+
+    /// Whether the target may refuse to continue: it had no random number for this queue, or has other keys.
+    fn may_fail(&self) -> bool {
+        self.queue.lacks_number || check(|it| it.keys.has_changed(self.path.host, self.begun))
     }
 
     /// The connection ends, and nothing more is executed.
@@ -150,7 +162,7 @@ impl Stranger<'_> {
     fn reply(&mut self, peers: &Peers, own: Option<&[u8]>) -> Result<Option<Reply>, Lost> {
         match self.queue.negotiate(peers)? {
             Ok(challenge) => Ok(Some(Reply::to(&challenge, peers, own))),
-            Err(given) => self.judge(Some(given), FAILED).map(|()| None),
+            Err(given) => self.judge_refusal(given).map(|()| None),
         }
     }
 
@@ -293,18 +305,23 @@ impl Stranger<'_> {
     /// A challenge that does not fit in the host's room is still there.
     fn ask_for_less(&mut self) -> Result<(), Lost> {
         let Choice { hash, group } = self.peers.choice;
+        let begun = now();
         self.queue.tell(&negotiate(9, &[hash], &[group]))?;
         let status = self.queue.call(&receive_command(one_of(&[4, 44])))?.status;
         // Instead of a challenge there may be Failure1, which is short.
-        if status == SUCCESS && check(|it| it.keys.may_fail(self.path.host, self.begun)) {
-            return self.end();
+        if status == SUCCESS {
+            self.queue.look_for_failed_number(begun);
+            return self.judge_refusal(FAILED);
         }
         if status != INVALID_FIELD {
             return broken(format!("a challenge that does not fit has status {status:x}"));
         }
         match self.queue.ask()? {
             Ok(_) => self.have_no_reply(),
-            Err(given) => self.judge(Some(given), FAILED),
+            Err(given) => {
+                self.queue.look_for_failed_number(begun);
+                self.judge_refusal(given)
+            }
         }
     }
 
@@ -347,7 +364,7 @@ impl Stranger<'_> {
         }
         self.queue = queue;
         match self.queue.negotiate(&peers)? {
-            Err(given) => self.judge(Some(given), FAILED),
+            Err(given) => self.judge_refusal(given),
             Ok(challenge) => {
                 let own = Reply::to(&challenge, &peers, None).message;
                 message[4..6].copy_from_slice(&own[4..6]);
@@ -409,7 +426,7 @@ impl Stranger<'_> {
         let peers = self.peers.clone();
         let challenge = match self.queue.negotiate(&peers)? {
             Ok(challenge) => challenge,
-            Err(given) => return self.judge(Some(given), FAILED),
+            Err(given) => return self.judge_refusal(given),
         };
         let reply = Reply::to(&challenge, &peers, Some(&challenge.value));
         self.fail(&reply.message, FAILED)
@@ -428,7 +445,7 @@ impl Stranger<'_> {
         self.queue.tell(&reply.message)?;
         match self.queue.ask()? {
             Ok(message) => reply.judge(&message).map_err(Lost::Broken)?,
-            Err(given) => return self.judge(Some(given), FAILED),
+            Err(given) => return self.judge_refusal(given),
         };
         let transaction = u16::from_le_bytes([reply.message[4], reply.message[5]]) ^ 1;
         self.fail(&success2(transaction), PAYLOAD)

@@ -93,12 +93,6 @@ impl KeyRing {
         self.write();
     }
 
-    /// Whether a host may not be believed that says the truth: libcrypto fails, or targets have had another line of it at
-    /// a time or since.
-    pub fn may_fail(&self, host: usize, since: u64) -> bool {
-        with(|it| it.chances.failed_random != 0) || self.has_changed(host, since)
-    }
-
     /// Whether targets may have had another line of a host at a time or since.
     pub fn has_changed(&self, host: usize, since: u64) -> bool {
         let changed = self.lines.get(host).and_then(|it| it.changed);

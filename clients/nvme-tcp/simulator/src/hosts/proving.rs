@@ -65,11 +65,14 @@ impl Queue {
 
     /// Negotiates: the challenge.
     pub fn negotiate(&mut self, peers: &Peers) -> Result<Result<Challenge, u8>, Lost> {
-        let transaction = with(|it| it.random.next() as u16);
+        let (begun, transaction) = with(|it| (it.now, it.random.next() as u16));
         self.tell(&negotiate(transaction, &[1, 2, 3], &[0, 1, 2, 3, 4, 5]))?;
         let message = match self.ask()? {
             Ok(message) => message,
-            Err(explanation) => return Ok(Err(explanation)),
+            Err(explanation) => {
+                self.look_for_failed_number(begun);
+                return Ok(Err(explanation));
+            }
         };
         Challenge::read(&message, transaction, peers.choice).map(Ok).map_err(Lost::Broken)
     }
@@ -127,19 +130,15 @@ impl Session<'_> {
         };
         let peers = self.path.peers(choice);
         let is_admin = one_of(&[true, false]);
-        let proof = if is_admin { self.admin.prove(&peers)? } else { self.io.prove(&peers)? };
+        let queue = if is_admin { &mut self.admin } else { &mut self.io };
+        let (proof, lacks_number) = (queue.prove(&peers)?, queue.lacks_number);
         if proof == Proof::Done {
             return Ok(());
         }
-        self.judge_proof(proof)?;
-        Err(Lost::Ended)
-    }
-
-    /// The target does not believe the host: there must be a reason.
-    pub fn judge_proof(&mut self, proof: Proof) -> Result<(), Lost> {
-        if check(|it| it.keys.may_fail(self.path.host, self.begun)) {
+        // The target does not believe the host: there must be a reason.
+        if lacks_number || check(|it| it.keys.has_changed(self.path.host, self.begun)) {
             self.may_end = true;
-            return Ok(());
+            return Err(Lost::Ended);
         }
         // The association is there as long as this is answered.
         self.admin.call(&Command { opcode: KEEP_ALIVE, ..Command::default() })?;

@@ -4,6 +4,7 @@ use super::pdu::{
     self, data_of, pdu, u16_at, u32_at, Digests, CAPSULE, CONTROLLER_DATA, HOST_DATA, IC_REQUEST, IC_RESPONSE, LAST,
     READY_TO_TRANSFER, RESPONSE, TERMINATION,
 };
+use super::process_at;
 use crate::shadow::net::TcpStream;
 use crate::world::{self, with, Key, SECOND};
 use std::collections::{BTreeMap, BTreeSet};
@@ -101,6 +102,9 @@ pub struct Queue {
     pub terminated: Option<u16>,
     /// Whether completions have SQHD: there is flow control of the submission queue.
     pub has_flow: bool,
+    /// The target, and whether it had no random number for the last authentication.
+    process: usize,
+    pub lacks_number: bool,
 }
 
 /// H2CData.
@@ -160,7 +164,19 @@ impl Queue {
             events: Vec::new(),
             terminated: None,
             has_flow: true,
+            process: process_at(address),
+            lacks_number: false,
         })
+    }
+
+    /// The target has refused to begin an authentication that was asked for at a time: it may have had no random number
+    /// since. Each that it lacked excuses one queue.
+    pub fn look_for_failed_number(&mut self, begun: u64) {
+        let process = self.process;
+        self.lacks_number = with(|it| {
+            let found = it.failed_numbers.iter().position(|(by, at)| *by == process && *at >= begun);
+            found.map(|at| it.failed_numbers.remove(at)).is_some()
+        });
     }
 
     pub fn name(&self) -> i32 {

@@ -88,7 +88,7 @@ impl Session<'_> {
         self.may_end = may_end;
         let (io, status) = self.open_queue(1)?;
         if status != 0 {
-            return self.refuse(status, "Disconnect");
+            return self.refuse(&io, status, "Disconnect");
         }
         let _old = self.replace(io);
         self.rest(MILLISECOND * below(20) as u64)
@@ -107,7 +107,7 @@ impl Session<'_> {
             // The association is there as long as this is answered.
             self.admin.call(&Command { opcode: KEEP_ALIVE, ..Command::default() })?;
             if now() > begun + REFUSALS {
-                return self.refuse(status, "the end of its connection");
+                return self.refuse(&io, status, "the end of its connection");
             }
             // A target that can't send notices no end.
             self.io.skip();
@@ -127,7 +127,7 @@ impl Session<'_> {
         }
         let (io, status) = self.open_queue(1)?;
         if status != 0 {
-            return self.refuse(status, "a reset of its controller");
+            return self.refuse(&io, status, "a reset of its controller");
         }
         drop(self.replace(io));
         Ok(())
@@ -181,11 +181,12 @@ impl Session<'_> {
         }
     }
 
-    /// An I/O queue is refused: that has a reason if the association has ended meanwhile.
-    fn refuse(&mut self, status: u16, after: &str) -> Result<(), Lost> {
+    /// An I/O queue is refused: that has a reason if the association has ended meanwhile, if the target had no random
+    /// number for this queue, or if it had other keys.
+    fn refuse(&mut self, io: &Queue, status: u16, after: &str) -> Result<(), Lost> {
         self.rest(SECOND / 2)?;
         self.admin.call(&Command { opcode: KEEP_ALIVE, ..Command::default() })?;
-        let may_fail = check(|it| it.keys.may_fail(self.path.host, self.begun));
+        let may_fail = io.lacks_number || check(|it| it.keys.has_changed(self.path.host, self.begun));
         self.may_end |= may_fail;
         if may_fail || was_stopped(self.process, self.begun) {
             return Err(Lost::Ended);

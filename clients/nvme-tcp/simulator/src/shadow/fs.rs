@@ -4,6 +4,7 @@ use super::calls::{Call, CACHED, MEDIUM, SYNC};
 pub use super::metadata::{metadata, FileType, Metadata, Permissions};
 use crate::hosts::checker::check;
 use crate::world::disk::{Kind, SECTOR};
+use crate::world::meddler::Moment;
 use crate::world::misdirection::Strayed;
 use crate::world::{self, with, World};
 use ::std::io::{self, ErrorKind, Read, Seek, SeekFrom, Write};
@@ -104,6 +105,9 @@ impl Open {
                 room.iter_mut().for_each(|it| *it = world.random.next() as u8);
                 return Ok(room.len());
             }
+            if place == 0 {
+                world.disks.meddle(Moment::Read, self.inode);
+            }
             let length = world.disks.inodes[self.inode].data.len();
             let place = length.min(place as usize);
             let mut count = room.len().min(length - place);
@@ -145,6 +149,19 @@ impl Open {
         written
     }
 
+    /// Whether the disk writes a batch over others of the journal, instead of after them.
+    fn misplaces(&self, bytes: &[u8], place: usize) -> bool {
+        with(|world| {
+            let World { disks, random, injected, .. } = world;
+            let is_misplaced = disks.misplace_append(self.inode, place, bytes, random);
+            if is_misplaced {
+                *injected.entry("misdirected append").or_default() += 1;
+                world.note(&format!("the disk writes {} bytes over others that belong at {place}", bytes.len()));
+            }
+            is_misplaced
+        })
+    }
+
     fn write_at(&self, bytes: &[u8], place: u64) -> io::Result<usize> {
         let is_medium = self.is_medium();
         let _call = Call::begin(if is_medium { &MEDIUM } else { &CACHED });
@@ -162,6 +179,9 @@ impl Open {
             let is_short = is_stopped || bytes.len() > PAGE && world.happens("short write", short);
             Ok(if is_short { PAGE * (1 + world.random.index(bytes.len() / PAGE)) } else { bytes.len() })
         })?;
+        if count == bytes.len() && self.misplaces(bytes, place as usize) {
+            return Ok(count);
+        }
         // The kernel copies page by page, and notices a kill in between.
         let place = self.place_of(&bytes[..count], place as usize);
         let (mut at, end) = (place, place + count);
@@ -401,6 +421,7 @@ impl OpenOptions {
             if self.truncate {
                 world.disks.inodes[inode].set_length(0);
             }
+            world.disks.meddle(Moment::Opened, inode);
             let (is_direct, appends) = (self.flags & DIRECT != 0, self.append);
             let place = AtomicU64::new(0);
             Ok(File(Arc::new(Shared(Open { inode, number: world.disks.open(), by, is_direct, appends, place, text }))))

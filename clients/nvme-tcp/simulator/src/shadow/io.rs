@@ -25,6 +25,10 @@ impl Write for Said {
             }
             if !self.is_error && world.processes[process].served.is_none() {
                 world.processes[process].served = Some(world.disks.blocks().to_vec());
+                // It has judged what was there, and what goes wrong from now on is for the next one.
+                if world.processes[process].is_target {
+                    world.disks.misdirection.misdirected = None;
+                }
             }
         });
         Ok(bytes.len())

@@ -65,7 +65,7 @@ impl Supervisor {
             "hold" => self.hold(at),
             // A target that keeps its run ends at a read that fails.
             "disk" if !self.scenario.keeps_run && with(|it| it.random.once_in(2)) => self.lose_or_misdirect_blocks(),
-            "disk" if self.scenario.is_volume && self.running.len() == 1 => self.misdirect(at),
+            "disk" if self.running.len() == 1 => self.misdirect(at),
             _ => (),
         }
     }
@@ -81,8 +81,8 @@ impl Supervisor {
         with(|it| it.disks.misdirection.next = Some(next));
     }
 
-    /// A write to the journal of a volume goes to a wrong place of it, and the target is killed soon. The next one either
-    /// has all that was promised, or refuses the volume, which an operator puts back then.
+    /// A write to a journal goes to a wrong place of it, and the target is killed soon. The next one either has all that
+    /// was promised, or refuses the volume or the state folder, which an operator puts back then.
     fn misdirect(&mut self, at: usize) {
         if with(|it| it.disks.misdirection.misdirected.is_some()) {
             return;

@@ -1,5 +1,6 @@
 //! Files and block devices: what processes see, and what is left after a power cut.
 
+use super::meddler::Meddler;
 use super::misdirection::Misdirection;
 use super::World;
 use crate::chance::Random;
@@ -166,6 +167,8 @@ pub struct Disks {
     /// Sectors of what is served that can't be read until they are written.
     pub unreadable: BTreeSet<usize>,
     pub misdirection: Misdirection,
+    /// Another program, if there is one.
+    pub meddler: Option<Meddler>,
 }
 
 impl Disks {
@@ -181,6 +184,7 @@ impl Disks {
             lacks_holes: false,
             unreadable: BTreeSet::new(),
             misdirection: Misdirection::default(),
+            meddler: None,
         };
         for folder in ["/", "/run", "/dev", "/etc", "/state", "."] {
             disks.create(Path::new(folder), Kind::Folder);

@@ -8,6 +8,8 @@ use std::ops::Range;
 const STATE: Range<usize> = 0..1152 << 10;
 const JOURNAL: Range<usize> = 128 << 10..1152 << 10;
 const PAGE: usize = 4096;
+/// What a batch of a state folder's journal begins with: its length, and two digests.
+const RECORD_HEAD: usize = 12;
 /// What a batch of a volume's journal begins with, and the places of its length, and of the numbers of its segment and
 /// of itself.
 const MAGIC: &[u8] = b"nvmetcpj";
@@ -21,9 +23,10 @@ const MOST_PAGES: usize = 32;
 /// Which call goes to a wrong place.
 #[derive(Clone, Copy, Debug, PartialEq, Eq)]
 pub enum Stray {
-    /// The next write to the journal of a volume, to another place of it.
+    /// The next write to the journal of a volume or a state folder, to another place of it.
     Journal,
-    /// The next write to the superblock or the journal of a volume, to another place of these.
+    /// The next write to the superblock or the journal of a volume, or to the journal of a state folder, to another place
+    /// of these.
     State,
     /// The next write or read of blocks, to other blocks; or a write of a volume, to its superblock or journal.
     WrittenBlocks,
@@ -32,14 +35,19 @@ pub enum Stray {
     ReadState(usize),
 }
 
-/// A write that went to a wrong place, and what was at both places before.
+/// A write of a file that went to a wrong place.
 #[derive(Debug)]
 pub struct Misdirected {
-    right: usize,
-    wrong: usize,
-    bytes: Vec<u8>,
-    kept: Vec<u8>,
-    replaced: Vec<u8>,
+    inode: usize,
+    wrongs: Vec<Wrong>,
+}
+
+/// What is at a place since, and what should be there.
+#[derive(Debug)]
+struct Wrong {
+    place: usize,
+    found: Vec<u8>,
+    right: Vec<u8>,
 }
 
 /// Blocks that a disk has read from, written to, or not written to the right place: the bytes that they may have
@@ -136,8 +144,12 @@ impl Disks {
         }
         if is_state || self.is_volume() && wrong < self.first() {
             let data = &self.inodes[inode].data;
-            let (kept, replaced) = (data[right..right + bytes.len()].to_vec(), data[place].to_vec());
-            self.misdirection.misdirected = Some(Misdirected { right, wrong, bytes: bytes.to_vec(), kept, replaced });
+            let mut wrongs = vec![Wrong { place: wrong, found: bytes.to_vec(), right: data[place].to_vec() }];
+            if right < self.first() {
+                let found = data[right..right + bytes.len()].to_vec();
+                wrongs.push(Wrong { place: right, found, right: bytes.to_vec() });
+            }
+            self.misdirection.misdirected = Some(Misdirected { inode, wrongs });
         } else {
             strayed.push(Strayed { block: (wrong - self.first()) / SECTOR, bytes: bytes.to_vec() });
         }
@@ -147,21 +159,49 @@ impl Disks {
     /// An operator undoes a misdirected write, as far as nothing was written there since, and syncs that; whether there
     /// was one. Blocks that are missing stay so.
     pub fn put_back(&mut self) -> bool {
-        match (self.misdirection.misdirected.take(), self.served) {
-            (Some(it), Some((inode, first))) => {
-                let is_there = |data: &[u8], at: usize, bytes: &[u8]| data[at..at + bytes.len()] == *bytes;
-                if is_there(&self.inodes[inode].data, it.wrong, &it.bytes) {
-                    self.inodes[inode].write(it.wrong, &it.replaced);
-                }
-                if it.right < first && is_there(&self.inodes[inode].data, it.right, &it.kept) {
-                    self.inodes[inode].write(it.right, &it.bytes);
-                }
-                let until = self.inodes[inode].written();
-                self.inodes[inode].sync(until);
-                true
+        let Misdirected { inode, wrongs } = match self.misdirection.misdirected.take() {
+            Some(it) => it,
+            None => return false,
+        };
+        let file = &mut self.inodes[inode];
+        for Wrong { place, found, right } in wrongs {
+            if file.data.get(place..place + found.len()) == Some(&found) {
+                file.write(place, &right);
             }
-            _ => false,
         }
+        file.sync(file.written());
+        true
+    }
+
+    /// The disk writes the sectors of a batch that is appended to the journal of a state folder over others of it; whether
+    /// it does. The file is longer then by what it had there before: nothing. A disk has no place for a part of a batch.
+    pub fn misplace_append(&mut self, inode: usize, right: usize, bytes: &[u8], random: &mut Random) -> bool {
+        let is_next = matches!(self.misdirection.next, Some(Stray::Journal | Stray::State));
+        let is_batch = bytes.len() > RECORD_HEAD && number_at(bytes, 0) as u32 as usize == bytes.len() - RECORD_HEAD;
+        if !is_next || !is_batch || !self.is_of_folder(inode) || right != self.inodes[inode].data.len() {
+            return false;
+        }
+        let begin = right / SECTOR * SECTOR;
+        let wrong = SECTOR * random.index(begin / SECTOR + 1);
+        if wrong == begin {
+            return false;
+        }
+        let (file, nothing) = (&mut self.inodes[inode], vec![0; bytes.len()]);
+        let moved = [&file.data[begin..], bytes].concat();
+        file.write(right, &nothing);
+        let before = file.data[wrong..wrong + moved.len()].to_vec();
+        file.write(wrong, &moved);
+        file.sync(file.written());
+        let wrongs = vec![
+            Wrong { place: wrong, found: moved, right: before },
+            Wrong { place: right, found: nothing, right: bytes.to_vec() },
+        ];
+        (self.misdirection.next, self.misdirection.misdirected) = (None, Some(Misdirected { inode, wrongs }));
+        true
+    }
+
+    fn is_of_folder(&self, inode: usize) -> bool {
+        self.find("/state/journal".as_ref()) == Some(inode)
     }
 
     /// Changes what was read at a place of a file to what is elsewhere, if the disk does so now; what blocks may have
@@ -188,8 +228,7 @@ impl Disks {
 
     /// Whether bytes of a file are superblock or journal.
     fn is_state(&self, inode: usize, place: usize) -> bool {
-        let is_of_folder = self.find("/state/journal".as_ref()) == Some(inode);
-        is_of_folder || self.is_volume() && self.is_served(inode) && STATE.contains(&place)
+        self.is_of_folder(inode) || self.is_volume() && self.is_served(inode) && STATE.contains(&place)
     }
 
     /// A disk reads in several requests, of which one goes to a wrong place of the same file.
@@ -251,6 +290,25 @@ mod tests {
             assert!(wrong == place || strayed.len() == 2 - usize::from(is_state));
             assert!(wrong == place || strayed[0].bytes == old && strayed[0].block == 0);
             assert_eq!(disks.misdirection.misdirected.is_some(), is_state);
+        }
+    }
+
+    #[test]
+    fn an_append_is_put_back() {
+        let (mut disks, mut random) = (Disks::new(), Random::new(7));
+        let inode = disks.create(Path::new("/state/journal"), Kind::File);
+        let before: Vec<u8> = (0..1300).map(|it| it as u8 | 1).collect();
+        let batch = [&8u32.to_le_bytes()[..], &[0; 8], b"contents"].concat();
+        for next in [None, Some(Stray::Journal), Some(Stray::State)] {
+            disks.inodes[inode].fill(&before);
+            disks.misdirection.next = next;
+            let is_misplaced = (0..50).any(|_| disks.misplace_append(inode, before.len(), &batch, &mut random));
+            assert_eq!((is_misplaced, disks.misdirection.next), (next.is_some(), None));
+            if is_misplaced {
+                let data = &disks.inodes[inode].data;
+                assert!(data.ends_with(&[0; 20]) && data[..1024].windows(20).any(|it| it == batch));
+                assert!(disks.put_back() && disks.inodes[inode].data == [&before[..], &batch].concat());
+            }
         }
     }
 
