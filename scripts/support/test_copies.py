@@ -90,6 +90,22 @@ class Copies(OneCrate):
         texts = self.copy("shut", "by_all").texts()
         self.assertIn("abbrev pub all_shut : ℕ\nall_shut = shut 0\n", texts["proofs/C0OneShut.antt"])
 
+    def test_what_is_handed_on(self):
+        # A module that hands a definition on has it as it is.
+        words = "pub use Rattle.one.specs.Low.{low, shut as closed}\n"
+        lemma = ("use Rattle.one.proofs.Words.{refl, low, closed as c}\n\npub handed : c 0 ≡ 4\nunfolding c\n"
+                 "handed = refl\n")
+        self.write({"proofs/Words.antt": words, "proofs/Handed.antt": lemma})
+        self.read()
+        text = self.copy("shut", "handed").texts()["proofs/C0OneHanded.antt"]
+        self.assertIn("use Rattle.one.specs.C0OneLow.{shut as c}\n", text)
+        self.assertIn("use Rattle.one.proofs.Words.{refl, low}\n", text)
+        # By the module's other name it would be found there.
+        aliased = "use Rattle.one.proofs.Words as words\n\npub aliased : words.closed 0 ≡ 4\naliased = refl\n"
+        self.write({"proofs/Aliased.antt": aliased})
+        self.read()
+        self.assertIsNone(self.copy("shut", "aliased"))
+
     def test_noticed(self):
         self.assertEqual(self.outcomes({"each#same wrong": REFUSED}, "same"),
                          ([("noticed", "each#same")], [["each#same", "each#same wrong"]]))

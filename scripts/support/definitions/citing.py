@@ -92,6 +92,16 @@ class Sources:
             return {file.names[name]}
         return self.resolved(file.imports[name], depth + 1) if name in file.imports else set(file.items)
 
+    def home_of(self, path, name, depth=0):
+        """The file that has what a module has by a name, the item, and its name there: a module may only hand it on."""
+        if len(path) < 3 or path[0] != "Rattle" or depth > 9:
+            return None
+        file = self.files.get((path[1], f"{path[2]}/{'/'.join(path[3:]) or 'Lib'}.antt"))
+        if not file or name in file.names:
+            return file and (file, file.names[name], name)
+        *above, own = file.imports.get(name, [""])
+        return self.home_of(above, own, depth + 1)
+
     def meant(self, file, word):
         """The items that a word of a file may be."""
         if word not in file.known:

@@ -44,11 +44,11 @@ class ClosedCopy(Copy):
     def opened(self):
         """What advice has the prover open: the imports of these, and their names."""
         for paths in ADVISED.findall(f"{self.witness.body}\n{self.file.advice}"):
-            for path in paths.split(","):
-                first, *rest = path.strip().split("::")
+            for path in re.findall(r"\w+(?:::[\w-]+)+", paths):
+                first, *rest, name = path.split("::")
                 new = ["Rattle", self.crate if first == "crate" else first, *rest]
-                file, copied = self.copied(new)
-                yield (copied if file and self.is_kept(file, rest[-1]) else new)
+                place, own = self.place_of(new, name) or (new, name)
+                yield [*place, own]
 
     def types(self, clause):
         """The imports of types of code whose variants the clause names, as functions need none."""

@@ -7,6 +7,7 @@ is due to its definition, if the same copy is proved with the definition as it i
 import re
 
 from support.definitions.book import wrong_item
+from support.definitions.citing import DOTTED
 from support.definitions.items import ADVICE, USE, clauses_of, parts_of, without_comments
 from support.definitions.refusals import ERROR, GOAL, MISSING, SECONDARY, Outcome
 from support.definitions.rules import with_words
@@ -75,7 +76,18 @@ class Copy:
         self.left = {it for it in named - self.kept if (it.crate, it.path) in self.files}
         is_by_hand = any(it.kind == "proofs" and not is_text(it) for it in named)
         return self.definition in self.kept and not is_by_hand and all(
-            it is self.witness or is_text(it) for it in self.kept) and self.can_stand_alone(seeing)
+            it is self.witness or is_text(it) for it in self.kept) and self.can_stand_alone(seeing) and not self.leaks()
+
+    def leaks(self):
+        """Whether a module's other name leads to what is copied in another module, which that one only hands on."""
+        for it in self.kept:
+            file = self.sources.files[it.crate, it.path]
+            for alias, word in DOTTED.findall(f"{it.head}\n{it.body}") if file.aliases else ():
+                path = file.aliases.get(alias, [])
+                home = self.sources.home_of(path, word)
+                if home and home[1] in self.kept and home[0] is not self.copied([*path, ""])[0]:
+                    return True
+        return False
 
     def can_stand_alone(self, _seeing):
         return is_text(self.witness) or bool(re.search(r"\bfn\(\)", self.witness.body))
@@ -137,18 +149,37 @@ class Copy:
             path, names = it[1].split("."), it[2].split(",") if it[2] is not None else None
             head = it[0].strip()[:it[0].strip().index(it[1])]
             end = ";" if it[0].endswith(";") else ""
-            if names is None and not it[3]:
-                path, names = path[:-1], [path[-1]]
-            file, new = self.copied(path if names is not None else [*path, ""])
-            if names is None:
+            if it[3]:
+                file, new = self.copied([*path, ""])
                 found.append(it[0].strip())
                 found += [f"{head}{'.'.join(new[:-1])} as copied_{it[3]}{end}"] if file else []
                 continue
-            names = [one.strip() for one in names if one.strip()]
-            own = [one for one in names if file and self.is_kept(file, one)]
-            for prefix, some in ((new, own), (path, [one for one in names if one not in own])):
-                found += [f"{head}{'.'.join(prefix)}.{{{', '.join(some)}}}{end}"] if some else []
+            if names is None:
+                path, names = path[:-1], [path[-1]]
+            from_each = {}
+            for one in filter(None, map(str.strip, names)):
+                place, words = self.imported(path, one)
+                from_each.setdefault(place, []).append(words)
+            found += [f"{head}{it}.{{{', '.join(some)}}}{end}" for it, some in from_each.items()]
         return found
+
+    def imported(self, path, words):
+        """The module from which a name is imported that its file imports from a module, and by which words."""
+        name, _, other = map(str.strip, words.partition(" as "))
+        new, own = self.place_of(path, name) or (path, name)
+        return ".".join(new), words if own in (name, *parts_of(name)) else f"{own} as {other or name}"
+
+    def place_of(self, path, name):
+        """The module of the copy that has what a module has by a name, or hands on, and its name there, if that is
+        copied."""
+        file, new = self.copied(path)
+        if file and self.is_kept(file, name):
+            return new, name
+        home = self.sources.home_of(path, parts_of(name)[0])
+        if not home or home[1] not in self.kept:
+            return None
+        file, _, own = home
+        return ["Rattle", self.crate, file.path.partition("/")[0], self.module(file)], own
 
     def item_text(self, file, item):
         is_wrong = self.mutant and item is self.definition
@@ -184,9 +215,9 @@ class Copy:
     def advice(self, text):
         """Advice to the prover, where what is copied is named in the copy."""
         def named(it):
-            crate = self.crate if it[1] == "crate" else it[1]
-            file, new = self.copied(["Rattle", crate, it[2], *it[3].split("::")])
-            return f"crate::{it[2]}::{'::'.join(new[3:])}" if file and self.is_kept(file, new[-1]) else it[0]
+            crate, (*inner, name) = self.crate if it[1] == "crate" else it[1], it[3].split("::")
+            found = self.place_of(["Rattle", crate, it[2], *inner], name)
+            return "::".join(["crate", *found[0][2:], found[1]]) if found else it[0]
         return NAMED.sub(named, text)
 
     def code(self):

@@ -156,11 +156,15 @@ class Asking:
         return {**self.check_some(copies[:half]), **self.check_some(copies[half:])}
 
     def try_again(self, mutant, item):
-        """Tries one alone by an item that noticed it; gives what came of it."""
+        """Tries one alone by an item that noticed it, and then by its whole crate; gives what came of it."""
         seeing = [it.item for it in self.witnesses.of.get(mutant.item, ())[:1]]
         only = [it for one in [item, *seeing] for it in self.witnesses.asks.get(one, ())[:1]][:1]
-        said = self.place.check([mutant], only, LONG)
-        return Reading(said, self.sources, self.name, [mutant]).outcomes.get(mutant)
+        for functions in dict.fromkeys((tuple(only), ())):
+            said = self.place.check([mutant], functions, LONG)
+            found = Reading(said, self.sources, self.name, [mutant]).outcomes.get(mutant)
+            if found:
+                return found
+        return None
 
     def functions(self, mutants):
         """All functions that see one of these."""
