@@ -5,4 +5,4 @@ pub mod ExampleSessions
 pub mod Journals
 pub mod Replays
 mod Destinations
-mod OwnData
+pub mod OwnData

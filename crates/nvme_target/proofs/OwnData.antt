@@ -139,13 +139,14 @@ admitted-data-fit size few = few
 pub record Ran (tells : Bool) (old : Subsystem) (k : ℕ) (c : Controller) (i : ℕ) (t : FetchedCommand)
     (outcome : Outcome) (new : Subsystem) : Type 0 where
   pub pair : QueuePair
+  pub room : open_pair c t ≡ Some pair
   pub completes : Completes tells old k c i t pair (Executed (Posted outcome)) new
 
 ran-over : (o : Option QueuePair) (tells : Bool) (old : Subsystem) (k : ℕ) (c : Controller) (i : ℕ)
-    (t : FetchedCommand) (outcome : Outcome) (new : Subsystem)
+    (t : FetchedCommand) (outcome : Outcome) (new : Subsystem) → open_pair c t ≡ o
     → ExecutesOver o tells old k c i t (Executed (Posted outcome)) new → Ran tells old k c i t outcome new
-ran-over None tells old k c i t outcome new h = let e = h.0 in absurd (cc)
-ran-over (Some p) tells old k c i t outcome new h = record { pair = p; completes = h }
+ran-over None tells old k c i t outcome new is h = let e = h.0 in absurd (cc)
+ran-over (Some p) tells old k c i t outcome new is h = record { pair = p; room = is; completes = h }
 
 ran : (tells : Bool) (old : Subsystem) (k : ℕ) (c : Controller) (i : ℕ) (t : FetchedCommand) (outcome : Outcome)
     (new : Subsystem) → controller_at old k ≡ Some c → slice_get c.fetched i ≡ Some t
@@ -154,7 +155,7 @@ ran : (tells : Bool) (old : Subsystem) (k : ℕ) (c : Controller) (i : ℕ) (t :
 ran tells old k c i t outcome new at found step =
     let one : ExecutesOne (slice_get c.fetched i) tells old k c i (Executed (Posted outcome)) new =
     subst (λ o. ExecutesAt o tells old k i (Executed (Posted outcome)) new) at step in
-    ran-over (open_pair c t) tells old k c i t outcome new
+    ran-over (open_pair c t) tells old k c i t outcome new refl
     (subst (λ o. ExecutesOne o tells old k c i (Executed (Posted outcome)) new) found one)
 
 of-queue : (is_admin tells : Bool) (queues : Queues) (k : ℕ) (t : FetchedCommand) (s : Scene) (a : CommandExecution)
@@ -188,6 +189,7 @@ executed-commands-move-their-own tells old new k i c t e sent b plan outcome at 
     record {
       left = a.left;
       pair = r.pair;
+      room = r.room;
       moves = subst (λ p. MovesOwnData tells plan k p sent b (scene_of old c) a.left outcome) (sym is.entry) by_entry;
       leaves = r.completes.leaves
           ∙ ap (λ (x : CommandExecution). after_execution old k c i t r.pair x) (whole-execution a outcome same io.0);
@@ -206,6 +208,7 @@ executed-admin-commands-move-their-own tells old new k i c t e sent b command ou
     (subst (λ p. command_of (opcode p) ≡ Some command) is.entry named) in
     record {
       pair = r.pair;
+      room = r.room;
       moves = subst (λ p. AdminMovesOwnData old.world (queues_of c) k command p c.window sent b) (sym is.entry)
           by_entry;
       leaves = r.completes.leaves ∙ ap (λ (x : CommandExecution). after_execution old k c i t r.pair x) comes;

@@ -37,7 +37,7 @@ use Rattle.nvme_machine.specs.declared.fetched.FetchedCommand.{FetchedCommand}
 use Rattle.nvme_machine.specs.declared.seen.Executed.TheVariants.{Posted}
 use Rattle.nvme_machine.specs.declared.seen.Seen.TheVariants.{Executed, Stored}
 use Rattle.nvme_machine.specs.CommandExecutions.{admin_command_execution}
-use Rattle.nvme_machine.specs.Controllers.{Controller, QueuePair, completion_of, completion_slot, queues_of}
+use Rattle.nvme_machine.specs.Controllers.{Controller, QueuePair, completion_of, completion_slot, open_pair, queues_of}
 use Rattle.nvme_machine.specs.Subsystems.{Step, Subsystem, after_execution, controller_at, scene_of}
 use Rattle.nvme_data_buffers.specs.Areas.{Completions}
 use Rattle.nvme_capsules.specs.DataPlaces.{most_data}
@@ -91,11 +91,12 @@ abbrev pub AdmittedDataFit : Type 0
 AdmittedDataFit = (size : ℕ) → size ≤ most_data → size ≤ capacity AtOnce
 
 -- Its execution has its effect with its own data, and of the memory only its buffer gets what is returned. Then its
--- completion is posted.
+-- completion is posted, in the completion queue of its own submission queue.
 pub record MovesItsOwn (tells : Bool) (old new : Subsystem) (k i : ℕ) (c : Controller) (t : FetchedCommand)
     (b : DataBuffer) (sent : List ℕ) (plan : Plan) (outcome : Outcome) : Type 0 where
   pub left : Scene
   pub pair : QueuePair
+  pub room : open_pair c t ≡ Some pair
   pub moves : MovesOwnData tells plan k t.entry sent b (scene_of old c) left outcome
   pub leaves : new
       ≡ after_execution old k c i t pair (record { outcome = outcome; change = Keep; left = left })
@@ -114,6 +115,7 @@ ExecutedCommandsMoveTheirOwn =
 pub record AdminMovesItsOwn (old new : Subsystem) (k i : ℕ) (c : Controller) (t : FetchedCommand) (b : DataBuffer)
     (sent : List ℕ) (command : AdminCommand) : Type 0 where
   pub pair : QueuePair
+  pub room : open_pair c t ≡ Some pair
   pub moves : AdminMovesOwnData old.world (queues_of c) k command t.entry c.window sent b
   pub leaves : new
       ≡ after_execution old k c i t pair

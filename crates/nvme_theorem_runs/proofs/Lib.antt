@@ -8,6 +8,7 @@ pub mod MediumRuns
 pub mod EachEventRuns
 pub mod WireRuns
 pub mod JournalRuns
+pub mod OwnDataRuns
 pub mod PowerRuns
 pub mod QueueRuns
 pub mod RunningRuns

@@ -6,6 +6,7 @@ pub mod Medium
 pub mod EachEvent
 pub mod Wire
 pub mod Journals
+pub mod OwnData
 pub mod Power
 pub mod Queues
 pub mod Running

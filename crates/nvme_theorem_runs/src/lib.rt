@@ -7,6 +7,7 @@ mod fencing;
 mod fleets;
 mod journals;
 mod medium;
+mod own_data;
 mod power;
 mod preempting;
 mod queues;
