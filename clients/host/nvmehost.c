@@ -1,4 +1,5 @@
 /* nvmehost [--json] ADDRESS COMMAND: the proved driver on a controller at a PCI address, through VFIO. */
+#include "bench.h"
 #include "vfio.h"
 
 #include <errno.h>
@@ -16,6 +17,9 @@ static const char usage[] =
     "       nvmehost [--json] ADDRESS zeroes NSID BLOCK COUNT\n"
     "                                                       fills up to 65,536 blocks with zeros\n"
     "       nvmehost [--json] ADDRESS flush NSID\n"
+    "       nvmehost [--json] ADDRESS bench read|write NSID BLOCKS DEPTH SECONDS\n"
+    "                                                       reads or overwrites at random places, DEPTH requests at a\n"
+    "                                                       time (1 to 24): IOPS and latencies\n"
     "\n"
     "ADDRESS is a PCI address, such as 0000:00:04.0, of a controller that is bound to vfio-pci: nvmehost prints what\n"
     "to type if it is not. Linux must not use the controller meanwhile. Standard input has at most 131,072 bytes.\n"
@@ -46,21 +50,27 @@ static void fail(const char *what, const char *reason)
     leave(FAILED);
 }
 
-/* Waits for the answer of a request, which must succeed; whether a comparison found equal blocks. */
-static bool finish(const char *what, struct nvmehost_placed placed)
+/* Ends because of a request's result, unless it succeeded. */
+static void succeed(const char *what, uint32_t code, struct nvmehost_outcome outcome)
 {
     char status[80];
-    struct nvmehost_outcome outcome = port_answer(&port, placed, TIMEOUT_MS);
-    if (outcome.code == NVMEHOST_EXPIRED)
+    if (code == NVMEHOST_EXPIRED)
         fail(what, "no answer in 30 seconds");
-    if (outcome.code != NVMEHOST_DONE)
-        fail(what, port_name(outcome.code));
-    if (outcome.sct == 2 && outcome.sc == 0x85)
-        return false;
+    if (code != NVMEHOST_DONE)
+        fail(what, port_name(code));
     if (outcome.sct != 0 || outcome.sc != 0) {
         snprintf(status, sizeof status, "the controller answered status %x:%02x", outcome.sct, outcome.sc);
         fail(what, status);
     }
+}
+
+/* Waits for the answer of a request, which must succeed; whether a comparison found equal blocks. */
+static bool finish(const char *what, struct nvmehost_placed placed)
+{
+    struct nvmehost_outcome outcome = port_answer(&port, placed, TIMEOUT_MS);
+    if (outcome.code == NVMEHOST_DONE && outcome.sct == 2 && outcome.sc == 0x85)
+        return false;
+    succeed(what, outcome.code, outcome);
     return true;
 }
 
@@ -236,6 +246,73 @@ static void execute(const char *command, uint32_t nsid, uint64_t slba, uint32_t 
     }
 }
 
+static const struct { const char *name; uint32_t share; } percentiles[] = {
+    { "p50", 50000 }, { "p90", 90000 }, { "p99", 99000 }, { "p99.9", 99900 }, { "p99.99", 99990 } };
+enum { PERCENTILES = sizeof percentiles / sizeof *percentiles };
+
+static void print_bench_json(const struct bench *b, const struct bench_result *r, double seconds)
+{
+    printf("{\"command\":\"bench\",\"request\":\"%s\",\"nsid\":%u,\"blocks\":%u,\"depth\":%u,\"seconds\":%.3f,"
+           "\"requests\":%llu,\"iops\":%.0f,\"bytes_per_second\":%.0f,\"latency_ns\":{\"least\":%llu,\"mean\":%llu",
+           b->is_write ? "write" : "read", b->nsid, b->blocks, b->depth, seconds, (unsigned long long)r->requests,
+           (double)r->requests / seconds, (double)r->requests * 512 * b->blocks / seconds,
+           (unsigned long long)r->least, (unsigned long long)(r->sum / r->requests));
+    for (int i = 0; i < PERCENTILES; i++)
+        printf(",\"%s\":%llu", percentiles[i].name, (unsigned long long)bench_percentile(r, percentiles[i].share));
+    printf(",\"most\":%llu}}\n", (unsigned long long)r->most);
+}
+
+static void print_bench(const struct bench *b, const struct bench_result *r)
+{
+    double seconds = (double)r->nanoseconds / 1e9, us = 1000;
+    if (is_json) {
+        print_bench_json(b, r, seconds);
+        return;
+    }
+    printf("%s: %llu requests in %.1f s, IOPS %.0f, %.1f MiB/s\n", b->is_write ? "write" : "read",
+           (unsigned long long)r->requests, seconds, (double)r->requests / seconds,
+           (double)r->requests * b->blocks / 2048 / seconds);
+    printf("latency in microseconds: least %.1f, mean %.1f", (double)r->least / us,
+           (double)r->sum / (double)r->requests / us);
+    for (int i = 0; i < PERCENTILES; i++)
+        printf(", %s %.1f", percentiles[i].name, (double)bench_percentile(r, percentiles[i].share) / us);
+    printf(", most %.1f\n", (double)r->most / us);
+}
+
+static void bench(struct bench *b)
+{
+    static struct bench_result result;
+    struct nvmehost_outcome outcome;
+    begin();
+    ask(b->nsid);
+    struct nvmehost_namespace n = nvmehost_namespace(&port.host, b->nsid);
+    if (n.code != NVMEHOST_OK)
+        fail("", port_name(n.code));
+    if (n.blocks < b->blocks)
+        fail("", "the namespace has fewer blocks than a request");
+    b->namespace_blocks = n.blocks;
+    uint32_t what = bench_run(&port, b, &result, &outcome);
+    if (what != NVMEHOST_OK)
+        succeed(b->is_write ? "Write" : "Read", what, outcome);
+    print_bench(b, &result);
+}
+
+/* The words of bench: read or write, then numbers of 1 or more. */
+static bool read_bench(char **word, struct bench *b)
+{
+    static const uint64_t most[] = { UINT32_MAX, 256, BENCH_DEPTH, 86400 };
+    uint64_t values[4];
+    b->is_write = !strcmp(word[0], "write");
+    if (!b->is_write && strcmp(word[0], "read"))
+        return false;
+    for (int i = 0; i < 4; i++)
+        if (!number(word[1 + i], most[i], &values[i]) || values[i] == 0)
+            return false;
+    b->nsid = (uint32_t)values[0], b->blocks = (uint32_t)values[1];
+    b->depth = (uint32_t)values[2], b->seconds = (uint32_t)values[3];
+    return true;
+}
+
 /* Takes the option --json out of the words; the number of words that are left. */
 static int take_options(int words, char **word)
 {
@@ -245,25 +322,37 @@ static int take_options(int words, char **word)
     return words - is_json;
 }
 
-int main(int words, char **word)
+/* Judges the words of a command, the numbers of all but bench into `values`; whether they are right. */
+static bool read_words(int words, char **word, uint64_t *values, struct bench *b)
 {
     static const struct { const char *name; int words; } commands[] = {
-        { "identify", 3 }, { "read", 6 }, { "write", 5 }, { "compare", 5 }, { "zeroes", 6 }, { "flush", 4 } };
-    uint64_t values[3] = { 1, 0, 0 };
+        { "identify", 3 }, { "read", 6 }, { "write", 5 }, { "compare", 5 }, { "zeroes", 6 }, { "flush", 4 },
+        { "bench", 8 } };
     static const uint64_t most[3] = { UINT32_MAX, UINT64_MAX, 65536 };
     int wanted = 0;
+    for (size_t i = 0; words > 2 && i < sizeof commands / sizeof *commands; i++)
+        wanted = strcmp(word[2], commands[i].name) ? wanted : commands[i].words;
+    if (words != wanted)
+        return false;
+    if (!strcmp(word[2], "bench"))
+        return read_bench(word + 3, b);
+    for (int i = 3; i < words; i++)
+        if (!number(word[i], most[i - 3], &values[i - 3]))
+            return false;
+    return true;
+}
+
+int main(int words, char **word)
+{
+    uint64_t values[3] = { 1, 0, 0 };
+    struct bench b;
     words = take_options(words, word);
     if (words == 2 && !strcmp(word[1], "--help")) {
         fputs(usage, stdout);
         return 0;
     }
-    for (size_t i = 0; words > 2 && i < sizeof commands / sizeof *commands; i++)
-        wanted = strcmp(word[2], commands[i].name) ? wanted : commands[i].words;
-    if (words != wanted)
+    if (!read_words(words, word, values, &b))
         return use_wrongly();
-    for (int i = 3; i < words; i++)
-        if (!number(word[i], most[i - 3], &values[i - 3]))
-            return use_wrongly();
     address = word[1];
     if (!is_address(address)) {
         fprintf(stderr, "nvmehost: %s is no PCI address, such as 0000:00:04.0; lspci -D lists them\n", address);
@@ -272,6 +361,8 @@ int main(int words, char **word)
     if (!strcmp(word[2], "identify")) {
         begin();
         identify();
+    } else if (!strcmp(word[2], "bench")) {
+        bench(&b);
     } else {
         execute(word[2], (uint32_t)values[0], values[1], (uint32_t)values[2]);
     }

@@ -1,5 +1,6 @@
 """Tests libnvmehost, the port and the program nvmehost, without a device."""
 import json
+import re
 import subprocess
 
 from support.host import building, header
@@ -33,6 +34,11 @@ COMMANDS = (
      {"model": "", "serial": "TEST", "firmware": "", "cntlid": 0, "nn": 1, "mdts": 5, "oncs": "0009", "vwc": 0,
       "namespaces": [{"nsid": 1, "blocks": 2048, "block_size": 512}]}),
 )
+# What bench prints: a line of the requests, and one of their latencies.
+BENCH = re.compile(r"read: (\d+) requests in 1\.\d s, IOPS \d+, \d+\.\d MiB/s\n"
+                   r"latency in microseconds: least [\d.]+, mean [\d.]+, p50 [\d.]+, p90 [\d.]+, p99 [\d.]+, p99\.9 [\d.]+, "
+                   r"p99\.99 [\d.]+, most [\d.]+\n")
+LATENCIES = ("least", "p50", "p90", "p99", "p99.9", "p99.99", "most")
 SANITIZERS = ["-fsanitize=address,undefined", "-fno-sanitize-recover=all"]
 
 
@@ -123,6 +129,12 @@ class Trial:
         for words, wanted, said in (
                 ([], 2, "usage: "), ([address, "read"], 2, "usage: "), ([address, "dance"], 2, "usage: "),
                 (["--json"], 2, "usage: "), (["--json", address, "read"], 2, "usage: "),
+                ([address, "bench", "read", "1", "8", "4"], 2, "usage: "),
+                ([address, "bench", "erase", "1", "8", "4", "1"], 2, "usage: "),
+                ([address, "bench", "read", "1", "0", "4", "1"], 2, "usage: "),
+                ([address, "bench", "read", "1", "257", "4", "1"], 2, "usage: "),
+                ([address, "bench", "read", "1", "8", "25", "1"], 2, "usage: "),
+                ([address, "bench", "read", "1", "8", "4", "0"], 2, "usage: "),
                 (["nonsense", "identify"], 2, "is no PCI address"),
                 ([address, "identify"], 1, f"nvmehost: {address}: there is no such PCI device; lspci -D lists them\n"),
                 (["--help"], 0, "usage: ")):
@@ -133,10 +145,11 @@ class Trial:
     def commands(self):
         """The program over a controller in memory: what it prints, as text and as JSON, and its status."""
         program = self.room / "memory-nvmehost"
-        problem = self.compiled(program, ("nvmehost.c", "port.c", "tests/memory_vfio.c", "tests/device.c"))
+        problem = self.compiled(program, ("nvmehost.c", "bench.c", "port.c", "tests/memory_vfio.c", "tests/device.c"))
         if problem:
             self.check("the program over a controller in memory", problem)
             return
+        self.bench(program)
         blocks = bytes(range(256)) * 4
         for words, given, wanted, said in COMMANDS:
             ran = subprocess.run([str(program), *words], cwd=self.room, input=blocks[:given], capture_output=True,
@@ -145,6 +158,32 @@ class Trial:
             expected = said(blocks) if callable(said) else said
             problem = (ran.returncode, printed) != (wanted, expected) and f"status {ran.returncode}, {printed}"
             self.check(f"nvmehost {' '.join(words)}", problem)
+
+
+    def bench(self, program):
+        """What bench prints of requests to a controller in memory, and that its Writes reach all of the namespace."""
+        def ran(*words):
+            return subprocess.run([str(program), *words], cwd=self.room, input=b"x" * 512, capture_output=True,
+                                  timeout=TIME)
+
+        said = ran(ADDRESS, "bench", "read", "1", "8", "4", "1").stdout.decode()
+        self.check("nvmehost bench read", not BENCH.fullmatch(said) and said)
+        ran(ADDRESS, "write", "1", "2047")
+        for what, depth in (("read", 1), ("write", 24)):
+            text = ran("--json", ADDRESS, "bench", what, "1", "8", str(depth), "1").stdout
+            said = json.loads(text)
+            times, seconds = [said["latency_ns"][it] for it in LATENCIES], said["seconds"]
+            is_right = [said[it] for it in ("command", "request", "nsid", "blocks", "depth")] == [
+                "bench", what, 1, 8, depth] and times == sorted(times) and 1 <= seconds < 2 and said["requests"] > 100
+            close = abs(said["iops"] - said["requests"] / seconds) < said["iops"] / 500
+            is_right = is_right and close and abs(said["bytes_per_second"] - 4096 * said["iops"]) <= 4096
+            self.check(f"nvmehost --json bench {what}", not is_right and text.decode())
+        last = ran(ADDRESS, "read", "1", "2047", "1").stdout
+        self.check("nvmehost bench write reaches the last block", last != bytes(512) and f"{last[:8]}")
+        for words, wanted in ((["2", "8"], "no such namespace"), (["1", "256"], "")):
+            done = ran(ADDRESS, "bench", "read", *words, "1", "1")
+            is_right = done.returncode == (1 if wanted else 0) and wanted in done.stderr.decode()
+            self.check(f"nvmehost bench of {' '.join(words)}", not is_right and done.stderr.decode())
 
 
 def run(top, room):
