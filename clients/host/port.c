@@ -33,28 +33,26 @@ static void write32(struct port *p, uint64_t offset, uint32_t value)
     *(volatile uint32_t *)(p->registers + offset) = value;
 }
 
-/* Copies between the library and memory that the device may write meanwhile. Addresses and lengths are multiples of 4. */
-static void fetch(uint8_t *to, const volatile uint8_t *from, size_t len)
-{
-    for (size_t i = 0; i < len; i += 4) {
-        uint32_t word = *(const volatile uint32_t *)(from + i);
-        memcpy(to + i, &word, 4);
-    }
-}
+enum { SHORT = 64 };
 
-static void put(volatile uint8_t *to, const uint8_t *from, size_t len)
+/* Copies between the library and memory that the device may write meanwhile. The compiler can't read that memory again
+ * after the copy, or put off a store. Queue entries are copied word by word: the library has just stored them in small
+ * pieces, for which wider loads would wait. Addresses and lengths are multiples of 4. */
+static void copy(volatile uint8_t *to, const volatile uint8_t *from, size_t len)
 {
-    for (size_t i = 0; i < len; i += 4) {
-        uint32_t word;
-        memcpy(&word, from + i, 4);
-        *(volatile uint32_t *)(to + i) = word;
-    }
+    __asm__ volatile("" ::: "memory");
+    if (len > SHORT)
+        memcpy((void *)to, (const void *)from, len);
+    else
+        for (size_t i = 0; i < len; i += 4)
+            *(volatile uint32_t *)(to + i) = *(const volatile uint32_t *)(from + i);
+    __asm__ volatile("" ::: "memory");
 }
 
 static void store(struct port *p, uint64_t at, size_t len)
 {
     if (nvmehost_load(&p->host, at, p->copy, len) == NVMEHOST_OK)
-        put(p->memory + at, p->copy, len);
+        copy(p->memory + at, p->copy, len);
 }
 
 void port_perform(struct port *p)
@@ -95,7 +93,7 @@ struct nvmehost_outcome port_poll(struct port *p)
             continue;
         struct nvmehost_completion_data data = nvmehost_store_completion(&p->host, queue, (const uint8_t *)entry);
         if (data.code == NVMEHOST_OK && data.len != 0) {
-            fetch(p->copy, p->memory + data.at, data.len);
+            copy(p->copy, p->memory + data.at, data.len);
             nvmehost_store_data(&p->host, data.at, p->copy, data.len);
         }
         break;
