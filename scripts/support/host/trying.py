@@ -1,6 +1,8 @@
 """Tests libnvmehost, the port and the program nvmehost, without a device."""
 import json
+import os
 import re
+import shutil
 import subprocess
 
 from support.host import building, header
@@ -54,9 +56,9 @@ class Trial:
         self.failed += bool(problem)
         print(f"host: {what}: FAILED\n{problem}" if problem else f"host: {what}: passed", flush=True)
 
-    def run(self, words):
+    def run(self, words, env=None):
         """Runs a command: its status, and all that it wrote."""
-        ran = subprocess.run([str(it) for it in words], cwd=self.room, stdin=subprocess.DEVNULL, timeout=TIME,
+        ran = subprocess.run([str(it) for it in words], cwd=self.room, stdin=subprocess.DEVNULL, timeout=TIME, env=env,
                              stdout=subprocess.PIPE, stderr=subprocess.STDOUT, text=True, errors="replace")
         return ran.returncode, ran.stdout
 
@@ -142,6 +144,16 @@ class Trial:
             problem = (status != wanted or said not in text) and f"status {status}\n{text}"
             self.check(f"nvmehost {' '.join(words)}", problem)
 
+    def rust(self):
+        """The crate: its tests, those in its documents, and where it is unsafe."""
+        crate = self.clients / "rust"
+        environment = {**os.environ, "NVMEHOST_LIB": str(self.prefix / "lib"), "CARGO_TARGET_DIR": str(self.room / "target")}
+        status, text = self.run(["cargo", "test", "--offline", "--quiet", "--locked", "--manifest-path",
+                                 crate / "Cargo.toml"], environment)
+        self.check("the crate for Rust", status and text)
+        unsafe = [it.name for it in (crate / "src").glob("*.rs") if "unsafe {" in it.read_text(encoding="utf-8")]
+        self.check("where the crate is unsafe", unsafe != ["raw.rs"] and f"{unsafe}")
+
     def commands(self):
         """The program over a controller in memory: what it prints, as text and as JSON, and its status."""
         program = self.room / "memory-nvmehost"
@@ -197,4 +209,6 @@ def run(top, room):
     trial.race()
     trial.program()
     trial.commands()
+    if shutil.which("cargo"):
+        trial.rust()
     return 1 if trial.failed else 0
