@@ -94,7 +94,8 @@ uint32_t bench_run(struct port *p, const struct bench *b, struct bench_result *r
 {
     static uint8_t data[NVMEHOST_BUFFER];
     struct waiting w = { .count = 0 };
-    uint64_t random = 0x9e3779b97f4a7c15, begun = now(), end = begun + b->seconds * second, heard = begun, time = begun;
+    uint64_t random = 0x9e3779b97f4a7c15, begun = now(), end = begun + b->seconds * second;
+    uint64_t heard = begun, looked = begun, time = begun;
     memset(r, 0, sizeof *r), memset(outcome, 0, sizeof *outcome);
     r->least = UINT64_MAX;
     while (time < end || w.count != 0) {
@@ -110,9 +111,13 @@ uint32_t bench_run(struct port *p, const struct bench *b, struct bench_result *r
             heard = time;
         } else if (outcome->code != NVMEHOST_NOTHING) {
             return outcome->code;
-        } else if (time - heard > EACH_SECONDS * second) {
-            nvmehost_expire(&p->host, w.ticket[0]);
-            return NVMEHOST_EXPIRED;
+        } else if (time - looked > second / 1000) {
+            looked = time;
+            what = time - heard > EACH_SECONDS * second ? NVMEHOST_EXPIRED : port_health(p);
+            if (what != NVMEHOST_OK) {
+                nvmehost_expire(&p->host, w.ticket[0]);
+                return what;
+            }
         } else if (p->turn) {
             p->turn(p->turned);
         }

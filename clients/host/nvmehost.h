@@ -149,6 +149,10 @@ uint32_t nvmehost_shutdown(struct nvmehost *host);
  * NVMEHOST_ABORTED, if it was not answered before. */
 uint32_t nvmehost_expire(struct nvmehost *host, uint64_t ticket);
 
+/* The status of a controller that is up: NVMEHOST_OK, NVMEHOST_REMOVED, NVMEHOST_FATAL, or NVMEHOST_NOT_READY if it has
+ * reset itself. Otherwise its requests are not answered: nvmehost_expire, nvmehost_reset. */
+uint32_t nvmehost_health(uint32_t csts);
+
 /* Requests are placed, and sent by the next ring. The answer has the same ticket, which is never 0 if the first one
  * is not. Buffers are the caller's again after the call. */
 struct nvmehost_placed nvmehost_ask(struct nvmehost *host, uint32_t nsid);

@@ -167,25 +167,37 @@ void port_ring(struct port *p)
     port_perform(p);
 }
 
+uint32_t port_health(struct port *p)
+{
+    return nvmehost_health(port_read32(p, CSTS));
+}
+
 struct nvmehost_outcome port_answer(struct port *p, struct nvmehost_placed placed, unsigned timeout_ms)
 {
     struct nvmehost_outcome outcome = { 0, 0, 0, placed.code, 0, 0 };
-    uint64_t begun = now_ms();
+    uint64_t begun = now_ms(), time = begun;
+    uint32_t health = NVMEHOST_OK;
     if (placed.code != NVMEHOST_OK)
         return outcome;
     port_perform(p);
     port_ring(p);
-    do {
+    for (;;) {
         outcome = port_poll(p);
+        bool is_other = (outcome.code == NVMEHOST_DONE || outcome.code == NVMEHOST_ABORTED)
+            && outcome.ticket != placed.ticket;
+        if (outcome.code != NVMEHOST_NOTHING && !is_other)
+            return outcome;
+        /* The status is read once a millisecond, since that takes a device a microsecond. */
+        if (outcome.code == NVMEHOST_NOTHING && now_ms() != time)
+            time = now_ms(), health = port_health(p);
+        if (health != NVMEHOST_OK || (outcome.code == NVMEHOST_NOTHING && time - begun >= timeout_ms))
+            break;
         if (outcome.code == NVMEHOST_NOTHING)
             give_turn(p);
-    } while ((outcome.code == NVMEHOST_NOTHING && now_ms() - begun < timeout_ms)
-             || ((outcome.code == NVMEHOST_DONE || outcome.code == NVMEHOST_ABORTED)
-                 && outcome.ticket != placed.ticket));
-    if (outcome.code == NVMEHOST_NOTHING && nvmehost_expire(&p->host, placed.ticket) == NVMEHOST_OK) {
-        outcome.code = NVMEHOST_EXPIRED;
-        outcome.ticket = placed.ticket;
     }
+    bool is_over = nvmehost_expire(&p->host, placed.ticket) == NVMEHOST_OK;
+    outcome.code = health != NVMEHOST_OK ? health : is_over ? NVMEHOST_EXPIRED : NVMEHOST_NOTHING;
+    outcome.ticket = placed.ticket;
     return outcome;
 }
 

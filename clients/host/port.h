@@ -27,8 +27,10 @@ void port_perform(struct port *p);
 void port_ring(struct port *p);
 /* Delivers the next answer, if there is one: looks at both queues once. */
 struct nvmehost_outcome port_poll(struct port *p);
+/* Whether the controller is still up: NVMEHOST_OK, or the fault. */
+uint32_t port_health(struct port *p);
 /* Sends a placed request, and waits for its answer; others are delivered to nobody. If the time is over, the request
- * expires: NVMEHOST_EXPIRED. */
+ * expires: NVMEHOST_EXPIRED. If the controller is not up any more, it does too, and the code is the fault. */
 struct nvmehost_outcome port_answer(struct port *p, struct nvmehost_placed placed, unsigned timeout_ms);
 uint32_t port_read32(struct port *p, uint64_t offset);
 /* The name of a result, for messages. */

@@ -190,6 +190,25 @@ static void expires(void)
     EXPECT_IS(answer(nvmehost_read(&p.host, 1, 0, 1)).code, NVMEHOST_DONE);
 }
 
+/* A controller that goes away while a request waits is named long before the time is over. Nothing is sent before a
+ * reset. */
+static void goes_away(void)
+{
+    static const uint32_t wanted[] = { NVMEHOST_REMOVED, NVMEHOST_FATAL, NVMEHOST_NOT_READY };
+    for (int i = 0; i < 3; i++) {
+        begin();
+        open_namespace();
+        device.is_silent = true, device.is_gone = i == 0, device.is_fatal = i == 1, device.is_stuck = i == 2;
+        if (device.is_stuck)
+            *(volatile uint32_t *)(p.registers + 0x1c) = 0;
+        struct nvmehost_placed placed = nvmehost_read(&p.host, 1, 0, 1);
+        struct nvmehost_outcome outcome = port_answer(&p, placed, 30000);
+        EXPECT_IS(outcome.code, wanted[i]);
+        EXPECT(outcome.ticket == placed.ticket);
+        EXPECT_IS(nvmehost_read(&p.host, 1, 0, 1).code, NVMEHOST_EXPIRED);
+    }
+}
+
 /* The doorbells of a controller are 32 bytes apart. */
 static void strides(void)
 {
@@ -289,6 +308,7 @@ int main(void)
     EXPECT_IS(nvmehost_ring(&p.host), NVMEHOST_CLOSED);
     good();
     expires();
+    goes_away();
     strides();
     unfit();
     asked();

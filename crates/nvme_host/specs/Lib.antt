@@ -6,6 +6,7 @@ pub mod Determined
 pub mod Devices
 pub mod Exports
 pub mod Refusals
+pub mod Health
 pub mod Holding
 pub mod Facts
 pub mod Completions

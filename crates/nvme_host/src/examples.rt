@@ -8,6 +8,7 @@ ghost use Rattle.nvme_host.specs.RunExamples.{
   AFlushExpires,
 };
 ghost use Rattle.nvme_host.specs.Doorbells.{initial_doorbells, repeats_tail, register_at};
+ghost use Rattle.nvme_host.specs.Health.{health};
 
 /// Doorbells that are 4 and 8 bytes apart; other registers are where they are.
 pub fn doorbells_have_places()
@@ -24,6 +25,17 @@ pub fn repeated_tails_are_left_out()
     ensures other { repeats_tail (record initial_doorbells { io_tail = 3 }) 0x1008 4 ≡ false }
     ensures lane { repeats_tail (record initial_doorbells { io_tail = 3 }) 0x1000 3 ≡ false }
     ensures head { repeats_tail (record initial_doorbells { io_tail = 3 }) 0x100c 3 ≡ false }
+{}
+
+/// RDY alone; CFS as well; neither; a shutdown that was not asked for; and a device that was removed.
+pub fn controllers_are_up_or_not()
+    ensures up { health 1 ≡ 0 }
+    ensures fatal { health 3 ≡ 49 }
+    ensures fatal_alone { health 2 ≡ 49 }
+    ensures reset { health 0 ≡ 23 }
+    ensures shut { health 9 ≡ 0 }
+    ensures removed { health 0xffffffff ≡ 48 }
+    ensures nearly { health 0xfffffffd ≡ 0 }
 {}
 
 /// A run in which the premises of the laws on tickets hold; without a reset, a ticket is delivered with its answer; a

@@ -11,6 +11,7 @@ mod doorbells;
 mod examples;
 mod facts;
 mod handle;
+pub mod health;
 pub mod laws;
 pub mod lifecycle;
 pub mod memory;

@@ -152,6 +152,11 @@ impl Driver {
         }
     }
 
+    /// Judges CSTS of a controller that is up: if it is not any more, its requests are not answered.
+    pub fn health(csts: u32) -> Result<(), Fault> {
+        judged(raw::health(csts))
+    }
+
     /// Enables the controller and creates the queues, in several calls.
     pub fn bring_up(&mut self) -> Result<BringUp, Fault> {
         let it = self.handle.bring_up();

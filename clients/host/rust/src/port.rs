@@ -8,6 +8,8 @@ const CAP: u64 = 0x00;
 const CSTS: u64 = 0x1c;
 const DOORBELLS: u64 = 0x1000;
 const QUEUES: u32 = 2;
+/// How often the status is read while a request waits: that takes a device a microsecond.
+const LOOK: Duration = Duration::from_millis(1);
 
 /// A device: memory that the controller reaches too, from address 0, and its registers. Addresses, offsets and lengths
 /// are multiples of 4. The controller may change its memory at any moment.
@@ -123,10 +125,10 @@ impl<D: Device> Port<D> {
     }
 
     /// Sends a request that was placed, and waits for its answer: its data, or why there is none. Answers to others are
-    /// delivered to nobody. A request without an answer in time expires.
+    /// delivered to nobody. A request without an answer in time expires, and one whose controller is not up any more.
     pub fn answer(&mut self, ticket: Ticket, time: Duration) -> Result<&[u8], Fault> {
         self.send()?;
-        let begun = Instant::now();
+        let (begun, mut looked) = (Instant::now(), Duration::ZERO);
         loop {
             match self.poll()? {
                 Some(Outcome::Done { ticket: own, status, length, .. }) if own == ticket => {
@@ -135,12 +137,21 @@ impl<D: Device> Port<D> {
                         status => Err(Fault::Answered(status)),
                     };
                 }
-                Some(_) => {}
-                None if begun.elapsed() < time => self.device.wait(),
-                None => {
-                    self.driver.expire(ticket)?;
-                    return Err(Fault::NoAnswerInTime);
-                }
+                Some(_) => continue,
+                None => self.device.wait(),
+            }
+            let waited = begun.elapsed();
+            let fault = if waited >= time {
+                Some(Fault::NoAnswerInTime)
+            } else if waited >= looked + LOOK {
+                looked = waited;
+                Driver::health(self.device.read32(CSTS)).err()
+            } else {
+                None
+            };
+            if let Some(fault) = fault {
+                self.driver.expire(ticket)?;
+                return Err(fault);
             }
         }
     }

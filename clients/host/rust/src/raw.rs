@@ -96,6 +96,7 @@ mod foreign {
         pub fn nvmehost_capabilities(host: &mut Handle, cap: u64) -> Limits;
         pub fn nvmehost_reset(host: &mut Handle) -> u32;
         pub fn nvmehost_status(host: &mut Handle, csts: u32, elapsed_ms: u64) -> u32;
+        pub fn nvmehost_health(csts: u32) -> u32;
         pub fn nvmehost_bring_up(host: &mut Handle) -> Outcome;
         pub fn nvmehost_report_completion(host: &mut Handle, entry: &[u8; 16]) -> u32;
         pub fn nvmehost_shutdown(host: &mut Handle) -> u32;
@@ -117,6 +118,10 @@ mod foreign {
         pub fn nvmehost_store_completion(host: &mut Handle, queue: u32, entry: &[u8; 16]) -> CompletionData;
         pub fn nvmehost_store_data(host: &mut Handle, address: u64, bytes: *const u8, len: usize) -> u32;
     }
+}
+
+pub fn health(csts: u32) -> u32 {
+    unsafe { foreign::nvmehost_health(csts) }
 }
 
 impl Handle {

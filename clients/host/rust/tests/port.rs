@@ -99,7 +99,10 @@ fn an_expired_request_is_aborted_once() {
 #[test]
 fn a_removed_controller_is_named() {
     let mut port = started();
-    port.device().is_removed = true;
+    (port.device().is_removed, port.device().is_silent) = (true, true);
+    let read = port.driver().read(1, 0, 1).unwrap();
+    assert_eq!(port.answer(read, 30 * SECOND), Err(Fault::Removed));
+    assert_eq!(port.driver().read(1, 0, 1), Err(Fault::Expired));
     assert_eq!(port.reset(), Err(Fault::Removed));
 }
 
