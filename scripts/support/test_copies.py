@@ -60,8 +60,30 @@ class Copies(OneCrate):
     def test_what_is_between(self):
         texts = self.copy("low", "each#both", False).texts()
         self.assertIn("low n = 1", texts["specs/C0OneLow.antt"])
-        # A clause whose answer is in a file is left to a check of its function.
-        self.assertIsNone(self.copy("low", "each#high"))
+
+    def test_its_own_answer(self):
+        other = "\npub returns-clause-both : goal.returns-clause-both\nreturns-clause-both c = by_hand\n"
+        answers = CRATE["proofs/each/Answers.antt"].replace("c = refl", "c = opened")
+        self.write({"proofs/each/Answers.antt": f"use Rattle.one.proofs.Shut.{{opened}}\n{answers}{other}",
+                    "proofs/Shut.antt": CRATE["proofs/Shut.antt"].replace("opened : shut 0", "opened : shut (low 0)"),
+                    "specs/Low.antt": CRATE["specs/Low.antt"].replace("shut n = 4", "shut n = low 4")})
+        self.read()
+        copy = self.copy("low", "each#high")
+        texts = copy.texts()
+        self.assertEqual(sorted(texts), ["proofs/C0OneShut.antt", "proofs/c0/w/Answers.antt", "specs/C0OneHigh.antt",
+                                         "specs/C0OneLow.antt", "src/c0.rt"])
+        text = texts["proofs/c0/w/Answers.antt"]
+        self.assertIn("use Rattle.one.proofs.C0OneShut.{opened}\nuse Rattle.one.proofs.c0.w.Goals as goal\n", text)
+        self.assertIn("returns-clause-high c = opened\n", text)
+        self.assertNotIn("both", text)
+        found = copy.outcome(["./proofs/c0/w/Answers.antt:5:1: error: `returns-clause-high`: the two types differ"], "no proof")
+        self.assertEqual((found.kind, found.item.path), ("noticed", "proofs/each/Answers.antt"))
+        # What leads into another function's proof is left to a check of that.
+        self.write({"src/lib.rt": CRATE["src/lib.rt"].replace("{}\n\n///", "{}\n\n/// Other.\n#[tactic(auto, using("
+                    "crate::proofs::each::Answers::returns-clause-high))]\nfn other()\n"
+                    "    ensures low { low 0 ≡ 1 }\n{}\n\n///")})
+        self.read()
+        self.assertIsNone(self.copy("low", "other#low"))
 
     def test_variants_of_what_is_left(self):
         new = "pub data Side : Type 0 where\n  Left : Side\n  Right : Side\n\nabbrev pub low : Side → ℕ\nlow Left = 1\n"
@@ -225,8 +247,21 @@ class ClosedCopies(OneCrate):
         self.write({"src/lib.rt": text.replace("low 0 ≡ 1", "shut 0 ≡ 4")})
         self.read()
         lemma = self.copy("shut", "each#low").lemma()
-        self.assertIn("use Rattle.one.specs.C1OneLow.{shut}", lemma)
-        self.assertIn("shut 0 ≡ 4\nunfolding shut\nwitness = refl", lemma)
+        self.assertIn("use Rattle.one.specs.C1OneLow.{shut as opened-0}", lemma)
+        self.assertIn("shut 0 ≡ 4\nunfolding opened-0\nwitness = refl", lemma)
+
+    def test_what_a_module_around_it_opens(self):
+        advice = "#![tactic(auto, unfolding(crate::specs::Low::shut, crate::specs::Low::same))]\n"
+        laws = CRATE["src/lib.rt"].replace("low 0 ≡ 1", "shut 0 ≡ 4")
+        self.write({"src/examples.rt": f"//! Examples.\n{advice}\nmod some;\n", "src/examples/some.rt": laws,
+                    "src/lib.rt": "//! All.\n\nmod examples;\n", "src/other.rt": "//! Other.\n#![tactic(none)]\n"})
+        self.read()
+        copy = self.copy("shut", "examples::some::each#low")
+        self.assertIn("use Rattle.one.specs.C1OneLow.{shut as opened-0}\nuse Rattle.one.specs.Low.{same as opened-1}\n",
+                      copy.lemma())
+        self.assertIn("unfolding opened-0 opened-1\n", copy.lemma())
+        self.assertIn("\n#![tactic(auto, unfolding(crate::specs::C1OneLow::shut, crate::specs::Low::same))]\n", copy.code())
+        self.assertNotIn("none", copy.code())
 
     def test_what_is_not_closed(self):
         for new in ("low 0 ≡ 1 → low 0 ≡ 2", "low 0 < 3"):
@@ -290,6 +325,19 @@ class CodeCopies(OneCrate):
         self.assertIn("fn c1_w() -> u64\n    ensures { result ≡ low 1 }", copy.texts()["src/part/c1.rt"])
         self.assertIn("ghost use Rattle.one.specs.C1OneLow.{low};", copy.texts()["src/part/c1.rt"])
         self.assertEqual(copy.asked_as, "part::c1::c1_w")
+
+    def test_its_own_proof(self):
+        # That of a function in its folder is another's.
+        whole = "use Rattle.one.proofs.part.Part.first.Goals as goal\n\npub returns : goal.returns\nreturns c = refl\n"
+        self.write({"proofs/part/Part/first/Answers.antt": whole, "src/part/Part.rt": "//! Not it.\n",
+                    "src/part/Part/first.rt": "//! Not it.\n\n/// Deeper.\nfn deep()\n{}\n",
+                    "proofs/part/Part/first/deep/Answers.antt": whole.replace("first", "first.deep")})
+        self.read()
+        copy = self.copy("side", "Part::first")
+        texts = copy.texts()
+        self.assertEqual(sorted(texts), ["proofs/part/c1/Part/c1_w/Answers.antt", "specs/C1OneLow.antt", "src/part/c1.rt"])
+        self.assertIn("use Rattle.one.proofs.part.c1.Part.c1_w.Goals as goal\n",
+                      texts["proofs/part/c1/Part/c1_w/Answers.antt"])
 
     def test_what_else_would_have_to_be_wrong(self):
         self.assertIsNone(self.copy("low", "part::calls"))

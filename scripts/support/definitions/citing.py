@@ -46,15 +46,21 @@ class Sources:
                 for name in item.names:
                     self.code_names.setdefault(name, []).append(item)
                 if item.kind == "function":
-                    self.folders[file.crate, folder_of(file.path, item.function)] = item
+                    self.folders[file.crate, folder_of(file.path, item.function.name)] = item
+
+    def around(self, file):
+        """The files of code around one, the outermost first, and itself."""
+        stem = file.path.removesuffix(".rt")
+        found = [it for it in self.files.values() if it.crate == file.crate and (
+            it.path in (file.path, "src/lib.rt", "src/main.rt")
+            or stem.startswith(it.path.removesuffix(".rt").removesuffix("/mod") + "/"))]
+        return sorted(found, key=lambda it: (it is file, it.path not in ("src/lib.rt", "src/main.rt"), len(it.path)))
 
     def advice_for(self, file):
         """What the modules around a file, and the file itself, advise the prover at all their goals."""
-        stem, where = file.path.removesuffix(".rt"), (file.crate, file.path)
+        where = (file.crate, file.path)
         if where not in self.advice:
-            around = [it for it in self.files.values() if it.advice and it.crate == file.crate and (
-                it.path in (file.path, "src/lib.rt", "src/main.rt") or stem.startswith(it.path.removesuffix(".rt") + "/"))]
-            self.advice[where] = self.advised(file, "\n".join(it.advice for it in around))
+            self.advice[where] = self.advised(file, "\n".join(it.advice for it in self.around(file)))
         return self.advice[where]
 
     def code(self, crate, names):

@@ -25,7 +25,7 @@ class ClosedCopy(Copy):
 
     def can_stand_alone(self, _seeing):
         is_closed = not OPEN.search(f"{self.witness.body}\n{self.file.advice}") and "≡" in self.witness.body
-        return is_closed and bool(re.search(r"\bfn\(\)", self.witness.body))
+        return is_closed and not self.own.files and bool(re.search(r"\bfn\(\)", self.witness.body))
 
     @property
     def file(self):
@@ -43,12 +43,13 @@ class ClosedCopy(Copy):
 
     def opened(self):
         """What advice has the prover open: the imports of these, and their names."""
-        for paths in ADVISED.findall(f"{self.witness.body}\n{self.file.advice}"):
-            for path in re.findall(r"\w+(?:::[\w-]+)+", paths):
-                first, *rest, name = path.split("::")
-                new = ["Rattle", self.crate if first == "crate" else first, *rest]
-                place, own = self.place_of(new, name) or (new, name)
-                yield [*place, own]
+        advice = "\n".join([self.witness.body, *(it.advice for it in self.sources.around(self.file))])
+        paths = " ".join(ADVISED.findall(advice))
+        for path in dict.fromkeys(re.findall(r"\w+(?:::[\w-]+)+", paths)):
+            first, *rest, name = path.split("::")
+            new = ["Rattle", self.crate if first == "crate" else first, *rest]
+            place, own = self.place_of(new, name) or (new, name)
+            yield [*place, own]
 
     def types(self, clause):
         """The imports of types of code whose variants the clause names, as functions need none."""
@@ -61,10 +62,11 @@ class ClosedCopy(Copy):
 
     def lemma(self):
         uses = [re.sub(r"^ghost |;$", "", it) for it in self.uses(self.file.text)]
-        opened = [*self.opened()]
-        uses += [f"use {'.'.join(it[:-1])}.{{{it[-1]}}}" for it in opened]
+        # Two of them may have one name.
+        opened = {f"opened-{at}": it for at, it in enumerate(self.opened())}
+        uses += [f"use {'.'.join(it[:-1])}.{{{it[-1]} as {name}}}" for name, it in opened.items()]
         uses += ["use Rattle.std.proofs.Common.{refl}"]
-        unfolding = [f"unfolding {', '.join(it[-1] for it in opened)}"] if opened else []
+        unfolding = [f"unfolding {' '.join(opened)}"] if opened else []
         clause = self.aliased(self.file, self.clause())
         uses += self.types(clause)
         return "\n".join([*uses, "", f"pub witness :\n    {clause}", *unfolding, "witness = refl", ""])

@@ -6,7 +6,7 @@ it calls and the types that it uses stay as they are, so no contract of theirs m
 import re
 
 from support.definitions.copies import Copy
-from support.definitions.items import ADVICE, BLOCK, TYPE
+from support.definitions.items import BLOCK, TYPE
 from support.source import HEAD
 
 IMPORT = re.compile(r"^(?:pub(?:\([a-z]+\))? )?(use [^;]*;)", re.M)
@@ -81,8 +81,7 @@ class CodeCopy(Copy):
         text = self.advice(self.aliased(self.file, text))
         if self.is_method:
             text = f"{block_head(lines, function.first)}\n{text}\n}}"
-        modules = [self.advice(it) for it in ADVICE.findall(self.file.text) if it.startswith("#!")]
         uses = [it if it.startswith("ghost") else f"ghost {it}" for it in self.uses(self.file.text)]
         names = self.names(text)
         own = [f"use super::{{{', '.join(names)}}};"] if names else []
-        return "\n".join(["//! A copy.", *modules, *uses, *self.imports(), *own, "", text, ""])
+        return "\n".join(["//! A copy.", *self.modules_advice(), *uses, *self.imports(), *own, "", text, ""])

@@ -8,7 +8,8 @@ import re
 
 from support.definitions.book import wrong_item
 from support.definitions.citing import DOTTED
-from support.definitions.items import ADVICE, USE, clauses_of, parts_of, without_comments
+from support.definitions.items import ADVICE, USE, clauses_of, folder_of, parts_of, without_comments
+from support.definitions.own_proofs import OwnProof
 from support.definitions.refusals import ERROR, GOAL, MISSING, SECONDARY, Outcome
 from support.definitions.rules import with_words
 from support.trial import NOT_PROVED
@@ -61,11 +62,12 @@ class Copy:
     def __init__(self, sources, crate, witness, definition, mutant=None):
         self.sources, self.crate, self.witness, self.definition, self.mutant = sources, crate, witness, definition, mutant
         self.name, self.lines, self.kept, self.left = "", {}, {witness}, set()
+        self.own = OwnProof(sources, witness)
 
     def collect(self, seeing):
         """Finds the items to copy; whether a copy can be made."""
         while True:
-            named = {one for it in self.kept for one in it.shown | it.inner}
+            named = {one for it in self.kept | self.own.items for one in it.shown | it.inner} - self.own.inside
             places = {(it.crate, it.path) for it in self.kept}
             new = {it for it in named if it in seeing or (it.crate, it.path) in places and is_text(it)
                    and not PUBLIC.match(it.head)}
@@ -80,7 +82,7 @@ class Copy:
 
     def leaks(self):
         """Whether a module's other name leads to what is copied in another module, which that one only hands on."""
-        for it in self.kept:
+        for it in self.kept | self.own.items:
             file = self.sources.files[it.crate, it.path]
             for alias, word in DOTTED.findall(f"{it.head}\n{it.body}") if file.aliases else ():
                 path = file.aliases.get(alias, [])
@@ -95,7 +97,7 @@ class Copy:
     def with_wrong(self, mutant):
         """The same copy with a wrong definition."""
         made = type(self)(self.sources, self.crate, self.witness, self.definition, mutant)
-        made.kept, made.left, made.files = self.kept, self.left, self.files
+        made.kept, made.left, made.files, made.own = self.kept, self.left, self.files, self.own
         return made
 
     @property
@@ -116,6 +118,11 @@ class Copy:
         return f"{self.name}::w"
 
     @property
+    def folder(self):
+        """That of its function's own proof."""
+        return folder_of(self.code_path, self.asked_as)
+
+    @property
     def import_line(self):
         return f"use Rattle.{self.crate}.proofs.{self.module(self.files[self.place])}.{{witness as {self.name}}}"
 
@@ -128,6 +135,8 @@ class Copy:
         return self.name.capitalize() + "".join(it.capitalize() for it in words)
 
     def path_of(self, file):
+        if file in self.own.files:
+            return self.own.new_path(file, self.folder)
         return f"{file.path.partition('/')[0]}/{self.module(file)}.antt"
 
     def copied(self, path):
@@ -207,7 +216,11 @@ class Copy:
         stem = file.path.rpartition(".")[0].replace("/", ".")
         uses = self.uses(file.text) + ([f"use Rattle.{file.crate}.{stem}.{{{', '.join(left)}}}"] if left else [])
         texts = {it: self.item_text(file, it) for it in file.items if it in self.kept}
-        text = "\n".join([*uses, "", *texts.values(), ""])
+        return self.kept_text([*uses, ""], texts)
+
+    def kept_text(self, above, texts):
+        """The text of some items below some lines; at which line each is, is kept."""
+        text = "\n".join([*above, *texts.values(), ""])
         text = with_words(text) if self.mutant and self.definition in texts else text
         self.lines.update((it, text.count("\n", 0, max(text.find(one), 0))) for it, one in texts.items())
         return text
@@ -220,6 +233,11 @@ class Copy:
             return "::".join(["crate", *found[0][2:], found[1]]) if found else it[0]
         return NAMED.sub(named, text)
 
+    def modules_advice(self):
+        """The advice of its function's module, and of those around it, where what is copied is named in the copy."""
+        around = self.sources.around(self.sources.files[self.place])
+        return [self.advice(it) for file in around for it in ADVICE.findall(file.text) if it.startswith("#!")]
+
     def code(self):
         """A function with the clause, with its module."""
         file = self.sources.files[self.place]
@@ -228,9 +246,8 @@ class Copy:
         clause = dict(clauses_of(top))[self.witness.name.partition("#")[2]].rstrip().removesuffix("{}").rstrip()
         head = re.sub(rf"(?:pub )?\bfn {function.word}\b", "fn w", top[:top.index(" ensures")].rstrip(), count=1)
         head = self.aliased(file, head)
-        modules = [it for it in ADVICE.findall(file.text) if it.startswith("#!")]
         uses = [it if it.startswith("ghost") else f"ghost {it}" for it in self.uses(file.text)]
-        return "\n".join(["//! A copy.", *map(self.advice, modules), *CODE_USE.findall(file.text), *uses, "",
+        return "\n".join(["//! A copy.", *self.modules_advice(), *CODE_USE.findall(file.text), *uses, "",
                           self.advice(head), self.aliased(file, clause), "{}", ""])
 
     def texts(self):
@@ -239,10 +256,18 @@ class Copy:
         for (_, path), file in self.files.items():
             if not path.startswith("src/"):
                 made[self.path_of(file)] = self.file_text(file)
+        made.update((self.path_of(it), self.own_text(it)) for it in self.own.files)
         return made
 
+    def own_text(self, file):
+        """A copy of a file of the function's own proof."""
+        lines = file.text.split("\n")
+        texts = {it: self.aliased(file, "\n".join(lines[it.first:it.last + 1])) for it in file.items if it in self.own.items}
+        uses = self.uses(self.own.moved(file.text, self.folder))
+        return self.kept_text([*uses, ""], texts)
+
     def item_at(self, path, line, name):
-        file = next((it for it in self.files.values() if path == self.path_of(it)), None)
+        file = next((it for it in [*self.files.values(), *self.own.files] if path == self.path_of(it)), None)
         if not file:
             return None
         before = [it for it in file.items if self.lines.get(it, line) < line]

@@ -105,10 +105,10 @@ def read_antt(file):
 
 
 def folder_of(path, function):
-    """The folder of a function's proof, below proofs/ of its crate."""
+    """The folder of a function's proof, below proofs/ of its crate; the function as `--only` names it."""
     module = module_of(path)
-    is_free = not module or function.name.startswith(module)
-    return (function.name if is_free else module + function.name).replace("::", "/")
+    is_free = not module or function.startswith(module)
+    return (function if is_free else module + function).replace("::", "/")
 
 
 def without_comments(lines):

@@ -95,9 +95,10 @@ class Place:
                     shutil.copytree(f"{self.asker.folder}/{part}", f"{room}/{part}")
             files, functions = texts_of(copies)
             for path, text in files.items():
-                Path(room, path).parent.mkdir(exist_ok=True)
+                Path(room, path).parent.mkdir(parents=True, exist_ok=True)
                 Path(room, path).write_text(text)
-            for path in files:
+            # A function's own proof is found by its folder.
+            for path in (it for it in files if it.startswith("src/") or it.count("/") == 1):
                 declare(room, path, self.asker.is_program)
             words = [*self.rt.rtlib.guarded(), self.rt.rtlib.RATTLE, "check"]
             words += self.asker.words(["--jobs", "1"], keeps=False)
