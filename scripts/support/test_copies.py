@@ -96,12 +96,12 @@ class Copies(OneCrate):
         texts = self.copy("shut", "opened").texts()
         self.assertEqual(sorted(texts), ["proofs/C0OneShut.antt", "specs/C0OneLow.antt"])
         self.assertIn("shut n = 5", texts["specs/C0OneLow.antt"])
-        self.assertIn("pub witness : shut 0 ≡ 4\nunfolding shut\nwitness = refl", texts["proofs/C0OneShut.antt"])
+        self.assertIn("pub opened : shut 0 ≡ 4\nunfolding shut\nopened = refl", texts["proofs/C0OneShut.antt"])
         self.assertIn("use Rattle.one.specs.C0OneLow.{shut}", texts["proofs/C0OneShut.antt"])
         self.assertNotIn("named", texts["proofs/C0OneShut.antt"])
         files, functions = texts_of([self.copy("low", "each#low"), self.copy("shut", "opened")])
         first = files["proofs/AllCopies.antt"].split("\n")[0]
-        self.assertEqual(first, "use Rattle.one.proofs.C0OneShut.{witness as c0}")
+        self.assertEqual(first, "use Rattle.one.proofs.C0OneShut.{opened as c0}")
         self.assertEqual(functions, ["all_copies::w", "c0::w"])
 
     def test_a_definition_for_proofs(self):
@@ -111,6 +111,24 @@ class Copies(OneCrate):
         self.read()
         texts = self.copy("shut", "by_all").texts()
         self.assertIn("abbrev pub all_shut : ℕ\nall_shut = shut 0\n", texts["proofs/C0OneShut.antt"])
+
+    def test_a_block_without_a_name(self):
+        block = ("\nmodule _ (n : ℕ) where\n  abbrev none : ℕ\n  none = 3\n\n  pub held : shut n ≡ 4\n  unfolding shut\n"
+                 "  held = refl\n")
+        users = ("\npub guessed : shut 0 ≡ shut _\nguessed = refl\n\nafter : shut 1 ≡ 4\nafter = held 1\n"
+                 "\npub last : shut 1 ≡ 4\nlast = after\n")
+        self.write({"proofs/Shut.antt": CRATE["proofs/Shut.antt"] + block + users})
+        self.read()
+        copy = self.copy("shut", "_")
+        self.assertIn("module _ (n : ℕ) where\n  abbrev pub none : ℕ\n  none = 3\n\n  pub held", copy.texts()[
+            "proofs/C0OneShut.antt"])
+        self.assertEqual(copy.import_line, "use Rattle.one.proofs.C0OneShut.{none as c0}")
+        # A `_` is not the block.
+        self.assertNotIn("module", self.copy("shut", "guessed").texts()["proofs/C0OneShut.antt"])
+        # A lemma keeps its name, by which others may name it.
+        text = self.copy("shut", "last").texts()["proofs/C0OneShut.antt"]
+        self.assertIn("module _ (n : ℕ) where\n  abbrev none", text)
+        self.assertIn("pub after : shut 1 ≡ 4\nafter = held 1\n", text)
 
     def test_what_is_handed_on(self):
         # A module that hands a definition on has it as it is.

@@ -21,7 +21,7 @@ ADVISED = re.compile(r"\bunfolding\(([^()]*)\)")
 class ClosedCopy(Copy):
     """A copy of a clause as a lemma."""
 
-    is_lemma = True
+    is_lemma, called = True, "witness"
 
     def can_stand_alone(self, _seeing):
         is_closed = not OPEN.search(f"{self.witness.body}\n{self.file.advice}") and "≡" in self.witness.body

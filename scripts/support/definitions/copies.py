@@ -18,6 +18,8 @@ NAMED = re.compile(r"\b(\w+)::(specs|proofs)::([\w:]+)")
 VERDICT = re.compile(r"fn \w+::(?:\w+::)*?(c\d+)(?:::|_)w: (.*)")
 CODE_USE = re.compile(r"^use [\w:]+.*;$", re.M)
 PUBLIC = re.compile(r"(?:\w+ )?pub ")
+PLAIN = re.compile(r"[\w-]+")
+IN_BLOCK = re.compile(r"^( +(?:abbrev |unfoldable |opaque )?)(?:pub )?([\w-]+) :", re.M)
 # What asks for all lemmas: a file that imports them, line by line, and a function that needs it.
 ASKING = """ghost use Rattle.std.specs.Prelude.{◌≡◌, true};
 
@@ -56,6 +58,12 @@ def is_text(item):
     return item.kind in ("specs", "proofs") and item.path.count("/") == 1
 
 
+def named_by(item):
+    """What an item names. A block without a name is named by one of its lemmas, and not by a `_`."""
+    words = {*re.findall(r"[\w-]+", f"{item.head}\n{item.body}")}
+    return {it for it in item.shown | item.inner if it.name != "_" or words & (it.names - {"_"})}
+
+
 class Copy:
     """A witness with a copy of all that leads to a definition; `mutant` is what is wrong there, nothing in a control."""
 
@@ -67,7 +75,7 @@ class Copy:
     def collect(self, seeing):
         """Finds the items to copy; whether a copy can be made."""
         while True:
-            named = {one for it in self.kept | self.own.items for one in it.shown | it.inner} - self.own.inside
+            named = {one for it in self.kept | self.own.items for one in named_by(it)} - self.own.inside
             places = {(it.crate, it.path) for it in self.kept}
             new = {it for it in named if it in seeing or (it.crate, it.path) in places and is_text(it)
                    and not PUBLIC.match(it.head)}
@@ -123,8 +131,16 @@ class Copy:
         return folder_of(self.code_path, self.asked_as)
 
     @property
+    def called(self):
+        """What a lemma is called in its copy: as it is, since others there may name it. An operator has no name that an
+        import can change, and a block without a name is called by its first lemma."""
+        if self.witness.name == "_":
+            return IN_BLOCK.search(self.witness.head)[2]
+        return self.witness.name if PLAIN.fullmatch(self.witness.name) else "witness"
+
+    @property
     def import_line(self):
-        return f"use Rattle.{self.crate}.proofs.{self.module(self.files[self.place])}.{{witness as {self.name}}}"
+        return f"use Rattle.{self.crate}.proofs.{self.module(self.files[self.place])}.{{{self.called} as {self.name}}}"
 
     @property
     def saved_as(self):
@@ -194,8 +210,10 @@ class Copy:
         is_wrong = self.mutant and item is self.definition
         text = "\n".join(file.text.split("\n")[item.first:item.last + 1])
         text = wrong_item(file.text, self.mutant) if is_wrong else text
-        if item is self.witness:
-            text = re.sub(rf"(?<![\w.-]){re.escape(item.name)}(?![\w-])", "witness", text)
+        if item is self.witness and item.name == "_":
+            text = IN_BLOCK.sub(r"\1pub \2 :", text, count=1)
+        elif item is self.witness and self.called != item.name:
+            text = re.sub(rf"(?<![\w.-]){re.escape(item.name)}(?![\w-])", self.called, text)
         is_shown = PUBLIC.match(text) or text.startswith("module _")
         text = text if is_shown else re.sub(r"^((?:abbrev |unfoldable |opaque )?)", r"\1pub ", text, count=1)
         return self.aliased(file, text)
@@ -271,7 +289,7 @@ class Copy:
         if not file:
             return None
         before = [it for it in file.items if self.lines.get(it, line) < line]
-        named = self.witness if name == "witness" else file.names.get(name)
+        named = self.witness if name == self.called else file.names.get(name)
         return named or (before[-1] if before else None)
 
     def errors(self, said):
