@@ -37,7 +37,7 @@ class Copies(OneCrate):
         item = next(it for it in self.sources.items if it.name == witness)
         made = Copy(self.sources, "one", item, mutant.item, mutant if is_wrong else None)
         made.name = "c0"
-        return made if made.collect(Seeing(self.sources).of(mutant.item)) else None
+        return made if made.collect(Seeing(self.sources, made.is_of_text).of(mutant.item)) else None
 
     def outcomes(self, says, name):
         """What two rounds make of a wrong definition, and what they ask."""
@@ -74,10 +74,10 @@ class Copies(OneCrate):
                                          "specs/C0OneLow.antt", "src/c0.rt"])
         text = texts["proofs/c0/w/Answers.antt"]
         self.assertIn("use Rattle.one.proofs.C0OneShut.{opened}\nuse Rattle.one.proofs.c0.w.Goals as goal\n", text)
-        self.assertIn("returns-clause-high c = opened\n", text)
+        self.assertIn("pub returns : goal.returns\nreturns c = record { high = (opened) }\n", text)
         self.assertNotIn("both", text)
-        found = copy.outcome(["./proofs/c0/w/Answers.antt:5:1: error: `returns-clause-high`: the two types differ"], "no proof")
-        self.assertEqual((found.kind, found.item.path), ("noticed", "proofs/each/Answers.antt"))
+        found = copy.outcome(["./proofs/c0/w/Answers.antt:5:1: error: `returns`: the two types differ"], "no proof")
+        self.assertEqual((found.kind, str(found.item)), ("noticed", "one proofs/each/Answers.antt returns-clause-high"))
         # What leads into another function's proof is left to a check of that.
         self.write({"src/lib.rt": CRATE["src/lib.rt"].replace("{}\n\n///", "{}\n\n/// Other.\n#[tactic(auto, using("
                     "crate::proofs::each::Answers::returns-clause-high))]\nfn other()\n"
@@ -129,6 +129,26 @@ class Copies(OneCrate):
         text = self.copy("shut", "last").texts()["proofs/C0OneShut.antt"]
         self.assertIn("module _ (n : ℕ) where\n  abbrev none", text)
         self.assertIn("pub after : shut 1 ≡ 4\nafter = held 1\n", text)
+
+    def test_a_type_of_code(self):
+        # A lemma that names a type does not see the contracts of its functions, nor of those that have its name.
+        part = ("//! Parts.\nghost use Rattle.one.specs.Low.{low, same};\n\n/// A part.\npub struct Part {\n    pub n: u64,\n"
+                "}\n\nimpl Shows for Part {\n    fn shown(&self) -> u64\n        ensures { result ≡ low 0 }\n    {\n"
+                "        1\n    }\n}\n\n/// One.\nfn part() -> u64\n    ensures { result ≡ low 0 }\n{\n    1\n}\n")
+        lemma = ("use Rattle.one.specs.declared.part.Part.{Part}\nuse Rattle.one.specs.Low.{low}\n\n"
+                 "pub of-part : (p : Part) → low 0 ≡ 1\nof-part p = refl\n")
+        whole = "    pub n: u64,\n    ghost whole: { low n ≡ 1 },\n"
+        trait = "/// A part.\npub trait Part {\n    fn shown(&self) -> u64\n        ensures { result ≡ low 0 };\n}\n"
+        for text, can_be in ((part, True), (part.replace("    pub n: u64,\n", whole), False),
+                             (f"{part[:part.index('/// A')]}{trait}", False)):
+            self.write({"src/part.rt": text, "proofs/Parts.antt": lemma})
+            self.read()
+            self.assertEqual(bool(self.copy("low", "of-part")), can_be)
+        # Contracts are imported by their own path.
+        line = "use Rattle.one.specs.contracts.part.Part\n"
+        self.write({"src/part.rt": part, "proofs/Parts.antt": f"{line}{lemma}"})
+        self.read()
+        self.assertIsNone(self.copy("low", "of-part"))
 
     def test_what_is_handed_on(self):
         # A module that hands a definition on has it as it is.
@@ -249,7 +269,7 @@ class ClosedCopies(OneCrate):
         item = next(it for it in self.sources.items if it.name == witness)
         made = ClosedCopy(self.sources, "one", item, self.mutants[name].item, self.mutants[name])
         made.name = "c1"
-        return made if made.collect(Seeing(self.sources).of(made.definition)) else None
+        return made if made.collect(Seeing(self.sources, made.is_of_text).of(made.definition)) else None
 
     def test_a_lemma_of_it(self):
         copy = self.copy("low", "each#low")
@@ -324,7 +344,7 @@ class CodeCopies(OneCrate):
         item = next(it for it in self.sources.items if it.name == witness)
         made = CodeCopy(self.sources, "one", item, mutant.item, mutant if is_wrong else None)
         made.name = "c1"
-        return made if made.collect(Seeing(self.sources).of(mutant.item)) else None
+        return made if made.collect(Seeing(self.sources, made.is_of_text).of(mutant.item)) else None
 
     def test_a_method(self):
         copy = self.copy("side", "Part::first")

@@ -23,6 +23,8 @@ def block_head(lines, at):
 class CodeCopy(Copy):
     """A copy of a function of code."""
 
+    is_of_text = False
+
     def can_stand_alone(self, seeing):
         function = self.witness.function
         # A cycle of calls has one proof, and a function of a trait the trait's name; what `Self` is must not see it.

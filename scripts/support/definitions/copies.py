@@ -5,6 +5,7 @@ function. All else it imports from where it is. Nothing else in the check sees i
 is due to its definition, if the same copy is proved with the definition as it is.
 """
 import re
+from functools import cache
 
 from support.definitions.book import wrong_item
 from support.definitions.citing import DOTTED
@@ -18,6 +19,7 @@ NAMED = re.compile(r"\b(\w+)::(specs|proofs)::([\w:]+)")
 VERDICT = re.compile(r"fn \w+::(?:\w+::)*?(c\d+)(?:::|_)w: (.*)")
 CODE_USE = re.compile(r"^use [\w:]+.*;$", re.M)
 PUBLIC = re.compile(r"(?:\w+ )?pub ")
+IMPL = re.compile(r"^(?:unsafe )?impl\b", re.M)
 PLAIN = re.compile(r"[\w-]+")
 IN_BLOCK = re.compile(r"^( +(?:abbrev |unfoldable |opaque )?)(?:pub )?([\w-]+) :", re.M)
 # What asks for all lemmas: a file that imports them, line by line, and a function that needs it.
@@ -32,15 +34,17 @@ ALL = "use Rattle.std.proofs.Common.{◌≡◌, true, refl}\n\npub all : true �
 
 
 class Seeing:
-    """Which items see a definition: by what they say, or in the body of a definition, which may be one for proofs."""
+    """Which items see a definition: by what they say, or in the body of a definition, which may be one for proofs. For
+    copies of text, a type of code is what it is declared as, without its functions."""
 
-    def __init__(self, sources):
+    def __init__(self, sources, is_of_text=False):
         self.users, self.found = {}, {}
         opened = {one for item in sources.items for one in item.opens}
         for item in sources.items:
             is_definition = item.kind == "specs" or item.kind == "proofs" and (item.is_open or item in opened)
             for it in item.shown | (item.inner if is_definition else set()):
-                self.users.setdefault(it, []).append(item)
+                if not (is_of_text and names_no_function(item, sources) and is_of_functions(it)):
+                    self.users.setdefault(it, []).append(item)
 
     def of(self, definition):
         if definition not in self.found:
@@ -58,14 +62,31 @@ def is_text(item):
     return item.kind in ("specs", "proofs") and item.path.count("/") == 1
 
 
-def named_by(item):
+def is_of_functions(item):
+    """Whether an item is a function, or a block of them."""
+    return item.kind == "function" or item.kind == "code" and bool(IMPL.search(item.head))
+
+
+def names_no_function(item, sources):
+    """Whether what an item names of code is only types and traits as they are declared, though functions may have the
+    same names: a type itself, or text without an import of contracts. A trait's functions are part of it."""
+    is_type = item.kind == "code" and not is_of_functions(item) and not any(it.kind == "function" for it in item.shown
+                                                                            if it.owner is item)
+    return is_type or is_text(item) and ".specs.contracts." not in sources.files[item.crate, item.path].text
+
+
+@cache
+def named_by(item, sources):
     """What an item names. A block without a name is named by one of its lemmas, and not by a `_`."""
     words = {*re.findall(r"[\w-]+", f"{item.head}\n{item.body}")}
-    return {it for it in item.shown | item.inner if it.name != "_" or words & (it.names - {"_"})}
+    found = {it for it in item.shown | item.inner if it.name != "_" or words & (it.names - {"_"})}
+    return {it for it in found if not is_of_functions(it)} if names_no_function(item, sources) else found
 
 
 class Copy:
     """A witness with a copy of all that leads to a definition; `mutant` is what is wrong there, nothing in a control."""
+
+    is_of_text = True
 
     def __init__(self, sources, crate, witness, definition, mutant=None):
         self.sources, self.crate, self.witness, self.definition, self.mutant = sources, crate, witness, definition, mutant
@@ -75,7 +96,7 @@ class Copy:
     def collect(self, seeing):
         """Finds the items to copy; whether a copy can be made."""
         while True:
-            named = {one for it in self.kept | self.own.items for one in named_by(it)} - self.own.inside
+            named = {one for it in self.kept | self.own.items for one in named_by(it, self.sources)} - self.own.inside
             places = {(it.crate, it.path) for it in self.kept}
             new = {it for it in named if it in seeing or (it.crate, it.path) in places and is_text(it)
                    and not PUBLIC.match(it.head)}
@@ -277,10 +298,20 @@ class Copy:
         made.update((self.path_of(it), self.own_text(it)) for it in self.own.files)
         return made
 
+    def alone(self, text):
+        """The answer to a clause that is alone: its goal is a record of one field."""
+        clause = self.witness.name.partition("#")[2]
+        goal = f"returns-clause-{clause}"
+        text = re.sub(rf"^{goal} (\w+) = ?((?:.|\n)*)", lambda it: (
+            f"{goal} {it[1]} = record {{ {clause} = ({it[2].rstrip()}) }}"), text, flags=re.M)
+        return re.sub(rf"(?<![\w-]){goal}(?![\w-])", "returns", text)
+
     def own_text(self, file):
         """A copy of a file of the function's own proof."""
         lines = file.text.split("\n")
         texts = {it: self.aliased(file, "\n".join(lines[it.first:it.last + 1])) for it in file.items if it in self.own.items}
+        if self.witness.kind == "clause":
+            texts = {it: self.alone(one) for it, one in texts.items()}
         uses = self.uses(self.own.moved(file.text, self.folder))
         return self.kept_text([*uses, ""], texts)
 

@@ -42,7 +42,8 @@ class Asking:
         self.place, self.sources, self.name, self.past = place, sources, place.asker.name, past
         self.witnesses = Witnesses(sources, self.name, [*dict.fromkeys(it.item for it in mutants)])
         # Copies of what is right, by definition; those that wrong definitions were tried by; which of them are proved.
-        self.tried, self.copied, self.asked, self.sound, self.seeing = {}, {}, {}, {}, Seeing(sources)
+        self.tried, self.copied, self.asked, self.sound = {}, {}, {}, {}
+        self.seeing = {it: Seeing(sources, it) for it in (False, True)}
         self.numbers, self.ordering = count(), Ordering(sources)
 
     def batches(self, mutants):
@@ -90,7 +91,7 @@ class Asking:
         """A copy of a witness with the definition as it is; nothing if none can be made, or it is refused."""
         if (item, definition, way) not in self.copied:
             made = way(self.sources, self.name, item, definition)
-            can_be = not is_definition(item) and made.collect(self.seeing.of(definition))
+            can_be = not is_definition(item) and made.collect(self.seeing[way.is_of_text].of(definition))
             self.copied[item, definition, way] = made if can_be else None
         made = self.copied[item, definition, way]
         return made if self.sound.get(made, True) else None
