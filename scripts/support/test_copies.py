@@ -364,6 +364,17 @@ class CodeCopies(OneCrate):
         self.assertIn("ghost use Rattle.one.specs.C1OneLow.{low};", copy.texts()["src/part/c1.rt"])
         self.assertEqual(copy.asked_as, "part::c1::c1_w")
 
+    def test_functions_of_the_same_name(self):
+        # Only what is called in a body is called.
+        named = "impl Part {\n    /// As the other.\n    pub fn low(&self) -> u64\n        ensures { result ≡ def.low 0 }\n"
+        self.write({"src/part.rt": CODE.replace("impl Part {\n", f"{named}    {{\n        1\n    }}\n\n", 1)})
+        self.read()
+        self.assertIsNotNone(self.copy("low", "part::low"))
+        self.assertIsNone(self.copy("low", "part::calls"))
+        item = next(it for it in self.sources.items if it.name == "each#low")
+        clause = Copy(self.sources, "one", item, self.mutants["low"].item)
+        self.assertTrue(clause.collect(Seeing(self.sources, True).of(clause.definition)))
+
     def test_its_own_proof(self):
         # That of a function in its folder is another's.
         whole = "use Rattle.one.proofs.part.Part.first.Goals as goal\n\npub returns : goal.returns\nreturns c = refl\n"

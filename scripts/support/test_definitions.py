@@ -270,6 +270,20 @@ class Batches(OneCrate):
         self.assertEqual(asking.try_batch(self.some("high", "side")), {})
         self.assertEqual({it.item.name: len(tried) for it, tried in asking.tried.items()}, {"high": 0, "side": 1})
 
+    def test_what_seems_to_rest_on_each_other(self):
+        low, high, opened = (next(it for it in self.sources.items if it.name == name) for name in ("low", "high", "opened"))
+        low.shown |= {high, opened}
+        opened.shown.add(low)
+        first = "specs/Low.antt:5:1: error: `low`: expected type `ℕ`\n"
+        second = "specs/High.antt:4:1: error: `high`: expected type `ℕ`\n"
+        self.assertEqual(self.reading(first + second, "low"), {"low": "unread"})
+        # One alone is tried again: its crate is not proved.
+        lemma = "proofs/Shut.antt:7:1: error: `opened`: the two values differ\n"
+        asking = self.asking({"low": second + lemma, "low in full": second + lemma}, "low")
+        high.shown.add(opened)
+        self.assertEqual(asking.try_again(self.mutants["low"], None).kind, "unread")
+        self.assertIsNone(self.asking({}, "low").try_again(self.mutants["low"], None))
+
     def test_a_refusal_that_sees_two(self):
         self.assertEqual(self.reading(goal("both"), "low", "side"), {})
         trying = Trying(None, self.sources, self.crate, self.some("same", "side"), [])

@@ -5,7 +5,7 @@ it calls and the types that it uses stay as they are, so no contract of theirs m
 """
 import re
 
-from support.definitions.copies import Copy
+from support.definitions.copies import Copy, named_by
 from support.definitions.items import BLOCK, TYPE
 from support.source import HEAD
 
@@ -30,7 +30,7 @@ class CodeCopy(Copy):
         # A cycle of calls has one proof, and a function of a trait the trait's name; what `Self` is must not see it.
         is_alone = not function.is_of_trait and "#[cycle" not in self.body() and not re.search(
             rf"\b{function.word}\b", self.body(function.body))
-        called = [it for it in self.witness.inner if it.kind == "function"]
+        called = [it for it in named_by(self.witness, self.sources) if it.kind == "function"]
         owners = {one for it in called if it.owner for one in self.sources.code(it.crate, it.owner.names)}
         return is_alone and not owners & seeing
 

@@ -75,12 +75,21 @@ def names_no_function(item, sources):
     return is_type or is_text(item) and ".specs.contracts." not in sources.files[item.crate, item.path].text
 
 
+def is_called(function, item):
+    """Whether an item can call a function: only what has a body can, and by its name there."""
+    return item.kind not in ("function", "clause") or function.kind != "function" or item.kind == "function" and bool(
+        re.search(rf"\b{function.function.word}\b", item.body))
+
+
 @cache
 def named_by(item, sources):
-    """What an item names. A block without a name is named by one of its lemmas, and not by a `_`."""
+    """What an item names. A block without a name is named by one of its lemmas, and not by a `_`. A contract names no
+    function, though one may have the name of what it names, or of the function that it is of."""
     words = {*re.findall(r"[\w-]+", f"{item.head}\n{item.body}")}
     found = {it for it in item.shown | item.inner if it.name != "_" or words & (it.names - {"_"})}
-    return {it for it in found if not is_of_functions(it)} if names_no_function(item, sources) else found
+    if names_no_function(item, sources):
+        return {it for it in found if not is_of_functions(it)}
+    return {it for it in found if is_called(it, item)}
 
 
 class Copy:
@@ -96,7 +105,7 @@ class Copy:
     def collect(self, seeing):
         """Finds the items to copy; whether a copy can be made."""
         while True:
-            named = {one for it in self.kept | self.own.items for one in named_by(it, self.sources)} - self.own.inside
+            named = self.named()
             places = {(it.crate, it.path) for it in self.kept}
             new = {it for it in named if it in seeing or (it.crate, it.path) in places and is_text(it)
                    and not PUBLIC.match(it.head)}
@@ -108,6 +117,12 @@ class Copy:
         is_by_hand = any(it.kind == "proofs" and not is_text(it) for it in named)
         return self.definition in self.kept and not is_by_hand and all(
             it is self.witness or is_text(it) for it in self.kept) and self.can_stand_alone(seeing) and not self.leaks()
+
+    def named(self):
+        """What is named by what is kept. A function's own proof names nothing of code that the function does not."""
+        kept, own = ({one for it in some for one in named_by(it, self.sources)} for some in (self.kept, self.own.items))
+        of_code = {it for it in own if it.kind == "function" and it in self.own.of_code}
+        return (kept | own - of_code) - self.own.inside
 
     def leaks(self):
         """Whether a module's other name leads to what is copied in another module, which that one only hands on."""

@@ -11,10 +11,12 @@ from support.definitions.items import folder_of
 
 class OwnProof:
     """The files of the proof of a witness, and their items that its copy has. `inside` are these, and the function with
-    its clauses, which the names of goals lead to: what a copy names of them is in the copy."""
+    its clauses, which the names of goals lead to: what a copy names of them is in the copy. `of_code` is what the
+    function may name, as each of its goals does."""
 
     def __init__(self, sources, witness):
-        self.folder, self.crate, self.files, self.items, self.inside = "", witness.crate, [], set(), set()
+        self.folder, self.crate, self.files, self.items = "", witness.crate, [], set()
+        self.inside, self.of_code = set(), set()
         if not witness.function:
             return
         self.folder = folder_of(witness.path, witness.function.name)
@@ -23,8 +25,9 @@ class OwnProof:
         everything = {it for file in found for it in file.items}
         self.items = everything if witness.kind == "function" else reached(witness, everything)
         self.files = [it for it in found if self.items & {*it.items}]
-        self.inside = self.items | {it for it in sources.files[witness.crate, witness.path].items
-                                    if it.function is witness.function} if self.files else set()
+        own = {it for it in sources.files[witness.crate, witness.path].items if it.function is witness.function}
+        self.inside = self.items | own if self.files else set()
+        self.of_code = {one for it in own for one in it.shown | it.inner}
 
     def is_of(self, sources, path):
         """Whether a file is of this function's proof, rather than of that of one whose folder is in its own."""

@@ -89,9 +89,11 @@ class Reading:
                 self.take(refusal)
 
     def rests_on_refused(self, item):
-        """Whether an item rests on another one that is refused. A law's clauses are refused one by one."""
+        """Whether an item rests on another one that is refused. A law's clauses are refused one by one, and a wrong
+        definition for its own sake, though it may seem to rest on what needs it."""
         reached = self.sources.basis(item)[0]
-        return any(it in reached for it in self.refused if it is not item)
+        is_wrong = any(it.item is item for it in self.batch)
+        return not is_wrong and any(it in reached for it in self.refused if it is not item)
 
     def take(self, refusal):
         entered = self.sources.basis(refusal.item)[1]

@@ -157,15 +157,16 @@ class Asking:
         return {**self.check_some(copies[:half]), **self.check_some(copies[half:])}
 
     def try_again(self, mutant, item):
-        """Tries one alone by an item that noticed it, and then by its whole crate; gives what came of it."""
+        """Tries one alone by an item that noticed it, and then by its whole crate; gives what came of it. If what is
+        refused seems to rest on each other, the crate is still not proved."""
         seeing = [it.item for it in self.witnesses.of.get(mutant.item, ())[:1]]
         only = [it for one in [item, *seeing] for it in self.witnesses.asks.get(one, ())[:1]][:1]
         for functions in dict.fromkeys((tuple(only), ())):
             said = self.place.check([mutant], functions, LONG)
-            found = Reading(said, self.sources, self.name, [mutant]).outcomes.get(mutant)
-            if found:
-                return found
-        return None
+            read = Reading(said, self.sources, self.name, [mutant])
+            if read.outcomes:
+                return read.outcomes[mutant]
+        return self.by_words(said, read) if read.refused and not read.is_lost else None
 
     def functions(self, mutants):
         """All functions that see one of these."""
