@@ -76,6 +76,9 @@ class Copies(OneCrate):
         self.assertIn("use Rattle.one.proofs.C0OneShut.{opened}\nuse Rattle.one.proofs.c0.w.Goals as goal\n", text)
         self.assertIn("pub returns : goal.returns\nreturns c = record { high = (opened) }\n", text)
         self.assertNotIn("both", text)
+        # One answer may be to all clauses.
+        joint = "pub returns : goal.returns\nreturns c =\n    let a = 1 in\n    record { high = of (b; c); both = d }\n"
+        self.assertEqual(copy.alone(joint), "pub returns : goal.returns\nreturns c =\n    let a = 1 in\n    record { high = of (b; c)}\n")
         found = copy.outcome(["./proofs/c0/w/Answers.antt:5:1: error: `returns`: the two types differ"], "no proof")
         self.assertEqual((found.kind, str(found.item)), ("noticed", "one proofs/each/Answers.antt returns-clause-high"))
         # What leads into another function's proof is left to a check of that.

@@ -11,6 +11,7 @@ from support.definitions.book import wrong_item
 from support.definitions.citing import DOTTED
 from support.definitions.items import ADVICE, USE, clauses_of, folder_of, parts_of, without_comments
 from support.definitions.own_proofs import OwnProof
+from support.definitions.reading import split_at
 from support.definitions.refusals import ERROR, GOAL, MISSING, SECONDARY, Outcome
 from support.definitions.rules import with_words
 from support.trial import NOT_PROVED
@@ -19,6 +20,8 @@ NAMED = re.compile(r"\b(\w+)::(specs|proofs)::([\w:]+)")
 VERDICT = re.compile(r"fn \w+::(?:\w+::)*?(c\d+)(?:::|_)w: (.*)")
 CODE_USE = re.compile(r"^use [\w:]+.*;$", re.M)
 PUBLIC = re.compile(r"(?:\w+ )?pub ")
+# An answer to all clauses at once, and its fields.
+ANSWER = re.compile(r"^(returns \w+ =\s(?:(?:.|\n)*?\s)?record \{)((?:.|\n)*)\}\s*\Z", re.M)
 IMPL = re.compile(r"^(?:unsafe )?impl\b", re.M)
 PLAIN = re.compile(r"[\w-]+")
 IN_BLOCK = re.compile(r"^( +(?:abbrev |unfoldable |opaque )?)(?:pub )?([\w-]+) :", re.M)
@@ -60,6 +63,12 @@ class Seeing:
 def is_text(item):
     """Whether an item is a definition or a lemma rather than code, or a part of a function's proof."""
     return item.kind in ("specs", "proofs") and item.path.count("/") == 1
+
+
+def pieces(text):
+    """Where the fields of a record's inside begin and end."""
+    borders = [-1, *split_at(text, ";"), len(text)]
+    return [(start + 1, end) for start, end in zip(borders, borders[1:])]
 
 
 def is_of_functions(item):
@@ -314,9 +323,14 @@ class Copy:
         return made
 
     def alone(self, text):
-        """The answer to a clause that is alone: its goal is a record of one field."""
+        """The answer to a clause that is alone: its goal is a record of one field, which may be one of several."""
         clause = self.witness.name.partition("#")[2]
         goal = f"returns-clause-{clause}"
+        joint = ANSWER.search(text)
+        if joint and clause:
+            some = [joint[2][start:end] for start, end in pieces(joint[2])]
+            field = next((it for it in some if it.split("=")[0].strip() == clause), joint[2])
+            return f"{text[:joint.start(2)]}{field}{text[joint.end(2):]}"
         text = re.sub(rf"^{goal} (\w+) = ?((?:.|\n)*)", lambda it: (
             f"{goal} {it[1]} = record {{ {clause} = ({it[2].rstrip()}) }}"), text, flags=re.M)
         return re.sub(rf"(?<![\w-]){goal}(?![\w-])", "returns", text)
