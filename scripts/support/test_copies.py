@@ -295,13 +295,14 @@ class ClosedCopies(OneCrate):
         advice = "#![tactic(auto, unfolding(crate::specs::Low::shut, crate::specs::Low::same))]\n"
         laws = CRATE["src/lib.rt"].replace("low 0 ≡ 1", "shut 0 ≡ 4")
         self.write({"src/examples.rt": f"//! Examples.\n{advice}\nmod some;\n", "src/examples/some.rt": laws,
-                    "src/lib.rt": "//! All.\n\nmod examples;\n", "src/other.rt": "//! Other.\n#![tactic(none)]\n"})
+                    "src/lib.rt": "//! All.\n#![tactic(auto, unfolding(crate::specs::Low::same))]\n\nmod examples;\n", "src/other.rt": "//! Other.\n#![tactic(none)]\n"})
         self.read()
         copy = self.copy("shut", "examples::some::each#low")
-        self.assertIn("use Rattle.one.specs.C1OneLow.{shut as opened-0}\nuse Rattle.one.specs.Low.{same as opened-1}\n",
+        self.assertIn("use Rattle.one.specs.Low.{same as opened-0}\nuse Rattle.one.specs.C1OneLow.{shut as opened-1}\n",
                       copy.lemma())
         self.assertIn("unfolding opened-0 opened-1\n", copy.lemma())
-        self.assertIn("\n#![tactic(auto, unfolding(crate::specs::C1OneLow::shut, crate::specs::Low::same))]\n", copy.code())
+        line = "#![tactic(auto, unfolding(crate::specs::Low::same, crate::specs::C1OneLow::shut))]"
+        self.assertEqual([it for it in copy.code().split("\n") if it.startswith("#!")], [line])
         self.assertNotIn("none", copy.code())
 
     def test_what_is_not_closed(self):

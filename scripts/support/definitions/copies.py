@@ -297,9 +297,16 @@ class Copy:
         return NAMED.sub(named, text)
 
     def modules_advice(self):
-        """The advice of its function's module, and of those around it, where what is copied is named in the copy."""
+        """The advice of its function's module and of those around it in one line, since a module has one; what is copied
+        is named in the copy there."""
         around = self.sources.around(self.sources.files[self.place])
-        return [self.advice(it) for file in around for it in ADVICE.findall(file.text) if it.startswith("#!")]
+        lines = [it for file in around for it in ADVICE.findall(file.text) if it.startswith("#!")]
+        parts = [lines[-1].removeprefix("#![tactic(").partition(",")[0].rstrip(")]")] if lines else []
+        for word in ("using", "unfolding"):
+            lists = [it for line in lines for it in re.findall(rf"\b{word}\(([^()]*)\)", line)]
+            paths = dict.fromkeys(one.strip() for it in lists for one in it.split(","))
+            parts += [f"{word}({', '.join(paths)})"] if paths else []
+        return [self.advice(f"#![tactic({', '.join(parts)})]")] if lines else []
 
     def code(self):
         """A function with the clause, with its module."""
