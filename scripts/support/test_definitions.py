@@ -271,7 +271,8 @@ class Batches(OneCrate):
         self.assertEqual({it.item.name: len(tried) for it, tried in asking.tried.items()}, {"high": 0, "side": 1})
 
     def test_what_seems_to_rest_on_each_other(self):
-        low, high, opened = (next(it for it in self.sources.items if it.name == name) for name in ("low", "high", "opened"))
+        names = ("low", "high", "opened")
+        low, high, opened = (next(it for it in self.sources.items if it.name == name) for name in names)
         low.shown |= {high, opened}
         opened.shown.add(low)
         first = "specs/Low.antt:5:1: error: `low`: expected type `ℕ`\n"

@@ -297,8 +297,8 @@ class Copy:
         return NAMED.sub(named, text)
 
     def modules_advice(self):
-        """The advice of its function's module and of those around it in one line, since a module has one; what is copied
-        is named in the copy there."""
+        """The advice of its function's module and of those around it, in one line, since a module has one; what is
+        copied is named in the copy there."""
         around = self.sources.around(self.sources.files[self.place])
         lines = [it for file in around for it in ADVICE.findall(file.text) if it.startswith("#!")]
         parts = [lines[-1].removeprefix("#![tactic(").partition(",")[0].rstrip(")]")] if lines else []
