@@ -76,6 +76,8 @@ class Copies(OneCrate):
         self.assertIn("use Rattle.one.proofs.C0OneShut.{opened}\nuse Rattle.one.proofs.c0.w.Goals as goal\n", text)
         self.assertIn("pub returns : goal.returns\nreturns c = record { high = (opened) }\n", text)
         self.assertNotIn("both", text)
+        self.assertEqual(copy.alone("returns-clause-high c q r =\n    of q\n"),
+                         "returns c = record { high = (λ q r. \n    of q) }")
         # One answer may be to all clauses.
         joint = "pub returns : goal.returns\nreturns c =\n    let a = 1 in\n    record { high = of (b; c); both = d }\n"
         self.assertEqual(copy.alone(joint), joint.replace("; both = d }", "}"))

@@ -338,8 +338,8 @@ class Copy:
             some = [joint[2][start:end] for start, end in pieces(joint[2])]
             field = next((it for it in some if it.split("=")[0].strip() == clause), joint[2])
             return f"{text[:joint.start(2)]}{field}{text[joint.end(2):]}"
-        text = re.sub(rf"^{goal} (\w+) = ?((?:.|\n)*)", lambda it: (
-            f"{goal} {it[1]} = record {{ {clause} = ({it[2].rstrip()}) }}"), text, flags=re.M)
+        text = re.sub(rf"^{goal} (\w+)((?: [\w-]+)*) = ?((?:.|\n)*)", lambda it: (
+            f"{goal} {it[1]} = record {{ {clause} = ({f'λ{it[2]}. ' if it[2] else ''}{it[3].rstrip()}) }}"), text, flags=re.M)
         return re.sub(rf"(?<![\w-]){goal}(?![\w-])", "returns", text)
 
     def own_text(self, file):
