@@ -171,6 +171,13 @@ class Copies(OneCrate):
         self.read()
         self.assertIsNone(self.copy("shut", "aliased"))
 
+    def test_a_lemma_that_no_function_imports(self):
+        self.write({"src/lib.rt": CRATE["src/lib.rt"][:CRATE["src/lib.rt"].index("/// By lemmas")]})
+        self.read()
+        asking = Asking(CopyProver(self.crate, {}), self.sources, self.some("shut"))
+        self.assertEqual([it.witness.name for it in asking.candidates(self.mutants["shut"], False)], ["opened"])
+        self.assertEqual(asking.batches(self.some("shut")), [])
+
     def test_noticed(self):
         self.assertEqual(self.outcomes({"each#same wrong": REFUSED}, "same"),
                          ([("noticed", "each#same")], [["each#same", "each#same wrong"]]))

@@ -42,8 +42,11 @@ class Witnesses:
         self.files = {path: it for (name, path), it in sources.files.items() if name == crate}
         self.imported = imports_of(sources, crate)
         self.importers = importers_of(self.imported)
-        self.all = [it for file in self.files.values() for it in map(self.witness, file.items) if it]
-        self.all.sort(key=lambda it: (bin(it.bits).count("1"), KINDS[it.item.kind]))
+        # A lemma that no function's proof imports can be copied, but not asked for.
+        found = [it for file in self.files.values() for it in map(self.witness, file.items) if it]
+        found.sort(key=lambda it: (bin(it.bits).count("1"), KINDS[it.item.kind]))
+        self.copied = {one: [it for it in found if it.bits & bit] for one, bit in self.bit.items()}
+        self.all = [it for it in found if it.asks]
         self.of = {one: [it for it in self.all if it.bits & bit] for one, bit in self.bit.items()}
         self.asks = {it.item: it.asks for it in self.all}
 
@@ -56,7 +59,7 @@ class Witnesses:
             return None
         bits = self.seen(item)
         asks = (item.function.name,) if item.function else self.importers.get(item.path, ())
-        return Witness(item, bits, asks) if bits and asks else None
+        return Witness(item, bits, asks) if bits else None
 
     def own(self, definition, batch_bits, tried=frozenset()):
         """The witnesses of a definition that see no other one of a batch, the most special first."""

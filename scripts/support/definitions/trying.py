@@ -82,7 +82,7 @@ class Asking:
     def candidates(self, mutant, is_code):
         """Copies of the witnesses of a wrong definition's definition, the likeliest first: functions of code, or
         what is none."""
-        items = (it.item for it in self.witnesses.of.get(mutant.item, ()) if (it.item.kind == "function") == is_code)
+        items = (it.item for it in self.witnesses.copied.get(mutant.item, ()) if (it.item.kind == "function") == is_code)
         some = sorted(items, key=lambda it: self.ordering.order(it, mutant))
         found = (next(filter(None, (self.copy_of(it, mutant.item, way) for way in WAYS[it.kind])), None) for it in some)
         return islice(filter(None, found), self.past, None)
