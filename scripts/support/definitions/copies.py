@@ -66,7 +66,7 @@ def is_text(item):
 
 
 def pieces(text):
-    """Where the fields of a record's inside begin and end."""
+    """The first place of each field of a record's inside, and the place after it."""
     borders = [-1, *split_at(text, ";"), len(text)]
     return [(start + 1, end) for start, end in zip(borders, borders[1:])]
 
@@ -92,8 +92,8 @@ def is_called(function, item):
 
 @cache
 def named_by(item, sources):
-    """What an item names. A block without a name is named by one of its lemmas, and not by a `_`. A contract names no
-    function, though one may have the name of what it names, or of the function that it is of."""
+    """What an item names. A block without a name is named by one of its lemmas: a `_` is another thing. A contract names
+    no function, though one may have the name of what it names, or of the function that it is of."""
     words = {*re.findall(r"[\w-]+", f"{item.head}\n{item.body}")}
     found = {it for it in item.shown | item.inner if it.name != "_" or words & (it.names - {"_"})}
     if names_no_function(item, sources):
