@@ -39,8 +39,9 @@ class Guest:
                  "-no-reboot", "-nodefaults", "-serial", "stdio", "-nic", "user,model=e1000", "-kernel",
                  str(built / "vmlinuz"), "-initrd", str(initramfs), *devices, "-append",
                  # no_timer_check: on a loaded machine the timer fails that check, and the kernel panics.
+                 # norandmaps: QEMU translates a program again for each address that it is mapped at.
                  "console=ttyS0 panic=-1 quiet loglevel=7 mitigations=off random.trust_cpu=on no_timer_check "
-                 f"suvmileh={host} {more}"]
+                 f"norandmaps suvmileh={host} {more}"]
         words += ["-S", "-incoming", f"exec:cat {saved}"] if saved else []
         begun = time.monotonic()
         self.process = subprocess.Popen(words, stdin=subprocess.PIPE, stdout=subprocess.PIPE, bufsize=0)

@@ -16,8 +16,8 @@ from linux.pairs import HERE, MACHINES, RESOURCES, Pair, fill, adapted
 from linux.scenes import free_port
 
 OTHER = {"t1": "t2", "t2": "t1"}
-# Another number for each change of a guest's devices.
-FORM = 2
+# Another number for each change of a guest's devices or of its kernel's command line.
+FORM = 3
 # Bytes of DRBD's metadata, for a small disk.
 METADATA = 1 << 20
 MOUNT = "mkdir -p /share && mount -t 9p -o trans=virtio,version=9p2000.L share /share"
@@ -90,7 +90,7 @@ class Twin(Guest):
 
 
 def key_of(built: Path, image: Path, volume: Path) -> str:
-    """What a saved state depends on, besides the devices of its guests."""
+    """What a saved state depends on, besides the devices and the command line of its guests."""
     state = hashlib.sha256(f"{FORM} {built.name} {image.stat().st_mtime} {volume.stat().st_size} {SLOW}".encode())
     for it in ("init", "target-node", "fence_guest", RESOURCES, "drbd.res", "targets.corosync.conf"):
         state.update(adapted((HERE / it).read_text()).encode())
