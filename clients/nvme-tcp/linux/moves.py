@@ -13,6 +13,7 @@ from linux.namespaces import Namespace, make_cables
 from linux.network import network_namespace
 from linux.pairs import MACHINES, TOKEN, Pair, fill
 from linux.scenes import config
+from linux.steps import steps_of
 from linux.twins import restore, saved
 from linux.writers import TRY, Watch, Writer, is_served, turns
 from tests.host import BLOCK, Host
@@ -125,12 +126,16 @@ class Moves(Pair):
         self.say_outages(begun)
 
     def say_outages(self, begun: float) -> None:
-        """Prints how long each host had no answer, and what that depends on."""
+        """Prints how long each host had no answer, what that depends on, and the steps of Pacemaker meanwhile."""
         ends, lengths = (", ".join(f"{it.outage(begun)[which]:.1f} for {it.number:x}" for it in self.writers)
                          for which in (0, 1))
         say(f"seconds from then to the first answer of t2: {ends}; the token is {TOKEN} ms, the lease {LEASE} s")
         load = f"load {os.getloadavg()[0]:.0f}"
         say(f"seconds without an answer: {lengths}; a host tries again after {TRY:.2g} s; {load}")
+        for it in MACHINES:
+            if it not in self.fencer.fenced:
+                taken = steps_of(self.guests[it], self.share(it), begun)
+                say(f"seconds from then to the steps on {it}: {'; '.join(taken)}")
 
     def end(self) -> None:
         """The hosts end, and read what they wrote."""

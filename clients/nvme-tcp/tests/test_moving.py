@@ -9,6 +9,7 @@ from typing import Callable, List
 from linux.fencer import Fencer
 from linux.machines import SLOW
 from linux.pairs import HERE, TOKEN, adapted
+from linux.steps import clock, steps
 from linux.writers import Expected, Watch, Writer, turns
 from tests.host import BLOCK
 from tests.targets import BLOCKS, PROGRAM, TargetTest
@@ -62,6 +63,24 @@ class Settings(unittest.TestCase):
         self.assertEqual(text.count("--script"), 2)
         # Else Pacemaker does one action at a time on a busy machine.
         self.assertEqual(text.count("property load-threshold="), 2)
+
+
+class Steps(unittest.TestCase):
+    def test_steps(self) -> None:
+        """Steps of one name are joined; checks, and what came before, are left out."""
+        log = "".join(f"Nov 30 23:59:{at} t2 pacemaker-controld  [2] (do_it) \tnotice: {text}\n" for at, text in (
+            ("55.900", "Requesting local execution of start operation for other on t2 | transition_key=1"),
+            ("57.500", "Cluster node t1 is now lost (was member)"),
+            ("58.000", "Requesting fencing (reboot) of node t1 | action=1 timeout=60000"),
+            ("58.100", "Requesting local execution of notify operation for mirror on t2 | transition_key=2"),
+            ("58.400", "Result of notify operation for mirror on t2: ok | graph action confirmed; call=2 rc=0"),
+            ("58.500", "Requesting local execution of notify operation for mirror on t2 | transition_key=3"),
+            ("58.900", "Peer t1 was terminated (reboot) by t2 on behalf of pacemaker-controld.2@t2: OK | event=4"),
+            ("59.100", "Result of notify operation for mirror on t2: ok | graph action confirmed; call=3 rc=0"),
+            ("59.200", "Requesting local execution of monitor operation for mirror on t2 | transition_key=5"),
+            ("59.400", "Result of monitor operation for mirror on t2: promoted | CIB update 57, call=5 rc=0")))
+        self.assertEqual(steps(log, clock("Nov 30 23:59:56.000")),
+                         ["t1 is lost 1.5", "fencing t1 2.0 to 2.9", "notify mirror 2.1 to 3.1"])
 
 
 class Power(unittest.TestCase):
