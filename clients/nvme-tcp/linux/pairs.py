@@ -33,7 +33,8 @@ def adapted(text: str) -> str:
     """
     text = re.sub(r"(timeout=|interval=|t2:)(\d+)s", lambda it: f"{it[1]}{int(int(it[2]) * SLOW)}s", text)
     text = re.sub(r"(ping-timeout) (\d+)", lambda it: f"{it[1]} {min(int(int(it[2]) * SLOW), 300)}", text)
-    for word, number in (("token: TOKEN", TOKEN), ("consensus: CONSENSUS", CONSENSUS)):
+    for word, number in (("token: TOKEN", TOKEN), ("consensus: CONSENSUS", CONSENSUS),
+                         ("knet_ping_interval: INTERVAL", TOKEN // 4), ("knet_ping_timeout: TIMEOUT", 2 * TOKEN)):
         text = text.replace(word, f"{word.split()[0]} {number}")
     text = text.replace("--trust-network", f"--trust-network {KEEP}")
     return text if NAMESPACES else text.replace(TARGET, f"meta target-role=Stopped {TARGET}")

@@ -59,7 +59,9 @@ class Settings(unittest.TestCase):
                          f"ping-timeout {int(10 * SLOW)};\n")
         text = "".join(adapted((HERE / it).read_text()) for it in ("drbd.crm", "targets.crm", "targets.corosync.conf"))
         self.assertIn(f"token: {TOKEN}\n", text)
-        self.assertNotRegex(text, r": (TOKEN|CONSENSUS)")
+        # A link that is given up before the token is lost would lose it.
+        self.assertIn(f"knet_ping_timeout: {2 * TOKEN}\n", text)
+        self.assertNotRegex(text, r": (TOKEN|CONSENSUS|INTERVAL|TIMEOUT)")
         self.assertEqual(text.count("--script"), 2)
         # Else Pacemaker does one action at a time on a busy machine.
         self.assertEqual(text.count("property load-threshold="), 2)
