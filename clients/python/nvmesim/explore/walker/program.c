@@ -18,7 +18,7 @@
 #include <ucontext.h>
 #include <unistd.h>
 
-enum { PAGE = 4096, MOST_REGIONS = 256, MOST_FILES = 64, BELOW_FRAME = 1024 };
+enum { PAGE = 4096, PIECE = 256, MOST_REGIONS = 256, MOST_FILES = 64, BELOW_FRAME = 1024 };
 
 static const size_t ARENA = (size_t)8 << 30, STACK = 1 << 20, MOST_PAGES = 1 << 17;
 
@@ -27,11 +27,11 @@ struct region {
 };
 
 struct snapshot {
-    size_t capacity, page_count, stack_size;
+    size_t capacity, used, page_count, stack_size;
     uint64_t left;
     char *stack;
     ucontext_t program;
-    char bytes[];
+    char bytes[]; /* for each piece whether it differs from its base, then those that do: the stack, and the pages */
 };
 
 /* What the program calls instead of the C library's functions. */
@@ -41,9 +41,9 @@ struct snapshot {
 static struct {
     ucontext_t program, walker;
     struct region arena, regions[MOST_REGIONS], files[MOST_FILES];
-    size_t region_count, page_count, copied, output_size;
+    size_t region_count, page_count, copied, output_size, first_size;
     struct text input;
-    char *used, *stack, *stack_end, *output, **pages, *before;
+    char *used, *stack, *stack_end, *output, **pages, *before, *first_stack;
     void *heap_end;
     uint64_t left; /* calls of the image until one fails, 0 if none does */
     bool is_tracking;
@@ -316,28 +316,91 @@ void begin_tracking(void)
             give_up("unsuited", "its memory can't be protected", (struct text){"", 0});
 }
 
+static size_t pieces(size_t size) { return (size + PIECE - 1) / PIECE; }
+
+/* The room that a copy needs for its notes of what differs, at its beginning. */
+static size_t notes_size(size_t stack_size, size_t page_count)
+{
+    return pieces(stack_size) + page_count * (PAGE / PIECE);
+}
+
+/* Appends the pieces of memory that differ from its base, and notes which; the end of what was appended. Without a base
+ * all do. */
+static char *put(char *to, bool *differs, const char *at, const char *base, size_t size)
+{
+    for (size_t n = 0; n < size; n += PIECE, differs++) {
+        size_t some = size - n < PIECE ? size - n : PIECE;
+        *differs = base == NULL || memcmp(at + n, base + n, some) != 0;
+        if (*differs) {
+            memcpy(to, at + n, some);
+            to += some;
+        }
+    }
+    return to;
+}
+
+/* Brings back the pieces that were appended, and the base for the others; the end of what was read. Without notes it is
+ * the base alone. */
+static const char *get(const char *from, const bool *differs, char *at, const char *base, size_t size)
+{
+    for (size_t n = 0; n < size; n += PIECE) {
+        size_t some = size - n < PIECE ? size - n : PIECE;
+        if (differs != NULL && *differs++) {
+            memcpy(at + n, from, some);
+            from += some;
+        } else if (memcmp(at + n, base + n, some) != 0) {
+            memcpy(at + n, base + n, some);
+        }
+    }
+    return from;
+}
+
+/* Keeps the stack of the first copy, as the base of the others. */
+static void keep_first_stack(size_t size)
+{
+    if (it->first_stack != NULL)
+        return;
+    it->first_stack = mapped(size);
+    it->first_size = size;
+    memcpy(it->first_stack, it->stack, size);
+}
+
+/* Makes room for a copy that has this size at most. */
+static struct snapshot *with_room(struct snapshot *copy, size_t size)
+{
+    if (copy != NULL && copy->capacity >= size)
+        return copy;
+    size_t capacity = size + size / 4 + PAGE;
+    if (copy != NULL) {
+        it->copied -= copy->used;
+        munmap(copy, sizeof *copy + copy->capacity);
+    }
+    copy = (void *)mapped(sizeof *copy + capacity);
+    copy->capacity = capacity;
+    return copy;
+}
+
 void save(struct snapshot **copy)
 {
-    size_t stack_size = (size_t)(it->stack_end - it->stack), size = stack_size + it->page_count * PAGE;
-    struct snapshot *found = *copy;
-    if (found == NULL || found->capacity < size) {
-        size_t capacity = size + size / 4 + PAGE;
-        it->copied += capacity;
-        if (found != NULL) {
-            it->copied -= found->capacity;
-            munmap(found, sizeof *found + found->capacity);
-        }
-        *copy = found = (void *)mapped(sizeof *found + capacity);
-        found->capacity = capacity;
-    }
+    size_t stack_size = (size_t)(it->stack_end - it->stack), notes = notes_size(stack_size, it->page_count);
+    keep_first_stack(stack_size);
+    struct snapshot *found = *copy = with_room(*copy, notes + stack_size + it->page_count * PAGE);
     found->program = it->program;
     found->stack = it->stack;
     found->left = it->left;
     found->stack_size = stack_size;
     found->page_count = it->page_count;
-    memcpy(found->bytes, it->stack, stack_size);
-    for (size_t n = 0; n < it->page_count; n++)
-        memcpy(found->bytes + stack_size + n * PAGE, it->pages[n], PAGE);
+    bool *differs = (bool *)found->bytes;
+    const char *base = stack_size == it->first_size ? it->first_stack : NULL;
+    char *to = put(found->bytes + notes, differs, it->stack, base, stack_size);
+    differs += pieces(stack_size);
+    for (size_t n = 0; n < it->page_count; n++, differs += PAGE / PIECE)
+        to = put(to, differs, it->pages[n], it->before + n * PAGE, PAGE);
+    size_t used = (size_t)(to - found->bytes);
+    if (used > found->used) { /* the system gives memory where it is written first */
+        it->copied += used - found->used;
+        found->used = used;
+    }
 }
 
 static bool is_of_image(const char *page)
@@ -348,16 +411,30 @@ static bool is_of_image(const char *page)
     return false;
 }
 
+/* The end of a page's pieces, which are not brought back. */
+static const char *skipped(const char *from, const bool *differs)
+{
+    for (size_t n = 0; differs != NULL && n < PAGE / PIECE; n++)
+        from += differs[n] ? PIECE : 0;
+    return from;
+}
+
 static void bring_back(const struct snapshot *copy, bool has_image)
 {
-    const char *pages = copy->bytes + copy->stack_size;
+    const bool *differs = (const bool *)copy->bytes;
+    const char *from = copy->bytes + notes_size(copy->stack_size, copy->page_count);
     it->program = copy->program;
     it->stack = copy->stack;
     it->left = copy->left;
-    memcpy(copy->stack, copy->bytes, copy->stack_size);
-    for (size_t n = 0; n < it->page_count; n++)
+    from = get(from, differs, copy->stack, it->first_stack, copy->stack_size);
+    differs += pieces(copy->stack_size);
+    for (size_t n = 0; n < it->page_count; n++) {
+        const bool *notes = n < copy->page_count ? differs + n * (PAGE / PIECE) : NULL;
         if (has_image || !is_of_image(it->pages[n]))
-            memcpy(it->pages[n], (n < copy->page_count ? pages : it->before) + n * PAGE, PAGE);
+            from = get(from, notes, it->pages[n], it->before + n * PAGE, PAGE);
+        else
+            from = skipped(from, notes);
+    }
 }
 
 void restore(const struct snapshot *copy) { bring_back(copy, true); }
