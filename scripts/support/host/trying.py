@@ -37,7 +37,7 @@ COMMANDS = (
       "namespaces": [{"nsid": 1, "blocks": 2048, "block_size": 512}]}),
 )
 # What bench prints: a line of the requests, and one of their latencies.
-BENCH = re.compile(r"read: (\d+) requests in 1\.\d s, IOPS \d+, \d+\.\d MiB/s\n"
+BENCH = re.compile(r"read: (\d+) requests in \d+\.\d s, IOPS \d+, \d+\.\d MiB/s\n"
                    r"latency in microseconds: least [\d.]+, mean [\d.]+, p50 [\d.]+, p90 [\d.]+, p99 [\d.]+, p99\.9 [\d.]+, "
                    r"p99\.99 [\d.]+, most [\d.]+\n")
 LATENCIES = ("least", "p50", "p90", "p99", "p99.9", "p99.99", "most")
@@ -186,7 +186,7 @@ class Trial:
             said = json.loads(text)
             times, seconds = [said["latency_ns"][it] for it in LATENCIES], said["seconds"]
             is_right = [said[it] for it in ("command", "request", "nsid", "blocks", "depth")] == [
-                "bench", what, 1, 8, depth] and times == sorted(times) and 1 <= seconds < 2 and said["requests"] > 100
+                "bench", what, 1, 8, depth] and times == sorted(times) and 1 <= seconds and said["requests"] > 100
             close = abs(said["iops"] - said["requests"] / seconds) < said["iops"] / 500
             is_right = is_right and close and abs(said["bytes_per_second"] - 4096 * said["iops"]) <= 4096
             self.check(f"nvmehost --json bench {what}", not is_right and text.decode())
