@@ -133,7 +133,10 @@ impl Path {
             }
             let address = all[below(all.len())];
             if once_in(self.habits.visits) {
+                let begun = now();
                 self.visit(address);
+                // Meanwhile it asked for nothing that could be refused.
+                refused = refused.map(|(by, since)| (by, since + now() - begun));
             }
             match self.connect(address) {
                 Ok(mut session) => {
