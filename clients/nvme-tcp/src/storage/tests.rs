@@ -1,104 +1,18 @@
-//! The disk of a target over one in memory, whose calls wait at a gate, fail, or take a while.
+//! The disk of a target over one in memory.
 
 use super::*;
 use crate::nvme::{entry::SubmissionEntry, status::SUCCESS, BLOCK};
 use crate::target::answer::Answer;
-use std::collections::{BTreeSet, HashSet};
-use std::sync::{Condvar, Mutex};
-use std::thread;
-use std::time::Duration;
+use fake::{Call, Fake};
+use std::collections::BTreeSet;
 
 mod ahead;
+mod fake;
 mod records;
 
 const SIZE: usize = BLOCK as usize;
 /// Frames of the smallest cache, in blocks.
 const CACHED: u64 = 4 * frames::MOST_PARTS as u64 * frames::FRAME as u64;
-
-/// What a call is on: its kind, and its first block.
-type Call = (char, u64);
-
-#[derive(Default)]
-struct Fake {
-    bytes: Mutex<Vec<u8>>,
-    calls: Mutex<Vec<Call>>,
-    /// Calls that fail.
-    refused: Mutex<HashSet<Call>>,
-    is_closed: Mutex<bool>,
-    opens: Condvar,
-    /// Whether calls take a while, some longer than others.
-    is_slow: bool,
-}
-
-impl Fake {
-    fn new(blocks: u64) -> Fake {
-        let bytes = (0..blocks).flat_map(|it| vec![it as u8; SIZE]).collect();
-        Fake { bytes: Mutex::new(bytes), ..Fake::default() }
-    }
-
-    fn call(&self, kind: char, place: u64, blocks: u64) -> io::Result<()> {
-        drop(self.opens.wait_while(self.is_closed.lock().unwrap(), |it| *it).unwrap());
-        let first = place / BLOCK;
-        let count = {
-            let mut calls = self.calls.lock().unwrap();
-            calls.push((kind, first));
-            calls.len()
-        };
-        if self.is_slow {
-            thread::sleep(Duration::from_micros(count as u64 * 7919 % 300));
-        }
-        let refused = self.refused.lock().unwrap();
-        if (first..first + blocks.max(1)).any(|it| refused.contains(&(kind, it))) {
-            return Err(io::ErrorKind::Other.into());
-        }
-        Ok(())
-    }
-
-    fn close(&self, is_closed: bool) {
-        *self.is_closed.lock().unwrap() = is_closed;
-        self.opens.notify_all();
-    }
-
-    fn refuse(&self, kind: char, block: u64) {
-        self.refused.lock().unwrap().insert((kind, block));
-    }
-}
-
-impl Disk for Fake {
-    fn read(&self, place: u64, room: &mut [u8]) -> io::Result<()> {
-        self.call('r', place, room.len() as u64 / BLOCK)?;
-        room.copy_from_slice(&self.bytes.lock().unwrap()[place as usize..place as usize + room.len()]);
-        Ok(())
-    }
-
-    fn write(&self, place: u64, bytes: &[u8]) -> io::Result<()> {
-        self.call('w', place, bytes.len() as u64 / BLOCK)?;
-        self.bytes.lock().unwrap()[place as usize..place as usize + bytes.len()].copy_from_slice(bytes);
-        Ok(())
-    }
-
-    fn zero(&self, place: u64, count: u64) -> io::Result<()> {
-        self.call('z', place, count / BLOCK)?;
-        self.bytes.lock().unwrap()[place as usize..(place + count) as usize].fill(0);
-        Ok(())
-    }
-
-    fn sync(&self) -> io::Result<()> {
-        self.call('s', 0, 0)
-    }
-
-    fn blocks(&self) -> u64 {
-        (self.bytes.lock().unwrap().len() / SIZE) as u64
-    }
-
-    fn check(&self) -> io::Result<()> {
-        Ok(())
-    }
-
-    fn is_cached(&self) -> bool {
-        false
-    }
-}
 
 /// A disk, and what its commands have been answered.
 struct Trial {

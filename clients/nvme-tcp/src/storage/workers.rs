@@ -11,7 +11,7 @@ use std::sync::{Arc, Condvar, Mutex, MutexGuard, PoisonError};
 use std::thread;
 
 /// How many threads there are. Each does one job at a time.
-const THREADS: usize = 8;
+pub(super) const THREADS: usize = 8;
 /// How many of them read ahead at a time.
 const AHEAD_THREADS: usize = 2;
 /// The most buffers of reads that are kept for the next ones.

@@ -1,6 +1,7 @@
 //! Reads ahead of commands: how many calls the disk has.
 
 use super::*;
+use crate::storage::workers::THREADS;
 
 impl Trial {
     /// Reads, of which the disk may see others before; how many calls the disk has had for it and before.
@@ -65,19 +66,26 @@ fn reads_ahead_delay_no_others() {
     let mut it = Trial::new(Fake::new(4 * CACHED), false);
     [0, 8].into_iter().for_each(|first| assert!(it.read_in_order(0, first, 8) != 0));
     it.disk.close(true);
-    // Each of the eight threads has one of the first eight, and waits at the gate. What is ahead comes next.
-    let ids: Vec<u64> = (0..12).map(|_| it.id()).collect();
-    for (at, id) in (0..).zip(&ids) {
-        if at == 8 {
-            it.storage.read_ahead(0, Need::Read { first: 16, blocks: 8 });
-        }
-        assert!(!it.storage.prepare(Need::Read { first: CACHED + 64 * at, blocks: 8 }, *id));
+    let place = |nth: usize| CACHED + 64 * nth as u64;
+    let begin = |it: &mut Trial, nth| {
+        let id = it.id();
+        assert!(!it.storage.prepare(Need::Read { first: place(nth), blocks: 8 }, id));
+    };
+    (0..THREADS).for_each(|nth| begin(&mut it, nth));
+    it.storage.hand_out();
+    it.disk.wait_for_calls(THREADS);
+    // Each thread has one of these, and waits at the gate. What is ahead comes before four others.
+    it.storage.read_ahead(0, Need::Read { first: 16, blocks: 8 });
+    (THREADS..THREADS + 4).for_each(|nth| begin(&mut it, nth));
+    it.storage.hand_out();
+    for nth in THREADS..THREADS + 4 {
+        it.disk.let_one_pass();
+        assert_eq!(it.disk.wait_for_calls(nth + 1), Some(('r', place(nth))));
     }
+    it.disk.let_one_pass();
+    assert_eq!(it.disk.wait_for_calls(THREADS + 5), Some(('r', 24)));
     it.disk.close(false);
     it.settle();
-    let calls = it.calls();
-    // Each of the other threads may have one of the twelve that has not reached the disk yet.
-    assert!(calls.iter().position(|it| it.1 == 24) >= Some(2 + 12 - 7), "{calls:?}");
 }
 
 #[test]
