@@ -50,8 +50,11 @@ impl Target<'_> {
         Ok(Some(answer))
     }
 
-    /// An admin command that is the subsystem's.
+    /// An admin command that is the subsystem's. Zeroes that have begun end before one that may deny them.
     pub fn plain(&mut self, index: usize, entry: &SubmissionEntry, data: Data<'_>) -> Outcome<Answer> {
+        if matches!(entry.opcode(), NAMESPACE_ATTACHMENT | SET_FEATURES) {
+            self.end_begun_zeroes()?;
+        }
         let completed = self.controllers[index].run(&mut self.machine, 0, entry, data)?;
         if completed.status == SUCCESS {
             self.follow(index, 0, entry, data, &completed);

@@ -182,6 +182,7 @@ impl<'a> Server<'a> {
         }
         if self.target.take_turn()? {
             self.apply_effects()?;
+            self.resume_stalled()?;
         } else if is_idle {
             self.target.hand_out();
             self.awaited().map_or(Ok(()), |handed| self.target.wait_for(handed))?;
@@ -195,7 +196,6 @@ impl<'a> Server<'a> {
             self.resume_listeners(now)?;
             self.target.machine.rest_run()?;
             self.target.log.rest(now);
-            self.target.storage.iter_mut().for_each(Storage::rest);
         }
         Ok(())
     }
@@ -295,6 +295,10 @@ impl<'a> Server<'a> {
     fn take_blocks(&mut self) -> Outcome<()> {
         self.target.storage.as_mut().map_or(Ok(()), Storage::take_finished)?;
         self.apply_effects()?;
+        self.resume_stalled()
+    }
+
+    fn resume_stalled(&mut self) -> Outcome<()> {
         for name in mem::take(&mut self.stalled) {
             self.finish(name, false)?;
         }

@@ -27,9 +27,8 @@ mod tests;
 use crate::control::log::warn;
 use crate::fabrics::association::ConnectionId;
 use crate::fault::{Fault, Outcome};
-use crate::memory::ZeroRoom;
 use crate::nvme::status::{READ_ERROR, WRITE_FAULT};
-use crate::nvme::{BLOCK, COMPARE, MOST_BLOCKS, READ};
+use crate::nvme::{COMPARE, READ};
 use crate::target::answer::Answer;
 use crate::waker::Wakeup;
 use barriers::Barriers;
@@ -50,7 +49,7 @@ use std::time::Instant;
 use streams::Streams;
 use syncs::Syncs;
 use workers::Workers;
-use writing::{Zeroing, MOST_WRITTEN};
+use writing::Zeroing;
 
 /// Commands wait with this many that wait for writes, this many zeroes, or this many bytes to read.
 const MOST_OPEN: usize = 4096;
@@ -85,8 +84,8 @@ pub struct Storage {
     /// The blocks of a command whose frames are not adjacent in memory, and whether the last command has them there.
     room: Vec<u8>,
     is_in_room: bool,
-    /// The room of commands that zero many blocks, once there was one.
-    zero_room: Option<ZeroRoom>,
+    /// The ticket of a command whose pieces zero blocks in the cache. The disk zeroes them after the last one.
+    in_pieces: Option<u64>,
     /// What the disk refused, so that its blocks may be older than those that were written.
     failure: Option<io::Error>,
     /// Whether a failure ends the target, since a kept run has no line for it.
@@ -124,7 +123,7 @@ impl Storage {
             starved: Vec::new(),
             room: Vec::new(),
             is_in_room: false,
-            zero_room: None,
+            in_pieces: None,
             failure: None,
             keeps_run,
             name,
@@ -203,7 +202,8 @@ impl Storage {
             Need::Write { first, blocks } => (Extent { first, blocks }, false),
             Need::Zero { first, blocks } if self.failure.is_none() => {
                 let bytes = Extent { first, blocks }.bytes();
-                return (self.room_for_zeros(bytes), Brought { first, blocks: 0, flushes: false });
+                self.room.resize(bytes.max(self.room.len()), 0);
+                return (&mut self.room[..bytes], Brought { first, blocks: 0, flushes: false });
             }
             Need::Zero { .. } | Need::Nothing => return (&mut [], Brought::default()),
             Need::Flush => return (&mut [], Brought { flushes: self.failure.is_none(), ..Brought::default() }),
@@ -223,25 +223,6 @@ impl Storage {
             self.frame(number);
         }
         (self.bring_bytes(extent, blocks), Brought { first, blocks, flushes: false })
-    }
-
-    /// A room for this many zeros. A long one takes no memory.
-    fn room_for_zeros(&mut self, bytes: usize) -> &mut [u8] {
-        if bytes > MOST_WRITTEN && self.zero_room.is_none() {
-            self.zero_room = ZeroRoom::new(MOST_BLOCKS as usize * BLOCK as usize).ok();
-        }
-        match &mut self.zero_room {
-            Some(room) if bytes > MOST_WRITTEN => room.lend(bytes),
-            _ => {
-                self.room.resize(bytes.max(self.room.len()), 0);
-                &mut self.room[..bytes]
-            }
-        }
-    }
-
-    /// Is called ten times a second.
-    pub fn rest(&mut self) {
-        self.zero_room.iter_mut().for_each(ZeroRoom::rest);
     }
 
     /// The bytes of blocks, the first of which are in the cache: in it, or in a room with copies of those.
@@ -278,6 +259,24 @@ impl Storage {
     /// Begins a command that may write: its ticket.
     pub fn open(&mut self, index: usize) -> u64 {
         self.ledger.open(index)
+    }
+
+    /// Begins a command of a controller whose pieces zero blocks: its ticket.
+    pub fn begin_pieces(&mut self, index: usize) -> u64 {
+        let ticket = self.open(index);
+        self.in_pieces = Some(ticket);
+        ticket
+    }
+
+    /// The last piece was executed.
+    pub fn end_pieces(&mut self) {
+        self.in_pieces = None;
+    }
+
+    /// No further piece of the command with this ticket is executed, and it is not answered.
+    pub fn leave_pieces(&mut self, ticket: u64) {
+        self.end_pieces();
+        self.end(&[ticket]);
     }
 
     /// How many commands of a controller are open.

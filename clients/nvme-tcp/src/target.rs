@@ -109,6 +109,7 @@ pub struct Target<'a> {
     /// The disk, unless the blocks are in memory; and the commands that wait for it.
     pub storage: Option<Storage>,
     pub waiting: Waiting,
+    /// The commands that zero many blocks.
     pub long_zeroes: LongZeroes,
     /// Buffers of answers.
     pub buffers: Buffers,
@@ -204,13 +205,17 @@ impl<'a> Target<'a> {
         if self.holds[index] && self.hold(connection, index, qid, entry, data)? {
             return Ok(None);
         }
+        let issued = Issued { connection, index, qid, entry: *entry, opcode: entry.opcode() };
+        if self.wait_for_turns(issued, data) {
+            return Ok(None);
+        }
         if self.storage.is_some() {
-            return self.io_over_disk(Issued { connection, index, qid, entry: *entry, opcode: entry.opcode() }, data);
+            return self.io_over_disk(issued, data);
         }
         if entry.opcode() == DATASET_MANAGEMENT {
             return self.deallocate(index, qid, entry, data, None).map(Some);
         }
-        let watch = self.watch(index, entry);
+        let watch = self.watch(index, entry)?;
         let completed = self.controllers[index].run(&mut self.machine, qid, entry, data)?;
         self.answer_of(index, qid, entry, data, completed, watch.as_ref()).map(Some)
     }

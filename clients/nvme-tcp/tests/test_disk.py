@@ -123,9 +123,10 @@ class Direct(Larger):
 
 
 class LongZeroes(TargetTest):
-    """Commands that zero many blocks: each is one event of the subsystem, whole or denied."""
+    """Commands that zero many blocks: each is executed in pieces of at most 1,024 blocks, whole or denied."""
 
     image, config = 131072, config_of(131072)
+    pieces = 65536 // 1024
 
     def setUp(self) -> None:
         room = tempfile.TemporaryDirectory()
@@ -144,7 +145,8 @@ class LongZeroes(TargetTest):
         """The controllers of all commands that were executed, in order."""
         return [it.split()[1] for it in self.script.read_text().splitlines() if it.startswith("execute ")]
 
-    def test_others_are_served_between_two(self) -> None:
+    def test_others_are_served_between_two_pieces(self) -> None:
+        """So a command never holds the event loop for longer than a piece takes."""
         a, b = self.host(queues=2), self.host(0xb2)
         self.assertEqual(b.write(131064, b"\1" * 4096), 0)
         before = len(self.executed_by())
@@ -156,9 +158,9 @@ class LongZeroes(TargetTest):
         self.target.process.send_signal(signal.SIGCONT)
         self.assertEqual(b.queues[0].completion().data, b"\1" * 4096)
         self.assertEqual([queue.completion().status for queue in a.queues for _ in range(4)], [0] * 8)
-        # The read waits for two of them at most, and each is one event.
+        # The read waits for two pieces at most, and each is one event.
         events = self.executed_by()[before:]
-        self.assertEqual(sorted(events), ["1"] * 8 + ["2"])
+        self.assertEqual(sorted(events), ["1"] * 8 * self.pieces + ["2"])
         self.assertLessEqual(events.index("2"), 2)
 
     def outcome(self, readers: Host, status: int) -> None:
@@ -201,17 +203,23 @@ class LongZeroes(TargetTest):
                 self.assertEqual(b.reserve(0x15, 1 << 8, 0xb), 0)
 
     def test_a_host_that_goes(self) -> None:
-        """Its command is executed as a whole or not at all, and the next host has its controller."""
-        a, b = self.host(), self.host(0xb2)
-        self.assertEqual({b.write(slba, b"\1" * 512) for slba in (1, 65535)}, {0})
-        self.stop()
-        a.queues[0].send_command(0x08, 1, struct.pack("<QI", 0, 65535))
-        a.queues[0].socket.close()
-        a.close()
-        self.target.process.send_signal(signal.SIGCONT)
-        self.assertEqual(self.host().write(0, b"\2" * 512), 0)
-        self.assertEqual(b.read(0, 1).data[:1], b"\2")
-        self.assertEqual(b.read(1, 1).data, b.read(65535, 1).data)
+        """Its command is executed up to some block. The next host has its controller, and a Flush does not wait."""
+        b, places = self.host(0xb2), range(1, 65536, 2048)
+        for seconds in [it * 0.0005 for it in range(10)]:
+            a = self.host()
+            self.assertEqual({b.write(slba, b"\1" * 512) for slba in places}, {0})
+            self.stop()
+            a.queues[0].send_command(0x08, 1, struct.pack("<QI", 0, 65535))
+            self.target.process.send_signal(signal.SIGCONT)
+            time.sleep(seconds)
+            a.queues[0].socket.close()
+            a.close()
+            again = self.host()
+            self.assertEqual([again.write(0, b"\2" * 512), again.flush(), b.flush()], [0, 0, 0])
+            self.assertEqual(b.read(0, 1).data[:1], b"\2")
+            left = [b.read(slba, 1).data[:1] for slba in places]
+            self.assertEqual(left, sorted(left))
+            again.close()
 
     def test_memory(self) -> None:
         """The room of 32 MiB of zeros takes no memory afterwards."""

@@ -40,9 +40,14 @@ impl SubmissionEntry {
         let mut other = *self;
         other.0[0] = opcode;
         other.0[PRP1..].fill(0);
-        put(&mut other.0, CDW10, &slba.to_le_bytes());
-        put(&mut other.0, CDW12, &nlb.to_le_bytes());
-        other
+        other.at_blocks(slba, nlb)
+    }
+
+    /// The same command on blocks from `slba`, whose number is one more than `nlb`.
+    pub fn at_blocks(mut self, slba: u64, nlb: u16) -> SubmissionEntry {
+        put(&mut self.0, CDW10, &slba.to_le_bytes());
+        put(&mut self.0, CDW12, &nlb.to_le_bytes());
+        self
     }
 
     #[inline]

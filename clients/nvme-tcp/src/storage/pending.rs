@@ -111,15 +111,15 @@ impl Target<'_> {
     /// Whether a controller may take no command with this opcode until work of the disk ends. Those of other controllers
     /// do not wait for that, except zeroes.
     pub fn is_busy(&self, index: usize, opcode: u8) -> bool {
+        let zeroes = matches!(opcode, WRITE_ZEROES | DATASET_MANAGEMENT);
         let storage = match &self.storage {
             Some(storage) => storage,
-            None => return false,
+            None => return zeroes && self.long_zeroes.is_full(),
         };
         storage.open_of(index) >= MOST_OPEN
             || self.controllers[index].fetched() >= MOST_FETCHED
             || self.waiting.bytes_of(index) >= MOST_DATA
-            || matches!(opcode, WRITE_ZEROES | DATASET_MANAGEMENT)
-                && (storage.has_many_zeroes() || self.long_zeroes.is_full())
+            || zeroes && (storage.has_many_zeroes() || self.long_zeroes.is_full())
     }
 
     /// Whether a connection has commands that will be answered.
@@ -129,16 +129,8 @@ impl Target<'_> {
             || self.storage.as_ref().map_or(false, |it| it.owes(connection))
     }
 
-    /// Executes an I/O command over the disk, or has it wait.
-    pub fn io_over_disk(&mut self, issued: Issued, data: Data<'_>) -> Outcome<Option<Answer>> {
-        if self.wait_for_turn(&issued, data) {
-            return Ok(None);
-        }
-        self.execute_now(issued, data)
-    }
-
     /// Executes an I/O command over the disk, or has it wait for blocks.
-    pub fn execute_now(&mut self, issued: Issued, data: Data<'_>) -> Outcome<Option<Answer>> {
+    pub fn io_over_disk(&mut self, issued: Issued, data: Data<'_>) -> Outcome<Option<Answer>> {
         if issued.opcode == DATASET_MANAGEMENT {
             let ticket = self.storage.as_mut().map(|it| it.open(issued.index));
             let answer = self.deallocate(issued.index, issued.qid, &issued.entry, data, ticket)?;
@@ -241,7 +233,7 @@ impl Target<'_> {
         let Issued { index, qid, entry, .. } = issued;
         let is_write = matches!(need, Need::Write { .. } | Need::Zero { .. });
         let ticket = if is_write { self.storage.as_mut().map(|it| it.open(*index)) } else { None };
-        let watch = self.watch(*index, entry);
+        let watch = self.watch(*index, entry)?;
         let completed = self.execute_over(*index, token, need, buffer.start(data.length()), ticket)?;
         let answer = self.answer_of(*index, *qid, entry, data, completed, watch.as_ref())?;
         let ticket = ticket.or_else(|| self.storage.as_mut().and_then(|it| it.follow_writes(need, *index)));
@@ -284,7 +276,7 @@ impl Target<'_> {
     }
 
     /// The answer of a command, unless it has a ticket and a write of it is in progress.
-    fn owe(&mut self, ticket: Option<u64>, issued: &Issued, answer: Answer) -> Option<Answer> {
+    pub fn owe(&mut self, ticket: Option<u64>, issued: &Issued, answer: Answer) -> Option<Answer> {
         let has_write_cache = self.has_write_cache(issued.index);
         let (storage, ticket) = match (&mut self.storage, ticket) {
             (Some(storage), Some(ticket)) => (storage, ticket),
@@ -318,6 +310,7 @@ impl Target<'_> {
                 self.forget(id, index, pending.was_held);
             }
         }
-        self.long_zeroes.drop(index, qid);
+        let begun = self.long_zeroes.drop(index, qid);
+        self.storage.iter_mut().zip(begun).for_each(|(storage, ticket)| storage.leave_pieces(ticket));
     }
 }

@@ -8,6 +8,7 @@ use std::collections::BTreeSet;
 
 mod ahead;
 mod fake;
+mod pieces;
 mod records;
 
 const SIZE: usize = BLOCK as usize;

@@ -52,12 +52,11 @@ impl Storage {
     /// Zeros replace blocks in the cache, and on the disk later. Blocks that were to be written are zeros instead. Whole
     /// frames leave the cache if they can: that takes less time, and one that comes back has zeros.
     pub(super) fn take_zeros(&mut self, extent: Extent, ticket: u64) {
-        // A long room is not kept.
+        // A long room, which a command had that was held, is not kept.
         if self.room.len() > MOST_WRITTEN {
             self.room = Vec::new();
         }
-        let mut tickets = vec![ticket];
-        self.ledger.add(ticket);
+        let mut tickets = Vec::new();
         for part in extent.parts() {
             if self.cache.drop_whole(part) {
                 continue;
@@ -72,7 +71,20 @@ impl Storage {
                 });
             }
         }
-        self.zeroing.push(Zeroing { extent, changed_by: ticket, tickets, is_running: false });
+        let is_before =
+            |it: &&mut Zeroing| !it.is_running && it.changed_by == ticket && it.extent.end() == extent.first;
+        match self.zeroing.iter_mut().find(is_before) {
+            // The disk zeroes adjacent pieces of a command together.
+            Some(before) => {
+                before.extent.blocks += extent.blocks;
+                before.tickets.append(&mut tickets);
+            }
+            None => {
+                self.ledger.add(ticket);
+                tickets.push(ticket);
+                self.zeroing.push(Zeroing { extent, changed_by: ticket, tickets, is_running: false });
+            }
+        }
     }
 
     pub(super) fn begin_writes(&mut self, is_alone: bool) -> Outcome<()> {
@@ -145,6 +157,7 @@ impl Storage {
         for at in 0..self.zeroing.len() {
             let extent = self.zeroing[at].extent;
             let is_held = self.zeroing[at].is_running
+                || self.in_pieces == Some(self.zeroing[at].changed_by)
                 || !self.barriers.has_passed(self.zeroing[at].changed_by)
                 || self.zeroing[..at].iter().any(|it| it.extent.meets(extent))
                 || self.writing.iter().any(|number| extent.frames().contains(number));

@@ -1,10 +1,11 @@
-//! Dataset Management: ranges to deallocate are zeroed, each by a Write Zeroes of the subsystem, in their order.
+//! Dataset Management: ranges to deallocate are zeroed, each by a Write Zeroes of the subsystem, in their order. Long
+//! ranges are zeroed in pieces.
 
 use crate::bytes::{u32_at, u64_at};
 use crate::fault::Outcome;
 use crate::nvme::entry::SubmissionEntry;
 use crate::nvme::status::{Status, DATA_TRANSFER, OUT_OF_RANGE, SIZE_LIMIT, SUCCESS};
-use crate::nvme::{MOST_BLOCKS, WRITE_ZEROES};
+use crate::nvme::{DATASET_MANAGEMENT, MOST_BLOCKS, WRITE_ZEROES};
 use crate::target::answer::Answer;
 use crate::target::controller::{Completed, Data};
 use crate::target::Target;
@@ -20,13 +21,30 @@ const NOWHERE: u64 = u64::MAX;
 #[derive(Clone, Copy, Debug, PartialEq, Eq)]
 pub struct Range {
     slba: u64,
-    count: u64,
+    pub count: u64,
 }
 
 impl Range {
     /// Whether a namespace with this number of blocks has all of them.
     fn is_within(self, blocks: u64) -> bool {
         self.slba <= blocks && self.count <= blocks - self.slba
+    }
+
+    /// Takes its first blocks, at most `most`.
+    pub fn take(&mut self, most: u64) -> Range {
+        let front = Range { count: self.count.min(most), ..*self };
+        self.slba += front.count;
+        self.count -= front.count;
+        front
+    }
+
+    /// The Write Zeroes of it, in the name of a command. One within a namespace has no more blocks than one zeroes.
+    pub fn zeroing(self, entry: &SubmissionEntry) -> SubmissionEntry {
+        let nlb = (self.count - 1) as u16;
+        match entry.opcode() {
+            WRITE_ZEROES => entry.at_blocks(self.slba, nlb),
+            _ => entry.on_blocks(WRITE_ZEROES, self.slba, nlb),
+        }
     }
 }
 
@@ -39,8 +57,17 @@ enum Plan<'d> {
     Nothing(Status),
 }
 
+impl<'d> Plan<'d> {
+    fn bytes(self) -> &'d [u8] {
+        match self {
+            Plan::Zero(bytes) => bytes,
+            Plan::Nothing(_) => &[],
+        }
+    }
+}
+
 /// The ranges that have blocks.
-fn ranges_of(bytes: &[u8]) -> impl Iterator<Item = Range> + '_ {
+fn ranges_of(bytes: &[u8]) -> impl Iterator<Item = Range> + Clone + '_ {
     let all = bytes.chunks_exact(RANGE).map(|it| Range { slba: u64_at(it, 8), count: u32_at(it, 4).into() });
     all.filter(|it| it.count != 0)
 }
@@ -64,28 +91,27 @@ fn plan_of<'d>(entry: &SubmissionEntry, data: Data<'d>, blocks: u64) -> Plan<'d>
     Plan::Zero(bytes)
 }
 
-/// The Write Zeroes of a range, in the name of a command. A range within a namespace has no more blocks than one
-/// zeroes.
-fn zeroing(entry: &SubmissionEntry, range: Range) -> SubmissionEntry {
-    entry.on_blocks(WRITE_ZEROES, range.slba, (range.count - 1) as u16)
-}
-
-/// How many blocks a command zeroes.
-pub fn blocks_to_zero(entry: &SubmissionEntry, data: Data<'_>, blocks: u64) -> u64 {
-    match plan_of(entry, data, blocks) {
-        Plan::Zero(bytes) => ranges_of(bytes).map(|it| it.count).sum(),
-        Plan::Nothing(_) => 0,
-    }
+/// The ranges that a command zeroes unless a rule denies it. A Write Zeroes of blocks that the namespace does not have
+/// is denied.
+pub fn ranges_to_zero<'d>(
+    entry: &SubmissionEntry,
+    data: Data<'d>,
+    blocks: u64,
+) -> impl Iterator<Item = Range> + Clone + 'd {
+    let own = Range { slba: entry.slba(), count: u64::from(entry.nlb()) + 1 };
+    let own = Some(own).filter(|it| entry.opcode() == WRITE_ZEROES && it.is_within(blocks));
+    let bytes = match entry.opcode() {
+        DATASET_MANAGEMENT => plan_of(entry, data, blocks).bytes(),
+        _ => &[],
+    };
+    own.into_iter().chain(ranges_of(bytes))
 }
 
 /// The Write Zeroes that a command comes to, if it is one alone.
 pub fn only_zeroing(entry: &SubmissionEntry, data: Data<'_>, blocks: u64) -> Option<SubmissionEntry> {
-    let mut ranges = match plan_of(entry, data, blocks) {
-        Plan::Zero(bytes) => ranges_of(bytes),
-        Plan::Nothing(_) => return None,
-    };
+    let mut ranges = ranges_of(plan_of(entry, data, blocks).bytes());
     match (ranges.next(), ranges.next()) {
-        (Some(range), None) => Some(zeroing(entry, range)),
+        (Some(range), None) => Some(range.zeroing(entry)),
         _ => None,
     }
 }
@@ -104,13 +130,13 @@ impl Target<'_> {
             Plan::Zero(bytes) => bytes,
             // The rules judge it as they do a Write Zeroes that passes all of them but the last.
             Plan::Nothing(status) => {
-                let nowhere = zeroing(entry, Range { slba: NOWHERE, count: 1 });
+                let nowhere = Range { slba: NOWHERE, count: 1 }.zeroing(entry);
                 let denied = self.zero(index, qid, &nowhere, ticket)?.status;
                 return Ok(Answer::of(if denied == OUT_OF_RANGE { status } else { denied }));
             }
         };
         for range in ranges_of(bytes) {
-            let completed = self.zero(index, qid, &zeroing(entry, range), ticket)?;
+            let completed = self.zero(index, qid, &range.zeroing(entry), ticket)?;
             if completed.status != SUCCESS {
                 return Ok(Answer::of(completed.status));
             }

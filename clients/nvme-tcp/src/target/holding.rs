@@ -68,7 +68,7 @@ impl Target<'_> {
     /// Executes a command that was held, over blocks in memory.
     fn release_one(&mut self, index: usize, pending: &Pending) -> Outcome<()> {
         let (Issued { connection, qid, mut entry, opcode, .. }, data) = (pending.issued, pending.data());
-        let watch = self.watch(index, &entry);
+        let watch = self.watch(index, &entry)?;
         let (controller, machine) = (&mut self.controllers[index], &mut self.machine);
         let need = controller.need(machine, pending.token)?;
         let completed = controller.execute(machine, pending.token, need, pending.buffer.start(data.length()))?;

@@ -29,12 +29,16 @@ fn action_of(entry: &SubmissionEntry) -> Option<Action> {
 
 impl Target<'_> {
     /// Looks at the reservation before a controller executes an I/O command; nothing unless that is a reservation
-    /// command.
-    pub fn watch(&mut self, index: usize, entry: &SubmissionEntry) -> Option<Watch> {
-        let (action, nsid) = (action_of(entry)?, entry.namespace_id());
+    /// command. Zeroes that have begun end before one.
+    pub fn watch(&mut self, index: usize, entry: &SubmissionEntry) -> Outcome<Option<Watch>> {
+        let (action, nsid) = match action_of(entry) {
+            Some(action) => (action, entry.namespace_id()),
+            None => return Ok(None),
+        };
+        self.end_begun_zeroes()?;
         let Target { machine, controllers, .. } = self;
         let before = controllers.iter().map(|it| machine.view(nsid, it.cntlid)).collect();
-        Some(Watch { change: Change { nsid, action, issuer: controllers[index].cntlid }, before })
+        Ok(Some(Watch { change: Change { nsid, action, issuer: controllers[index].cntlid }, before }))
     }
 
     /// Notifies the controllers of a reservation command that has succeeded.
