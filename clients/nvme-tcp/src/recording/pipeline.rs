@@ -43,6 +43,8 @@ pub trait Piece<Files>: Default + Send + 'static {
 /// The batches that no thread has taken yet, by their numbers, and whether these are the last.
 struct Given<P> {
     pieces: VecDeque<(u64, P)>,
+    /// How many threads wait for one.
+    idle: usize,
     is_over: bool,
 }
 
@@ -111,10 +113,15 @@ impl<P: Piece<F>, F> Shared<P, F> {
         self.given.lock().unwrap_or_else(PoisonError::into_inner)
     }
 
-    /// Wakes a thread for a batch.
+    /// Passes a batch to the threads, and wakes one if any waits: that is a system call.
     fn give(&self, number: u64, piece: P) {
-        self.given().pieces.push_back((number, piece));
-        self.has_more.notify_one();
+        let mut given = self.given();
+        given.pieces.push_back((number, piece));
+        let wakes = given.idle != 0;
+        drop(given);
+        if wakes {
+            self.has_more.notify_one();
+        }
     }
 
     /// Ends the threads when all batches are taken.
@@ -125,8 +132,13 @@ impl<P: Piece<F>, F> Shared<P, F> {
 
     /// The next batch and its number; `None` when the target ends.
     fn next(&self) -> Option<(u64, P)> {
-        let waited = self.has_more.wait_while(self.given(), |given| given.pieces.is_empty() && !given.is_over);
-        waited.unwrap_or_else(PoisonError::into_inner).pieces.pop_front()
+        let mut given = self.given();
+        while given.pieces.is_empty() && !given.is_over {
+            given.idle += 1;
+            given = self.has_more.wait(given).unwrap_or_else(PoisonError::into_inner);
+            given.idle -= 1;
+        }
+        given.pieces.pop_front()
     }
 
     fn turn(&self) -> MutexGuard<'_, Turn<P, F>> {
@@ -210,7 +222,7 @@ pub struct Pipeline<P: Piece<F>, F: Send + 'static> {
 impl<P: Piece<F>, F: Send + 'static> Pipeline<P, F> {
     /// Starts `threads` threads with this name that write the files.
     pub fn new(name: &str, threads: usize, files: F) -> io::Result<Self> {
-        let given = Mutex::new(Given { pieces: VecDeque::new(), is_over: false });
+        let given = Mutex::new(Given { pieces: VecDeque::new(), idle: 0, is_over: false });
         let (turn, files, written) = (Mutex::new(Turn::new()), Mutex::new(files), AtomicU64::new(0));
         let (has_more, has_awaited) = (Condvar::new(), Condvar::new());
         let shared = Arc::new(Shared { given, has_more, turn, has_awaited, written, files });

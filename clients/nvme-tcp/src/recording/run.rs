@@ -9,8 +9,9 @@ use std::io;
 
 /// The bytes of a batch, which is written before the next one is complete.
 const PIECE: usize = 128 << 10;
-/// The bytes of an early batch: fewer than FEW batches are being written, and the writing threads need work.
-const EARLY: usize = 32 << 10;
+/// The bytes of an early batch, if digits have to be made of them: fewer than FEW batches are being written, and the
+/// writing threads need work.
+pub const EARLY: usize = 32 << 10;
 const FEW: u64 = 3;
 /// How many bytes an event takes, about, without those that were stored.
 const EVENT: usize = 10;
@@ -136,6 +137,8 @@ pub struct Run {
     files: Box<dyn Batches + Send>,
     /// What it is if the files can't be written.
     fault: fn(io::Error) -> Fault,
+    /// The bytes of an early batch, if there are any.
+    early: Option<usize>,
     /// Whether one connection alone is served. All events of its commands are written together, by the target's thread.
     pub is_alone: bool,
     /// How often `rest` was called since the last event, unless the files rest.
@@ -149,12 +152,18 @@ impl Run {
         Events: Piece<F>,
     {
         let files = Box::new(Pipeline::<Events, F>::new(name, 2, files)?);
-        Ok(Run { events: Events::default(), files, fault, is_alone: true, quiet: None })
+        Ok(Run { events: Events::default(), files, fault, early: None, is_alone: true, quiet: None })
+    }
+
+    /// The same run, whose batches may have only this many bytes if the threads need work.
+    pub fn early(self, bytes: usize) -> Run {
+        Run { early: Some(bytes), ..self }
     }
 
     pub fn stored(&mut self, cntlid: u16, address: u64, bytes: &[u8]) -> Outcome<()> {
         // These are the data of another command, so no batch has the last events of a command alone.
-        if bytes.len() > ENTRY && self.events.length() >= EARLY && !self.is_alone && self.under_way()? < FEW {
+        let is_early = self.early.map_or(false, |early| self.events.length() >= early);
+        if is_early && bytes.len() > ENTRY && !self.is_alone && self.under_way()? < FEW {
             self.begin(false)?;
         }
         self.events.list.push(Event::Stored { cntlid, address, count: bytes.len() });

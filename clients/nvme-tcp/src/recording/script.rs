@@ -5,7 +5,7 @@ use crate::fault::Fault;
 use crate::recording::kept::Kept;
 use crate::recording::lines::Lines;
 use crate::recording::pipeline::Piece;
-use crate::recording::run::{Events, Run};
+use crate::recording::run::{Events, Run, EARLY};
 use std::fs::File;
 use std::io;
 
@@ -18,7 +18,8 @@ pub fn head_of(configuration: &Configuration) -> String {
 
 /// Begins to keep a run as a script and its transcript, in these files.
 pub fn keep(files: [File; 2], configuration: &Configuration) -> io::Result<Run> {
-    Run::new("script", Kept::new(files, head_of(configuration).as_bytes())?, Fault::Script)
+    let kept = Kept::new(files, head_of(configuration).as_bytes())?;
+    Run::new("script", kept, Fault::Script).map(|it| it.early(EARLY))
 }
 
 impl Piece<Kept> for Events {
