@@ -397,7 +397,10 @@ impl<'a> Server<'a> {
             };
             if let Some(served) = self.connections.get_mut(&name) {
                 served.connection.answer(&mut self.target, &entry, answer)?;
-                if !answered.contains(&name) {
+                if served.connection.is_full() {
+                    // The processor still has long answers in its cache.
+                    self.send(name, false)?;
+                } else if !answered.contains(&name) {
                     answered.push(name);
                 }
             }

@@ -132,7 +132,8 @@ impl Connection {
         }
     }
 
-    fn is_full(&self) -> bool {
+    /// Whether answers wait that are long together.
+    pub fn is_full(&self) -> bool {
         self.output.len() >= OUTPUT_FULL
     }
 
