@@ -22,6 +22,7 @@
 
 use crate::fabrics::{Live, Session};
 use crate::layout::{CapsuleTaken, DestinationSeen};
+use crate::numbers::to_usize;
 use crate::pdu::Fatal;
 use crate::responses::Responses;
 use crate::transfers::Transfers;
@@ -109,7 +110,7 @@ impl Outcome {
         if it.what != OK {
             return Outcome::Breaks(Fatal { status: it.fatal, field: it.field });
         }
-        let (begin, length) = (it.begin as usize, it.length as usize);
+        let (begin, length) = (to_usize(it.begin), to_usize(it.length));
         match it.outcome {
             WAITS => Outcome::Waits(it.length),
             TO_CONTROLLER => Outcome::Ready(Data::InCapsule(begin..begin + length)),
@@ -122,6 +123,7 @@ impl Outcome {
 impl Destination {
     /// The destination of a command with this entry, on a connection that is `live` now. `has_queue` says whether the
     /// controller has the queue that the connection is, if it is one.
+    #[must_use]
     #[inline]
     pub fn of(live: Live, entry: &[u8; 64], has_queue: bool) -> Destination {
         let DestinationSeen { kind, index, qid, sct, sc } = raw::capsules_destination(&live.raw(), entry, has_queue);

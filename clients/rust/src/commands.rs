@@ -35,8 +35,12 @@ impl Completed {
 
 impl Subsystem<'_> {
     /// The host of a controller places a command at an idle queue: it stores the entry at the tail and the data, if there
-    /// are any, at `data_at`, and writes the tail doorbell; the controller fetches exactly this command. If the result
-    /// is a refusal, nothing has happened.
+    /// are any, at `data_at`, and writes the tail doorbell; the controller fetches exactly this command.
+    ///
+    /// # Errors
+    ///
+    /// [`Refusal::NoController`]; [`Refusal::NotReady`]; [`Refusal::NoQueue`]; [`Refusal::Busy`]; [`Refusal::Outside`] if some
+    /// of the data are outside the memory; [`Refusal::Overlaps`]. Nothing has happened then.
     #[inline]
     pub fn place(
         &mut self,
@@ -55,6 +59,10 @@ impl Subsystem<'_> {
 
     /// Completes the `i`-th of the commands that a controller has fetched and not executed, from 0: it is executed, and
     /// if a completion was posted, the host reads it and writes the head doorbell after it.
+    ///
+    /// # Errors
+    ///
+    /// [`Refusal::NoController`]: nothing has changed.
     #[inline]
     pub fn complete(&mut self, cntlid: u16, i: usize) -> Result<Completed, Refusal> {
         let mut entry = [0; 16];
@@ -63,6 +71,10 @@ impl Subsystem<'_> {
 
     /// The same over blocks of the disk, which are brought as for [`Subsystem::execute_over`]. It also returns how many
     /// of the room's first blocks belong on the disk.
+    ///
+    /// # Errors
+    ///
+    /// Those of [`Subsystem::execute_over`].
     pub fn complete_over(
         &mut self,
         cntlid: u16,
@@ -78,7 +90,11 @@ impl Subsystem<'_> {
 
     /// One command from its submission queue entry to its completion queue entry: the host stores it at the tail of the
     /// queue and writes the doorbell, the controller fetches and executes it, and the host reads its completion and
-    /// writes the head doorbell. Nothing may wait at these queues; else nothing happens.
+    /// writes the head doorbell. Nothing may wait at these queues.
+    ///
+    /// # Errors
+    ///
+    /// Those of [`Subsystem::place`], which has no data here.
     pub fn submit(&mut self, cntlid: u16, qid: u16, entry: &[u8; 64]) -> Result<(Completion, [u8; 16]), Refusal> {
         let mut completion = [0; 16];
         let answer = self.handle.submit(cntlid, qid, entry, &mut completion).checked()?;

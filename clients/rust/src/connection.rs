@@ -75,6 +75,7 @@ impl Default for Connection {
 
 impl Connection {
     /// A connection of which nothing has come.
+    #[must_use]
     pub fn new() -> Connection {
         Connection { raw: layout::Connection::NONE }
     }
@@ -103,6 +104,7 @@ impl Connection {
     }
 
     /// How far it is with the PDU in hand.
+    #[must_use]
     #[inline]
     pub fn stage(&self) -> Stage {
         match self.raw.stage {
@@ -114,30 +116,35 @@ impl Connection {
     }
 
     /// Whether ICReq was granted.
+    #[must_use]
     #[inline]
     pub fn is_open(&self) -> bool {
         self.raw.is_open
     }
 
     /// What was agreed on when ICReq was granted. Before, there are no digests.
+    #[must_use]
     #[inline]
     pub fn agreed(&self) -> &Agreed {
         &self.raw.agreed
     }
 
     /// The first bytes of the PDU in hand: 128, or all that have come.
+    #[must_use]
     #[inline]
     pub fn kept(&self) -> &[u8] {
         &self.raw.kept[..self.raw.count.min(128)]
     }
 
     /// The layout of the PDU in hand, once eight bytes have come and until it is judged.
+    #[must_use]
     #[inline]
     pub fn layout(&self) -> Option<Layout> {
         laid_out(raw::connection_layout(&self.raw))
     }
 
     /// How many bytes the PDU in hand wants: up to the eighth, then all that it lacks.
+    #[must_use]
     #[inline]
     pub fn wanted(&self) -> usize {
         raw::connection_wanted(&self.raw)

@@ -17,6 +17,7 @@
 //! ```
 
 use crate::layout;
+use crate::numbers::{halves, joined};
 use crate::raw::Associations;
 use crate::{OpenError, OK};
 use std::cell::Cell;
@@ -35,6 +36,7 @@ pub struct Answer {
 
 impl Answer {
     /// Whether the status is a success.
+    #[must_use]
     pub fn is_success(&self) -> bool {
         (self.sct, self.sc) == (0, 0)
     }
@@ -75,8 +77,17 @@ pub enum Subsystem {
     Other = 2,
 }
 
+impl Subsystem {
+    /// Its number in `nvmetcp.h`.
+    #[allow(clippy::as_conversions)] // An enum has no other conversion.
+    fn number(self) -> u32 {
+        self as u32
+    }
+}
+
 /// What the caller knows of a Connect. The default is a Connect to which nothing is opposed.
 #[derive(Clone, Copy, Debug)]
+#[allow(clippy::struct_excessive_bools)] // Each is a rule of its own.
 pub struct Judged {
     /// The subsystem that SUBNQN names.
     pub subsystem: Subsystem,
@@ -178,6 +189,7 @@ pub struct Session {
 
 impl Session {
     /// A connection that has not connected. No other connection ever has its number.
+    #[must_use]
     pub fn new(connection: u64) -> Session {
         let raw = layout::Session { connection, request: layout::Request::NONE, kind: 0, index: 0, qid: 0 };
         Session { raw, seen: Cell::new((0, Live::NotConnected)) }
@@ -217,9 +229,14 @@ fn next_stamp() -> u64 {
 impl Fabrics {
     /// A subsystem without associations, whose controllers have these hosts, by rising CNTLID from 1. With `has_keys`
     /// hosts have to authenticate themselves. It takes memory once.
+    ///
+    /// # Errors
+    ///
+    /// [`OpenError::TooMany`] for more than 16 hosts; [`OpenError::NoMemory`].
     pub fn new(hosts: &[u128], has_keys: bool) -> Result<Fabrics, OpenError> {
-        let halves = |it: &u128| layout::HostId { low: *it as u64, high: (it >> 64) as u64 };
-        let (answer, raw) = Associations::open(&hosts.iter().map(halves).collect::<Vec<_>>(), has_keys);
+        let hosts: Vec<_> =
+            hosts.iter().map(|it| halves(*it)).map(|(low, high)| layout::HostId { low, high }).collect();
+        let (answer, raw) = Associations::open(&hosts, has_keys);
         match answer {
             OK => Ok(Fabrics { raw, stamp: next_stamp() }),
             25 => Err(OpenError::TooMany),
@@ -247,7 +264,11 @@ impl Fabrics {
         (it.what == OK).then_some(it.connection)
     }
 
-    /// What a Connect asks for, and what `connect` will connect it to; or the answer of the first rule that it breaks.
+    /// What a Connect asks for, and what `connect` will connect it to.
+    ///
+    /// # Errors
+    ///
+    /// The answer of the first rule that the Connect breaks.
     pub fn admitted(
         &mut self,
         session: &Session,
@@ -282,8 +303,11 @@ impl Fabrics {
         self.raw.authenticate(&mut session.raw, is_enabled, created.0, created.1).into()
     }
 
-    /// Executes a Fabrics command other than Connect, as far as associations go; or the answer of the first rule that is
-    /// broken, and nothing has changed.
+    /// Executes a Fabrics command other than Connect, as far as associations go.
+    ///
+    /// # Errors
+    ///
+    /// The answer of the first rule that the command breaks: nothing has changed.
     pub fn execute(&mut self, session: &mut Session, entry: &[u8; 64]) -> Result<Command, Answer> {
         self.stamp = next_stamp();
         let it = self.raw.execute(&mut session.raw, entry);
@@ -317,16 +341,17 @@ impl From<layout::FabricsAnswer> for Answer {
 
 impl From<layout::Request> for Request {
     fn from(it: layout::Request) -> Request {
-        let host_id = u128::from(it.host_high) << 64 | u128::from(it.host_low);
+        let host_id = joined(it.host_low, it.host_high);
         Request { host_id, host_nqn: it.host_nqn, cntlid: it.cntlid, qid: it.qid, entries: it.entries }
     }
 }
 
 impl From<&Request> for layout::Request {
     fn from(it: &Request) -> layout::Request {
+        let (host_low, host_high) = halves(it.host_id);
         layout::Request {
-            host_low: it.host_id as u64,
-            host_high: (it.host_id >> 64) as u64,
+            host_low,
+            host_high,
             host_nqn: it.host_nqn,
             cntlid: it.cntlid,
             qid: it.qid,
@@ -339,7 +364,7 @@ impl From<&Judged> for layout::Judged {
     fn from(it: &Judged) -> layout::Judged {
         layout::Judged {
             authenticating: it.authenticating,
-            subsystem: it.subsystem as u32,
+            subsystem: it.subsystem.number(),
             is_whole: it.is_whole,
             is_known: it.is_known,
             is_allowed: it.is_allowed,

@@ -74,25 +74,15 @@
 //! ```
 
 #![deny(unsafe_code)]
-#![warn(clippy::pedantic)]
-// The types of errors say when a call fails. Casts are of numbers whose bounds clippy can't see, and structs and pointers
-// go to C as it takes them.
-#![allow(
-    clippy::borrow_as_ptr,
-    clippy::cast_possible_truncation,
-    clippy::doc_markdown,
-    clippy::missing_errors_doc,
-    clippy::must_use_candidate,
-    clippy::needless_pass_by_value,
-    clippy::struct_excessive_bools,
-    clippy::trivially_copy_pass_by_ref,
-    clippy::wildcard_imports
-)]
 #![warn(missing_docs)]
+#![warn(clippy::pedantic, clippy::as_conversions, clippy::undocumented_unsafe_blocks)]
+// Names of the standard, such as C2HData, are no code.
+#![allow(clippy::doc_markdown)]
 
 pub mod buffers;
 pub mod capsules;
 mod commands;
+mod config;
 pub mod connection;
 pub mod fabrics;
 mod foreign;
@@ -101,20 +91,31 @@ mod layout;
 mod lines;
 mod looks;
 mod notices;
+mod numbers;
 pub mod pdu;
-#[allow(unsafe_code)]
+// Its first lines have the reason for all calls. Their parameters and pointers are C's; `&raw mut` needs rustc 1.82.
+#[allow(
+    unsafe_code,
+    clippy::borrow_as_ptr,
+    clippy::too_many_arguments,
+    clippy::trivially_copy_pass_by_ref,
+    clippy::undocumented_unsafe_blocks,
+    clippy::wildcard_imports
+)]
 mod raw;
+mod refusal;
 pub mod responses;
 pub mod transfers;
 
 pub use commands::{Completed, Placed};
-use layout::Answer;
-use layout::{Blocks, Disk};
+pub use config::{Attachment, Config, Controller, Namespace};
+use layout::{Answer, Blocks, Disk};
 pub use lines::{answer_line, event_line, read_configuration, Answered, ConfigError, ConfigFault, Event, LineError};
 pub use looks::{status_name, Command, Holder, Need, Queue, Registrant, Reservation};
 pub use notices::{Action, Change, HostView, Notices};
 use raw::Handle;
-use std::fmt;
+use refusal::{checked, refusal};
+pub use refusal::{OpenError, Refusal};
 
 /// The version of `nvmesim.h` that this crate is written for.
 const VERSION: u32 = 3;
@@ -123,112 +124,6 @@ const VERSION: u32 = 3;
 pub const SCRIPT_BLOCKS: u64 = 65_536;
 /// A limit of a namespace's blocks that allows every size.
 pub const ANY_SIZE: u64 = u64::MAX;
-
-/// A controller, and the host that it belongs to.
-#[repr(C)]
-#[derive(Clone, Copy, Debug, PartialEq, Eq)]
-pub struct Controller {
-    host_low: u64,
-    host_high: u64,
-    cntlid: u16,
-    /// Whether its line of a script says `raw`. Opening ignores it: each host is raw here.
-    pub raw: bool,
-}
-
-impl Controller {
-    /// The controller with this identifier, k for the k-th of a configuration, of the host with this identifier, which
-    /// is not 0.
-    pub const fn new(cntlid: u16, host: u128) -> Self {
-        Controller { host_low: host as u64, host_high: (host >> 64) as u64, cntlid, raw: false }
-    }
-
-    /// Its identifier.
-    pub const fn cntlid(&self) -> u16 {
-        self.cntlid
-    }
-
-    /// The identifier of its host.
-    pub const fn host(&self) -> u128 {
-        (self.host_high as u128) << 64 | self.host_low as u128
-    }
-}
-
-/// A namespace.
-#[repr(C)]
-#[derive(Clone, Copy, Debug, PartialEq, Eq)]
-pub struct Namespace {
-    /// Its size in blocks of 512 bytes, at least 1.
-    pub blocks: u64,
-    /// The namespace identifier, 1 to 8.
-    pub nsid: u32,
-    /// Whether more than one controller may be attached to it at a time.
-    pub shared: bool,
-}
-
-/// A controller that is attached to a namespace.
-#[repr(C)]
-#[derive(Clone, Copy, Debug, PartialEq, Eq)]
-pub struct Attachment {
-    /// The namespace.
-    pub nsid: u32,
-    /// The controller.
-    pub cntlid: u16,
-}
-
-/// The controllers and namespaces of a subsystem, and which are attached to which.
-#[derive(Clone, Debug, Default, PartialEq, Eq)]
-pub struct Config {
-    /// The controllers, in the order of their identifiers.
-    pub controllers: Vec<Controller>,
-    /// The namespaces, which occupy the blocks one after the other.
-    pub namespaces: Vec<Namespace>,
-    /// The attachments.
-    pub attached: Vec<Attachment>,
-}
-
-/// Why a subsystem is not opened.
-#[derive(Clone, Copy, Debug, PartialEq, Eq)]
-#[non_exhaustive]
-pub enum OpenError {
-    /// The library is of another version than this crate.
-    BadVersion,
-    /// An identifier is wrong: of a controller, host or namespace, or of an attachment.
-    BadId,
-    /// A namespace has no blocks.
-    BadSize,
-    /// There are more than 16 controllers, 8 namespaces or 128 attachments.
-    TooMany,
-    /// The namespaces have more blocks together than the bytes.
-    DoesNotFit,
-    /// Memory was refused.
-    NoMemory,
-}
-
-/// Why a call did nothing.
-#[derive(Clone, Copy, Debug, PartialEq, Eq)]
-#[non_exhaustive]
-pub enum Refusal {
-    /// There is no such controller.
-    NoController,
-    /// Some of the bytes are outside the host's memory, or some of the blocks outside the namespace.
-    Outside,
-    /// The bytes are not a whole number of blocks.
-    NotWhole,
-    /// The medium failed.
-    MediumFault,
-    /// The controller has no such queue.
-    NoQueue,
-    /// The controller does not run: its CSTS is not 1.
-    NotReady,
-    /// A command waits at the queue already, a completion at its completion queue, or the controller has 64 commands.
-    Busy,
-    /// There is no such namespace.
-    NoNamespace,
-    /// The blocks are in memory, so none are brought.
-    InMemory,
-    /// The data and the slot of the entry overlap.
-    Overlaps,
-}
 
 /// The result of a fetch.
 #[derive(Clone, Copy, Debug, PartialEq, Eq, Hash)]
@@ -242,7 +137,7 @@ pub enum Fetched {
 /// The completion of a command.
 #[derive(Clone, Copy, Debug, PartialEq, Eq, Hash)]
 pub struct Completion {
-    /// The Status Code Type.
+    /// The Status Code Type, 0 to 7.
     pub sct: u8,
     /// The Status Code.
     pub sc: u8,
@@ -254,11 +149,13 @@ pub struct Completion {
 
 impl Completion {
     /// Whether the status is Successful Completion.
+    #[must_use]
     pub fn is_success(&self) -> bool {
         (self.sct, self.sc) == (0, 0)
     }
 
     /// The standard's name of the status.
+    #[must_use]
     pub fn name(&self) -> String {
         status_name(self.sct, self.sc)
     }
@@ -293,13 +190,21 @@ pub struct Subsystem<'a> {
 }
 
 impl Subsystem<'static> {
-    /// Opens a subsystem over a copy of these bytes.
+    /// Opens a subsystem over a copy of the whole blocks of these bytes, 512 each.
+    ///
+    /// # Errors
+    ///
+    /// The first fault of the configuration, or [`OpenError::NoMemory`].
     pub fn open(config: &Config, bytes: &[u8]) -> Result<Self, OpenError> {
         opened(config, Blocks::Copied(bytes))
     }
 
-    /// Opens a subsystem over a disk of `blocks` blocks, which only the program accesses: [`Subsystem::execute_over`]
-    /// brings them. Until then each read, write and flush fails.
+    /// Opens a subsystem over a disk of `blocks` blocks of 512 bytes, which only the program accesses:
+    /// [`Subsystem::execute_over`] brings them. Until then each read, write and flush fails.
+    ///
+    /// # Errors
+    ///
+    /// The first fault of the configuration, or [`OpenError::NoMemory`].
     pub fn open_brought(config: &Config, blocks: u64) -> Result<Self, OpenError> {
         opened(config, Blocks::Brought(Disk { blocks }))
     }
@@ -308,6 +213,10 @@ impl Subsystem<'static> {
 impl<'a> Subsystem<'a> {
     /// Opens a subsystem over these bytes themselves. A Write changes them at once; if they are a file's, sync it when
     /// a Flush was executed, before you return its completion.
+    ///
+    /// # Errors
+    ///
+    /// The first fault of the configuration, or [`OpenError::NoMemory`]: the bytes are unchanged.
     pub fn open_lent(config: &Config, bytes: &'a mut [u8]) -> Result<Self, OpenError> {
         opened(config, Blocks::Lent(bytes))
     }
@@ -324,36 +233,62 @@ impl<'a> Subsystem<'a> {
         self.handle.prefetch(place, count);
     }
 
-    /// The host of a controller stores bytes in its memory.
+    /// The host of a controller stores bytes in its memory, which has 4 MiB from address 0.
+    ///
+    /// # Errors
+    ///
+    /// [`Refusal::NoController`], or [`Refusal::Outside`] if some of the bytes are: nothing is stored.
     pub fn store(&mut self, cntlid: u16, address: u64, bytes: &[u8]) -> Result<(), Refusal> {
         done(self.handle.store(cntlid, address, bytes))
     }
 
-    /// The host of a controller writes one of its registers.
+    /// The host of a controller writes one of its registers, such as CC (14h) or a doorbell (1000h on). A write at an
+    /// offset without a register changes nothing.
+    ///
+    /// # Errors
+    ///
+    /// [`Refusal::NoController`].
     pub fn write32(&mut self, cntlid: u16, offset: u64, value: u32) -> Result<(), Refusal> {
         done(self.handle.write32(cntlid, offset, value))
     }
 
-    /// The host of a controller reads one of its registers.
+    /// The host of a controller reads one of its registers; 0 at an offset without a register.
+    ///
+    /// # Errors
+    ///
+    /// [`Refusal::NoController`].
     pub fn read32(&mut self, cntlid: u16, offset: u64) -> Result<u32, Refusal> {
         let answer = self.handle.read32(cntlid, offset);
         Ok(answer.checked()?.value)
     }
 
-    /// A controller fetches the next command of a submission queue.
+    /// A controller fetches the next command of a submission queue, 0 to 4.
+    ///
+    /// # Errors
+    ///
+    /// [`Refusal::NoController`].
     pub fn fetch(&mut self, cntlid: u16, qid: u16) -> Result<Fetched, Refusal> {
         let answer = self.handle.fetch(cntlid, qid).checked()?;
         Ok(if answer.what == TOOK { Fetched::Took } else { Fetched::Idle })
     }
 
     /// A controller executes the `i`-th of the commands that it has fetched and not executed, from 0.
+    ///
+    /// # Errors
+    ///
+    /// [`Refusal::NoController`].
     pub fn execute(&mut self, cntlid: u16, i: usize) -> Result<Executed, Refusal> {
         Ok(self.handle.execute(cntlid, i).checked()?.executed())
     }
 
     /// The same over blocks of the disk, which are brought in this room: what [`Subsystem::need`] returns, each as the
     /// last command has left it. The room then has what the command wrote: its first blocks, as many as are returned,
-    /// belong on the disk. If the result is a refusal, nothing has changed.
+    /// belong on the disk.
+    ///
+    /// # Errors
+    ///
+    /// [`Refusal::NoController`]; [`Refusal::Outside`] if the disk does not have all blocks that are brought;
+    /// [`Refusal::InMemory`] if there is no disk. Nothing has changed then, the room included.
     pub fn execute_over(
         &mut self,
         cntlid: u16,
@@ -371,12 +306,22 @@ impl<'a> Subsystem<'a> {
         self.handle.power_cycle();
     }
 
-    /// Loads bytes of the memory of a controller's host.
+    /// Loads bytes of the memory of a controller's host, which has 4 MiB from address 0.
+    ///
+    /// # Errors
+    ///
+    /// [`Refusal::NoController`], or [`Refusal::Outside`]: the buffer is unchanged.
     pub fn load(&mut self, cntlid: u16, address: u64, bytes: &mut [u8]) -> Result<(), Refusal> {
         checked(self.handle.load(cntlid, address, bytes))
     }
 
-    /// Reads blocks of a namespace as the medium has them. No host reads here, so no reservation is asked.
+    /// Reads blocks of a namespace, 512 bytes each, from block `slba` on, as the medium has them. No host reads here, so
+    /// no reservation is asked.
+    ///
+    /// # Errors
+    ///
+    /// [`Refusal::Outside`], also if there is no such namespace, or [`Refusal::NotWhole`]: the buffer is unchanged.
+    /// [`Refusal::MediumFault`].
     pub fn read_blocks(&mut self, nsid: u32, slba: u64, bytes: &mut [u8]) -> Result<(), Refusal> {
         checked(self.handle.read_blocks(nsid, slba, bytes))
     }
@@ -401,22 +346,6 @@ fn opened<'a>(config: &Config, blocks: Blocks<'_, 'a>) -> Result<Subsystem<'a>, 
         26 => Err(OpenError::DoesNotFit),
         27 => Err(OpenError::NoMemory),
         _ => Err(OpenError::BadVersion),
-    }
-}
-
-/// The refusal of a number. A subsystem that is not open has no value here.
-fn refusal(number: u32) -> Refusal {
-    match number {
-        17 => Refusal::NoController,
-        18 => Refusal::Outside,
-        19 => Refusal::NotWhole,
-        28 => Refusal::NoQueue,
-        29 => Refusal::NotReady,
-        30 => Refusal::Busy,
-        31 => Refusal::NoNamespace,
-        39 => Refusal::InMemory,
-        51 => Refusal::Overlaps,
-        _ => Refusal::MediumFault,
     }
 }
 
@@ -445,44 +374,3 @@ impl Answer {
 fn done(answer: Answer) -> Result<(), Refusal> {
     answer.checked().map(|_| ())
 }
-
-fn checked(answer: u32) -> Result<(), Refusal> {
-    if answer == OK {
-        Ok(())
-    } else {
-        Err(refusal(answer))
-    }
-}
-
-impl fmt::Display for OpenError {
-    fn fmt(&self, f: &mut fmt::Formatter<'_>) -> fmt::Result {
-        f.write_str(match self {
-            OpenError::BadVersion => "libnvmesim is of another version",
-            OpenError::BadId => "an identifier of the configuration is wrong",
-            OpenError::BadSize => "a namespace has no blocks",
-            OpenError::TooMany => "there are too many controllers, namespaces or attachments",
-            OpenError::DoesNotFit => "the namespaces have more blocks than the bytes",
-            OpenError::NoMemory => "out of memory",
-        })
-    }
-}
-
-impl fmt::Display for Refusal {
-    fn fmt(&self, f: &mut fmt::Formatter<'_>) -> fmt::Result {
-        f.write_str(match self {
-            Refusal::NoController => "there is no such controller",
-            Refusal::Outside => "some of it is outside",
-            Refusal::NotWhole => "the bytes are not a whole number of blocks",
-            Refusal::MediumFault => "the medium failed",
-            Refusal::NoQueue => "the controller has no such queue",
-            Refusal::NotReady => "the controller does not run",
-            Refusal::Busy => "something waits at the queue",
-            Refusal::NoNamespace => "there is no such namespace",
-            Refusal::InMemory => "the blocks are in memory",
-            Refusal::Overlaps => "the data and the entry overlap",
-        })
-    }
-}
-
-impl std::error::Error for OpenError {}
-impl std::error::Error for Refusal {}

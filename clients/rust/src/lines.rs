@@ -1,6 +1,7 @@
 //! Configurations, events and answers as the lines of scripts and transcripts, and query lines, as in sessions.
 
 use crate::layout::{self, Answer, Written};
+use crate::numbers::to_u64;
 use crate::{raw, Attachment, Config, Controller, Executed, Fetched, Namespace, Subsystem};
 use crate::{CQ_FULL, OK, POSTED, TOOK};
 use std::fmt;
@@ -142,6 +143,10 @@ const ANSWER: usize = 262_240;
 /// Parses a configuration, the lines of a script before its `start`, and checks it for a medium of `blocks` blocks and
 /// namespaces of at most `max_blocks` blocks, such as [`SCRIPT_BLOCKS`](crate::SCRIPT_BLOCKS). `start` may be missing,
 /// and only blank lines and comments may follow it.
+///
+/// # Errors
+///
+/// The first line at fault, or [`ConfigFault::NoMemory`].
 pub fn read_configuration(text: &[u8], max_blocks: u64, blocks: u64) -> Result<Config, ConfigError> {
     let mut controllers = vec![Controller::new(0, 0); MOST.0];
     let mut namespaces = vec![Namespace { blocks: 0, nsid: 0, shared: false }; MOST.1];
@@ -162,6 +167,10 @@ pub fn read_configuration(text: &[u8], max_blocks: u64, blocks: u64) -> Result<C
 impl Config {
     /// The lines of a script that describe the configuration, each with its line feed, without `start`. Parsed again,
     /// they give the same configuration.
+    ///
+    /// # Errors
+    ///
+    /// [`LineError::NoMemory`].
     pub fn lines(&self) -> Result<String, LineError> {
         let most = 96 * self.controllers.len() + 64 * self.namespaces.len() + 32 * self.attached.len();
         let mut lines = vec![0; most];
@@ -173,8 +182,12 @@ impl Config {
 }
 
 /// Writes the script line of an event, with its line feed, to the front of a buffer, and returns its length. A line has
-/// at most 64 bytes, and two more for each byte that is stored. `NoLine` for a store of no bytes, and for a place above
-/// 65,535.
+/// at most 64 bytes, and two more for each byte that is stored.
+///
+/// # Errors
+///
+/// [`LineError::NoRoom`], or [`LineError::NoLine`] for a store of no bytes and for a place above 65,535: the buffer is
+/// unchanged.
 #[inline]
 pub fn event_line(event: &Event<'_>, line: &mut [u8]) -> Result<usize, LineError> {
     let bytes = if let Event::Store { bytes, .. } = event { bytes } else { &[][..] };
@@ -182,7 +195,11 @@ pub fn event_line(event: &Event<'_>, line: &mut [u8]) -> Result<usize, LineError
 }
 
 /// Writes the transcript line of an event's result, with its line feed, to the front of a buffer, and returns its
-/// length, at most 64. `NoLine` if the event never has this answer.
+/// length, at most 64.
+///
+/// # Errors
+///
+/// [`LineError::NoRoom`], or [`LineError::NoLine`] if the event never has this answer: the buffer is unchanged.
 #[inline]
 pub fn answer_line(event: &Event<'_>, answer: &Answered, line: &mut [u8]) -> Result<usize, LineError> {
     written(&raw::answer_line(&event.plain(), &answer.plain(), line))
@@ -190,8 +207,11 @@ pub fn answer_line(event: &Event<'_>, answer: &Answered, line: &mut [u8]) -> Res
 
 impl Subsystem<'_> {
     /// Answers a query line, such as `?queues 1`, as a session of `nvmelive` over the same subsystem does, without the
-    /// line feed. No host has a driver here. A refusal is an answer too, and names the line by its number. `NoLine` for
-    /// a line that does not begin with `?`.
+    /// line feed. No host has a driver here. A refusal is an answer too, and names the line by its number.
+    ///
+    /// # Errors
+    ///
+    /// [`LineError::NoLine`] if the line does not begin with `?`; [`LineError::NoMemory`].
     pub fn look(&mut self, number: u64, line: &str) -> Result<String, LineError> {
         let mut answer = vec![0; ANSWER];
         let length = written(&self.handle.look(number, line.as_bytes(), &mut answer))?;
@@ -231,7 +251,7 @@ impl Event<'_> {
             Event::Store { cntlid, address, .. } => layout::Event { at: address, kind: 1, cntlid, ..none },
             Event::Write32 { cntlid, offset, value } => layout::Event { at: offset, kind: 2, value, cntlid, ..none },
             Event::Fetch { cntlid, qid } => layout::Event { kind: 4, cntlid, qid, ..none },
-            Event::Execute { cntlid, i } => layout::Event { at: i as u64, kind: 5, cntlid, ..none },
+            Event::Execute { cntlid, i } => layout::Event { at: to_u64(i), kind: 5, cntlid, ..none },
             Event::PowerCycle => layout::Event { kind: 6, ..none },
         }
     }
@@ -239,9 +259,9 @@ impl Event<'_> {
 
 impl Answered {
     /// As the library returns it.
-    fn plain(&self) -> Answer {
+    fn plain(self) -> Answer {
         let of = |what| Answer { what, ..Answer::default() };
-        match *self {
+        match self {
             Answered::Stored => of(1),
             Answered::Wrote32 => of(2),
             Answered::Fetched(Fetched::Took) => of(TOOK),

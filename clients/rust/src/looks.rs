@@ -1,6 +1,7 @@
 //! What is seen of a subsystem, and changes nothing.
 
 use crate::layout;
+use crate::numbers::joined;
 use crate::{checked, raw, Refusal, Subsystem};
 
 /// A queue, as its controller has it.
@@ -98,26 +99,42 @@ pub struct Reservation {
 
 impl Subsystem<'_> {
     /// A submission queue of a controller.
+    ///
+    /// # Errors
+    ///
+    /// [`Refusal::NoController`] or [`Refusal::NoQueue`].
     pub fn submission_queue(&mut self, cntlid: u16, qid: u16) -> Result<Queue, Refusal> {
-        queue(self.handle.submission_queue(cntlid, qid))
+        queue(&self.handle.submission_queue(cntlid, qid))
     }
 
     /// A completion queue of a controller.
+    ///
+    /// # Errors
+    ///
+    /// [`Refusal::NoController`] or [`Refusal::NoQueue`].
     pub fn completion_queue(&mut self, cntlid: u16, qid: u16) -> Result<Queue, Refusal> {
-        queue(self.handle.completion_queue(cntlid, qid))
+        queue(&self.handle.completion_queue(cntlid, qid))
     }
 
     /// The commands that a controller has fetched and not executed, in the order of their fetches.
+    ///
+    /// # Errors
+    ///
+    /// [`Refusal::NoController`].
     pub fn fetched(&mut self, cntlid: u16) -> Result<Vec<Command>, Refusal> {
         let first = self.handle.fetched(cntlid, 0);
         if first.count == 0 && first.what != NO_SUCH {
             checked(first.what)?;
         }
-        Ok((0..first.count).map(|i| command(self.handle.fetched(cntlid, i))).collect())
+        Ok((0..first.count).map(|i| command(&self.handle.fetched(cntlid, i))).collect())
     }
 
     /// What the `i`-th of these commands, from 0, needs of the medium, if it is executed now, or `None` if there is no
     /// such command. Its execution makes no other calls; its completion says which of these were made.
+    ///
+    /// # Errors
+    ///
+    /// [`Refusal::NoController`].
     pub fn need(&mut self, cntlid: u16, i: usize) -> Result<Option<Need>, Refusal> {
         let needed = self.handle.needs(cntlid, i);
         if needed.what == NO_SUCH {
@@ -133,11 +150,15 @@ impl Subsystem<'_> {
     }
 
     /// The reservation of a namespace.
+    ///
+    /// # Errors
+    ///
+    /// [`Refusal::NoNamespace`].
     pub fn reservation(&mut self, nsid: u32) -> Result<Reservation, Refusal> {
         let hold = self.handle.reservation(nsid);
         checked(hold.what)?;
-        let registrants = (0..hold.registrants).map(|i| registrant(self.handle.registrant(nsid, i))).collect();
-        let holder = match (hold.rtype, identifier(hold.host_low, hold.host_high)) {
+        let registrants = (0..hold.registrants).map(|i| registrant(&self.handle.registrant(nsid, i))).collect();
+        let holder = match (hold.rtype, joined(hold.host_low, hold.host_high)) {
             (0, _) => Holder::Nobody,
             (rtype, 0) => Holder::EachRegistrant(rtype),
             (rtype, host) => Holder::Host(rtype, host),
@@ -156,22 +177,19 @@ impl Subsystem<'_> {
 const NO_SUCH: u32 = 7;
 
 /// The standard's name of a status, or `Unlisted` for one that no command answers.
+#[must_use]
 pub fn status_name(sct: u8, sc: u8) -> String {
     let mut bytes = [0; 64];
     let length = raw::status_name(sct, sc, &mut bytes);
     String::from_utf8_lossy(&bytes[..length.min(64)]).into_owned()
 }
 
-fn identifier(low: u64, high: u64) -> u128 {
-    u128::from(high) << 64 | u128::from(low)
-}
-
-fn queue(seen: layout::Queue) -> Result<Queue, Refusal> {
+fn queue(seen: &layout::Queue) -> Result<Queue, Refusal> {
     checked(seen.what)?;
     Ok(Queue { base: seen.base, size: seen.size, head: seen.head, tail: seen.tail, cqid: seen.cqid, phase: seen.phase })
 }
 
-fn command(seen: layout::Command) -> Command {
+fn command(seen: &layout::Command) -> Command {
     Command { qid: seen.qid, marked: seen.marked, entry: seen.entry }
 }
 
@@ -185,6 +203,6 @@ fn need(layout::Needed { first, blocks, kind, .. }: layout::Needed) -> Need {
     }
 }
 
-fn registrant(seen: layout::Registered) -> Registrant {
-    Registrant { host: identifier(seen.host_low, seen.host_high), key: seen.key }
+fn registrant(seen: &layout::Registered) -> Registrant {
+    Registrant { host: joined(seen.host_low, seen.host_high), key: seen.key }
 }

@@ -1,4 +1,5 @@
-//! Reservation notifications: which controllers are notified of a reservation command, and what each keeps for its host.
+//! Reservation notifications: which controllers are notified of a reservation command, and what each keeps for its
+//! host.
 
 use crate::layout;
 use crate::{checked, Refusal, Subsystem};
@@ -16,6 +17,14 @@ pub enum Action {
     Release = 3,
     /// Clear of Reservation Release.
     Clear = 4,
+}
+
+impl Action {
+    /// Its number in `nvmesim.h`.
+    #[allow(clippy::as_conversions)] // An enum has no other conversion.
+    fn number(self) -> u32 {
+        self as u32
+    }
 }
 
 /// A reservation command that has succeeded.
@@ -61,21 +70,28 @@ impl Default for Notices {
 
 impl Notices {
     /// Reservation Notification Mask of a namespace; 0 if there is no such namespace.
+    #[must_use]
     pub fn mask(&self, nsid: u32) -> u32 {
         self.notices.mask(nsid)
     }
 
     /// Sets Reservation Notification Mask of a namespace, by double word 11 of the command.
+    ///
+    /// # Errors
+    ///
+    /// [`Refusal::NoNamespace`].
     pub fn set_mask(&mut self, nsid: u32, dw11: u32) -> Result<(), Refusal> {
         checked(self.notices.set_mask(nsid, dw11))
     }
 
     /// The number of notices that were not taken.
+    #[must_use]
     pub fn available(&self) -> u32 {
         self.notices.available()
     }
 
     /// The Reservation Notification log page: the oldest notice, or zeros.
+    #[must_use]
     pub fn page(&self) -> [u8; 64] {
         self.notices.page()
     }
@@ -88,6 +104,10 @@ impl Notices {
 
 impl Subsystem<'_> {
     /// How the reservation of a namespace concerns the host of a controller now.
+    ///
+    /// # Errors
+    ///
+    /// [`Refusal::NoController`] or [`Refusal::NoNamespace`].
     pub fn view(&mut self, nsid: u32, cntlid: u16) -> Result<HostView, Refusal> {
         let view = self.handle.view(nsid, cntlid);
         checked(view.what)?;
@@ -96,6 +116,10 @@ impl Subsystem<'_> {
 
     /// Adds the notice that a controller gets of a command that has just succeeded, if it gets one. `before` is the
     /// view of its host before the command.
+    ///
+    /// # Errors
+    ///
+    /// [`Refusal::NoController`] or [`Refusal::NoNamespace`]: nothing has changed.
     pub fn notify(
         &mut self,
         notices: &mut Notices,
@@ -103,7 +127,7 @@ impl Subsystem<'_> {
         change: Change,
         before: &HostView,
     ) -> Result<(), Refusal> {
-        let change = layout::Change { nsid: change.nsid, action: change.action as u32, issuer: change.issuer };
+        let change = layout::Change { nsid: change.nsid, action: change.action.number(), issuer: change.issuer };
         checked(self.handle.notify(&mut notices.notices, cntlid, &change, &before.view))
     }
 }

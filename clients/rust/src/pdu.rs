@@ -11,6 +11,7 @@
 //! ```
 
 use crate::layout::PduLayout;
+use crate::numbers::to_usize;
 use crate::{raw, OK};
 
 /// A type of PDU, by its name in the standard.
@@ -83,10 +84,10 @@ impl From<PduLayout> for Layout {
             is_last: it.is_last,
             header: it.header.into(),
             header_digest: it.header_digest,
-            data_offset: it.data_offset as usize,
-            data_length: it.data_length as usize,
+            data_offset: to_usize(it.data_offset),
+            data_length: to_usize(it.data_length),
             data_digest: it.data_digest,
-            length: it.length as usize,
+            length: to_usize(it.length),
         }
     }
 }
@@ -104,13 +105,21 @@ pub struct Agreed {
 }
 
 impl Agreed {
-    /// What an ICReq asks for, or the first field at fault.
+    /// What an ICReq asks for.
+    ///
+    /// # Errors
+    ///
+    /// The first field at fault.
     pub fn of(request: &[u8; 128]) -> Result<Agreed, Fatal> {
         let it = raw::pdu_ic_request(request);
         checked(it.what, it.status, it.field).map(|()| it.agreed)
     }
 
-    /// The layout of a PDU of a host by its first eight bytes, or the first field at fault.
+    /// The layout of a PDU of a host by its first eight bytes.
+    ///
+    /// # Errors
+    ///
+    /// The first field at fault.
     #[inline]
     pub fn layout(&self, head: &[u8; 8]) -> Result<Layout, Fatal> {
         let it = raw::pdu_layout_of(self, head);
@@ -154,7 +163,11 @@ pub struct HostData {
 }
 
 impl HostData {
-    /// The fields of the header of an H2CData with `length` bytes of data, or the field at fault.
+    /// The fields of the header of an H2CData with `length` bytes of data.
+    ///
+    /// # Errors
+    ///
+    /// The first field at fault.
     #[inline]
     pub fn of(header: &[u8; 24], length: u32) -> Result<HostData, Fatal> {
         let it = raw::pdu_host_data(header, length);
@@ -164,6 +177,7 @@ impl HostData {
 
 impl Fatal {
     /// Why a host ends its connection, by the header of its H2CTermReq.
+    #[must_use]
     pub fn of(header: &[u8; 24]) -> Fatal {
         let it = raw::pdu_host_termination(header);
         Fatal { status: it.status, field: it.field }

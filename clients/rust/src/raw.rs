@@ -129,7 +129,7 @@ impl<'a> Handle<'a> {
     }
 }
 
-// The header lets a struct go from one thread to another. It is not `Sync`, since one call comes at a time.
+// SAFETY: the header lets a struct go from one thread to another. It is not `Sync`, since one call comes at a time.
 unsafe impl Send for Handle<'_> {}
 
 impl Drop for Handle<'_> {
@@ -262,7 +262,7 @@ impl Associations {
     }
 }
 
-// As a handle.
+// SAFETY: as a handle.
 unsafe impl Send for Associations {}
 
 impl Drop for Associations {
@@ -308,7 +308,7 @@ impl Commands {
     }
 }
 
-// As a handle.
+// SAFETY: as a handle.
 unsafe impl Send for Commands {}
 
 impl Drop for Commands {

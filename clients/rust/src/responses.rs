@@ -75,6 +75,7 @@ impl Default for Responses {
 
 impl Responses {
     /// A connection that has not connected: its queue has one entry.
+    #[must_use]
     pub fn new() -> Responses {
         let (sqsize, head, count, stage, is_flow_control_disabled) = (0, 0, 0, 0, false);
         Responses { raw: Raw { sqsize, head, count, stage, is_flow_control_disabled, outstanding: [0; 64] } }
@@ -126,17 +127,20 @@ impl Responses {
     }
 
     /// Whether it was stopped.
+    #[must_use]
     pub fn has_ended(&self) -> bool {
         self.raw.stage > 1
     }
 
     /// The identifiers of the commands without a response, in no order.
+    #[must_use]
     pub fn outstanding(&self) -> &[u16] {
         &self.raw.outstanding[..usize::from(self.raw.count).min(64)]
     }
 }
 
 /// The last word of an entry with this status: its phase tag, which is 0, and the status field.
+#[must_use]
 pub fn status_field(sct: u8, sc: u8) -> u16 {
     raw::responses_status(sct, sc)
 }

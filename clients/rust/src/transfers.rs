@@ -103,6 +103,10 @@ pub struct Transfers {
 
 impl Transfers {
     /// A connection without commands. It takes memory once.
+    ///
+    /// # Errors
+    ///
+    /// [`OpenError::NoMemory`].
     pub fn new() -> Result<Transfers, OpenError> {
         match Commands::open() {
             (OK, raw) => Ok(Transfers { raw, counted: None }),
@@ -126,6 +130,10 @@ impl Transfers {
     }
 
     /// A command that expects `length` bytes waits for its R2T: for programs that don't call [`crate::capsules::take`].
+    ///
+    /// # Errors
+    ///
+    /// Each reason of [`Refused`]: nothing has changed.
     pub fn begin(&mut self, entry: &[u8; 64], length: u32) -> Result<(), Refused> {
         self.counted = None;
         match self.raw.begin(entry, length) {
@@ -154,6 +162,10 @@ impl Transfers {
 
     /// Takes a part whose bytes stay where they are; the command, if it has all its data now. A refused part changes
     /// nothing, and no byte of it may be used.
+    ///
+    /// # Errors
+    ///
+    /// The fault for which the connection has to end: nothing has changed.
     #[inline]
     pub fn take(&mut self, part: &Part) -> Result<Option<Completed>, Fatal> {
         self.counted = None;
@@ -162,6 +174,10 @@ impl Transfers {
 
     /// Takes a part, and copies its bytes to their place in the room of its tag. It is also refused if the bytes are not
     /// as many as it says, or go past the end of the room.
+    ///
+    /// # Errors
+    ///
+    /// The fault for which the connection has to end: neither the commands nor the room have changed.
     #[inline]
     pub fn store(&mut self, part: &Part, bytes: &[u8], room: &mut [u8]) -> Result<Option<Completed>, Fatal> {
         self.counted = None;

@@ -19,6 +19,9 @@ fn commands_that_change_the_access_state_last() {
 fn data_are_kept_as_far_as_they_are_read() {
     let data: Vec<u8> = [3, 0].into_iter().chain(2..64).collect();
     assert_eq!((kept(&data, false), kept(&data, true)), (&data[..16], &data[..8]));
-    assert_eq!((kept(&data[..8], false), kept(&data[..4], true), kept(&data[..1], true)), (&data[..8], &data[..4], &data[..1]));
+    assert_eq!(
+        (kept(&data[..8], false), kept(&data[..4], true), kept(&data[..1], true)),
+        (&data[..8], &data[..4], &data[..1])
+    );
     assert_eq!(kept(&[], false), [0; 0]);
 }
