@@ -1,6 +1,7 @@
 //! The driver itself: it accesses no device. A call records actions, which [`Driver::actions`] takes.
 
 use crate::fault::{Fault, Status};
+use crate::numbers::to_usize;
 use crate::raw;
 use std::time::Duration;
 
@@ -15,9 +16,9 @@ const WAITS: u32 = 6;
 const REFUSED: u32 = 25;
 const STORE: u32 = 1;
 
-/// The length of the memory that the controller reaches, from address 0.
+/// The length in bytes of the memory that the controller reaches, from address 0.
 pub const WINDOW: usize = 4 << 20;
-/// The shortest buffer of a poll.
+/// The length in bytes of the shortest buffer of a poll, that of the longest answer.
 pub const BUFFER: usize = 128 << 10;
 
 /// The number of a request, which its answer has too.
@@ -78,7 +79,7 @@ pub enum BringUp {
 /// CAP: the longest time of an enable or a reset, and the distance of two doorbells in bytes; there are four.
 #[derive(Clone, Copy, Debug, PartialEq, Eq)]
 pub struct Limits {
-    /// CAP.TO.
+    /// CAP.TO, in units of 500 ms.
     pub timeout: Duration,
     /// CAP.DSTRD, in bytes.
     pub stride: u32,
@@ -100,9 +101,9 @@ pub struct Controller {
     pub nn: u32,
     /// The controller's identifier.
     pub cntlid: u16,
-    /// Its optional NVM commands.
+    /// Its optional NVM commands, a bit for each: ONCS.
     pub oncs: u16,
-    /// The longest transfer.
+    /// The longest transfer, as above.
     pub mdts: u8,
     /// Bit 0: it has a volatile write cache.
     pub vwc: u8,
@@ -127,6 +128,10 @@ fn placed(placed: raw::Placed) -> Result<Ticket, Fault> {
 
 impl Driver {
     /// A driver whose first request has this ticket.
+    ///
+    /// # Errors
+    ///
+    /// [`Fault::NoMemory`].
     pub fn open(first: Ticket) -> Result<Driver, Fault> {
         let mut handle = raw::Handle::CLOSED;
         judged(handle.open(first.0))?;
@@ -134,17 +139,31 @@ impl Driver {
     }
 
     /// Judges CAP, which the driver needs before a bring-up.
+    ///
+    /// # Errors
+    ///
+    /// Why the controller does not suit: [`Fault::Removed`], [`Fault::QueuesTooShort`], [`Fault::NoNvmCommands`] or
+    /// [`Fault::PageSize`].
     pub fn capabilities(&mut self, cap: u64) -> Result<Limits, Fault> {
         let it = self.handle.capabilities(cap);
         judged(it.code).map(|()| Limits { timeout: Duration::from_millis(it.timeout_ms.into()), stride: it.stride })
     }
 
     /// Disables the controller: all requests are aborted.
+    ///
+    /// # Errors
+    ///
+    /// [`Fault::ActionsPending`].
     pub fn reset(&mut self) -> Result<(), Fault> {
         judged(self.handle.reset())
     }
 
     /// Judges CSTS, read this long after the last action: whether it is the awaited one.
+    ///
+    /// # Errors
+    ///
+    /// The status will not come: [`Fault::Removed`], [`Fault::Fatal`] or [`Fault::TimedOut`]. [`Fault::NotAwaited`] if
+    /// the driver waits for none, [`Fault::NotJudged`] before [`Driver::capabilities`].
     pub fn status(&mut self, csts: u32, elapsed: Duration) -> Result<bool, Fault> {
         match self.handle.status(csts, u64::try_from(elapsed.as_millis()).unwrap_or(u64::MAX)) {
             WAITS => Ok(false),
@@ -153,11 +172,20 @@ impl Driver {
     }
 
     /// Judges CSTS of a controller that is up: if it is not any more, its requests are not answered.
+    ///
+    /// # Errors
+    ///
+    /// [`Fault::Removed`], [`Fault::Fatal`], or [`Fault::NotReady`] if the controller has reset itself.
     pub fn health(csts: u32) -> Result<(), Fault> {
         judged(raw::health(csts))
     }
 
     /// Enables the controller and creates the queues, in several calls.
+    ///
+    /// # Errors
+    ///
+    /// [`Fault::ActionsPending`]; [`Fault::NotJudged`], [`Fault::NotDisabled`] or [`Fault::AlreadyUp`] if it is no time
+    /// for it; [`Fault::NoAnswer`] or [`Fault::Answered`] if one of the driver's own commands failed.
     pub fn bring_up(&mut self) -> Result<BringUp, Fault> {
         let it = self.handle.bring_up();
         match it.code {
@@ -169,114 +197,194 @@ impl Driver {
     }
 
     /// Reports the next completion of the admin queue to a bring-up that needs it, or zeros if none came in time.
+    ///
+    /// # Errors
+    ///
+    /// [`Fault::NotAwaited`].
     pub fn report_completion(&mut self, entry: &[u8; 16]) -> Result<(), Fault> {
         judged(self.handle.report_completion(entry))
     }
 
     /// Shuts the controller down: [`Driver::status`] judges whether it is.
+    ///
+    /// # Errors
+    ///
+    /// [`Fault::ActionsPending`] or [`Fault::NotUp`].
     pub fn shutdown(&mut self) -> Result<(), Fault> {
         judged(self.handle.shutdown())
     }
 
     /// The time of a request is over. No request is sent before a reset, after which a poll delivers it as aborted, unless
     /// it was answered before.
+    ///
+    /// # Errors
+    ///
+    /// [`Fault::NotWaiting`] if no such request waits; [`Fault::ActionsPending`], [`Fault::NotUp`], or
+    /// [`Fault::Expired`].
     pub fn expire(&mut self, ticket: Ticket) -> Result<(), Fault> {
         judged(self.handle.expire(ticket.0))
     }
 
-    /// Asks about the controller, namespace 0, or a namespace.
+    /// Asks about the controller, namespace 0, or a namespace, 1 to 64. The driver learns from the answer which
+    /// requests it may place.
+    ///
+    /// # Errors
+    ///
+    /// [`Fault::NsidTooHigh`]; [`Fault::ActionsPending`], [`Fault::NotUp`], [`Fault::Expired`], [`Fault::NoSlot`],
+    /// [`Fault::RingFull`] or [`Fault::NoTicket`].
     pub fn ask(&mut self, nsid: u32) -> Result<Ticket, Fault> {
         placed(self.handle.ask(nsid))
     }
 
     /// Any Identify command. Its answer is judged only if [`Driver::ask`] sent it.
+    ///
+    /// # Errors
+    ///
+    /// Those of [`Driver::ask`] but [`Fault::NsidTooHigh`].
     pub fn identify(&mut self, cns: u8, nsid: u32) -> Result<Ticket, Fault> {
         placed(self.handle.identify(cns, nsid))
     }
 
-    /// Reads blocks of 512 bytes.
+    /// Reads 1 to 256 blocks of 512 bytes, from block `slba` on.
+    ///
+    /// # Errors
+    ///
+    /// What the controller or the namespace forbids, as they answered [`Driver::ask`]: [`Fault::ControllerNotAsked`],
+    /// [`Fault::NamespaceNotAsked`], [`Fault::NotSupported`], [`Fault::TooLong`], [`Fault::PastTheEnd`], or why one of
+    /// them does not suit. [`Fault::BadRequest`] for another number of blocks. [`Fault::ActionsPending`],
+    /// [`Fault::NotUp`], [`Fault::Expired`], [`Fault::NoSlot`], [`Fault::RingFull`] or [`Fault::NoTicket`].
     pub fn read(&mut self, nsid: u32, slba: u64, blocks: u32) -> Result<Ticket, Fault> {
         placed(self.handle.read(nsid, slba, blocks))
     }
 
-    /// Writes whole blocks of 512 bytes.
+    /// Writes 1 to 256 whole blocks of 512 bytes, from block `slba` on.
+    ///
+    /// # Errors
+    ///
+    /// Those of [`Driver::read`].
     pub fn write(&mut self, nsid: u32, slba: u64, bytes: &[u8]) -> Result<Ticket, Fault> {
         placed(self.handle.write(nsid, slba, bytes))
     }
 
-    /// Compares whole blocks: [`Status::COMPARE_FAILURE`] if they differ.
+    /// Compares 1 to 256 whole blocks of 512 bytes, from block `slba` on: [`Status::COMPARE_FAILURE`] if they differ.
+    ///
+    /// # Errors
+    ///
+    /// Those of [`Driver::read`].
     pub fn compare(&mut self, nsid: u32, slba: u64, bytes: &[u8]) -> Result<Ticket, Fault> {
         placed(self.handle.compare(nsid, slba, bytes))
     }
 
-    /// Fills blocks with zeros.
+    /// Fills 1 to 65,536 blocks of 512 bytes with zeros, from block `slba` on.
+    ///
+    /// # Errors
+    ///
+    /// Those of [`Driver::read`].
     pub fn write_zeroes(&mut self, nsid: u32, slba: u64, blocks: u32) -> Result<Ticket, Fault> {
         placed(self.handle.write_zeroes(nsid, slba, blocks))
     }
 
-    /// Asks for what was written to be kept.
+    /// Asks for what was written to the namespace to be kept: when the answer is a success, it is.
+    ///
+    /// # Errors
+    ///
+    /// Those of [`Driver::read`].
     pub fn flush(&mut self, nsid: u32) -> Result<Ticket, Fault> {
         placed(self.handle.flush(nsid))
     }
 
     /// Sends the requests that were placed.
+    ///
+    /// # Errors
+    ///
+    /// [`Fault::ActionsPending`], [`Fault::NotUp`] or [`Fault::Expired`].
     pub fn ring(&mut self) -> Result<(), Fault> {
         judged(self.handle.ring())
     }
 
     /// The next answer, if there is one; its data are at the front of the buffer, which has [`BUFFER`] bytes or more.
+    ///
+    /// # Errors
+    ///
+    /// [`Fault::Outside`] for a shorter buffer; [`Fault::ActionsPending`]; [`Fault::NotUp`]; [`Fault::UnknownCommand`]
+    /// if a completion answers no request: reset the controller then.
     pub fn poll(&mut self, buffer: &mut [u8]) -> Result<Option<Outcome>, Fault> {
         let it = self.handle.poll(buffer);
         let (ticket, status) = (Ticket(it.ticket), Status { sct: it.sct, sc: it.sc });
         match it.code {
             NOTHING => Ok(None),
-            DONE => Ok(Some(Outcome::Done { ticket, status, dw0: it.dw0, length: it.len as usize })),
+            DONE => Ok(Some(Outcome::Done { ticket, status, dw0: it.dw0, length: to_usize(it.len) })),
             ABORTED => Ok(Some(Outcome::Aborted { ticket })),
             code => Err(Fault::from_code(code)),
         }
     }
 
     /// What the controller answered when it was last asked.
+    ///
+    /// # Errors
+    ///
+    /// [`Fault::ControllerNotAsked`]; [`Fault::NotIo`] or [`Fault::EntrySize`] if it does not suit the driver.
     pub fn controller(&mut self) -> Result<Controller, Fault> {
         let it = self.handle.controller();
         let facts = Controller { nn: it.nn, cntlid: it.cntlid, oncs: it.oncs, mdts: it.mdts, vwc: it.vwc };
         judged(it.code).map(|()| facts)
     }
 
-    /// The blocks of a namespace that suits the driver, as it was last asked.
+    /// The number of blocks, of 512 bytes each, of a namespace that suits the driver, as it was last asked.
+    ///
+    /// # Errors
+    ///
+    /// [`Fault::NamespaceNotAsked`]; [`Fault::NotThere`], [`Fault::BlockSize`] or [`Fault::Metadata`] if it does not
+    /// suit the driver.
     pub fn namespace(&mut self, nsid: u32) -> Result<u64, Fault> {
         let it = self.handle.namespace(nsid);
         judged(it.code).map(|()| it.blocks)
     }
 
-    /// Takes the actions of the last call.
+    /// Takes the actions of the last call, at most 32, which have to be performed in this order before the next call.
     pub fn actions(&mut self) -> impl Iterator<Item = Action> {
         let mut actions = [raw::Action::default(); raw::ACTIONS];
         let count = self.handle.actions(&mut actions);
         actions.into_iter().take(count).map(|it| match it.kind {
-            STORE => Action::Store { address: it.at, length: it.len as usize },
+            STORE => Action::Store { address: it.at, length: to_usize(it.len) },
             _ => Action::Write { offset: it.at, value: it.value },
         })
     }
 
     /// Loads bytes of the driver's own window.
+    ///
+    /// # Errors
+    ///
+    /// [`Fault::Outside`]: the buffer is unchanged.
     pub fn load(&mut self, address: u64, bytes: &mut [u8]) -> Result<(), Fault> {
         judged(self.handle.load(address, bytes))
     }
 
     /// The place of the next completion of the Admin Queue, 0, or the I/O queue, 1.
+    ///
+    /// # Errors
+    ///
+    /// [`Fault::Outside`] for another queue.
     pub fn next_completion(&mut self, queue: u32) -> Result<NextCompletion, Fault> {
         let it = self.handle.next_completion(queue);
         judged(it.code).map(|()| NextCompletion { address: it.at, phase: it.phase == 1 })
     }
 
     /// Stores a completion that the controller has posted; the address and length of its data.
+    ///
+    /// # Errors
+    ///
+    /// [`Fault::Outside`] for another queue; [`Fault::ActionsPending`].
     pub fn store_completion(&mut self, queue: u32, entry: &[u8; 16]) -> Result<(u64, usize), Fault> {
         let it = self.handle.store_completion(queue, entry);
-        judged(it.code).map(|()| (it.at, it.len as usize))
+        judged(it.code).map(|()| (it.at, to_usize(it.len)))
     }
 
     /// Stores data of the last completion.
+    ///
+    /// # Errors
+    ///
+    /// [`Fault::Outside`] or [`Fault::ActionsPending`]: nothing is stored.
     pub fn store_data(&mut self, address: u64, bytes: &[u8]) -> Result<(), Fault> {
         judged(self.handle.store_data(address, bytes))
     }

@@ -6,7 +6,7 @@ use std::fmt;
 /// The status of a completion: its type and code.
 #[derive(Clone, Copy, Debug, PartialEq, Eq)]
 pub struct Status {
-    /// The status code type.
+    /// The status code type, 0 to 7.
     pub sct: u8,
     /// The status code.
     pub sc: u8,

@@ -2,7 +2,23 @@
 //! none from before a reset after it.
 //!
 //! [`Port`] drives a [`Device`]: memory that the controller reaches, and its registers. [`Mapped`] is one whose parts are
-//! mapped into this process. [`Driver`] is the driver alone.
+//! mapped into this process. [`Driver`] is the driver alone. Blocks have 512 bytes, and requests wait for their answers
+//! as long as the program says:
+//!
+//! ```
+//! use nvmehost::{Device, Fault, Port};
+//! use std::time::Duration;
+//!
+//! fn first_block_of(device: impl Device) -> Result<Vec<u8>, Fault> {
+//!     let (mut port, second) = (Port::start(device)?, Duration::from_secs(1));
+//!     let asked = port.driver().ask(1)?;
+//!     port.answer(asked, second)?;
+//!     let read = port.driver().read(1, 0, 1)?;
+//!     Ok(port.answer(read, second)?.to_vec())
+//! }
+//! ```
+//!
+//! Each failure has its name:
 //!
 //! ```
 //! use nvmehost::{Device, Fault, Port};
@@ -29,13 +45,14 @@
 
 #![deny(unsafe_code)]
 #![warn(missing_docs)]
-#![warn(clippy::pedantic)]
-// The types of errors say when a call fails, and the library's lengths fit into the memory.
-#![allow(clippy::cast_possible_truncation, clippy::doc_markdown, clippy::missing_errors_doc, clippy::wildcard_imports)]
+#![warn(clippy::pedantic, clippy::as_conversions, clippy::undocumented_unsafe_blocks)]
+// Names of the standard are no code.
+#![allow(clippy::doc_markdown)]
 
 mod driver;
 mod fault;
 mod mapped;
+mod numbers;
 mod port;
 #[allow(unsafe_code)]
 mod raw;

@@ -1,6 +1,7 @@
 //! A device whose memory and registers are mapped into this process, as VFIO maps them.
 
 use crate::driver::WINDOW;
+use crate::numbers::{to_u64, to_usize};
 use crate::port::Device;
 use crate::raw::Mapping;
 
@@ -18,19 +19,19 @@ impl Mapped {
 
     /// The index of a part of the memory or the registers, which has to be whole words in it.
     fn part(at: u64, length: usize, limit: u64) -> usize {
-        let is_inside = limit.checked_sub(length as u64).map_or(false, |last| at <= last);
+        let is_inside = limit.checked_sub(to_u64(length)).map_or(false, |last| at <= last);
         assert!(is_inside && at % 4 == 0 && length % 4 == 0, "{length} bytes at {at:#x} are outside, or no words");
-        at as usize
+        to_usize(at)
     }
 }
 
 impl Device for Mapped {
     fn store(&mut self, address: u64, bytes: &[u8]) {
-        self.mapping.store(Self::part(address, bytes.len(), WINDOW as u64), bytes);
+        self.mapping.store(Self::part(address, bytes.len(), to_u64(WINDOW)), bytes);
     }
 
     fn load(&mut self, address: u64, bytes: &mut [u8]) {
-        self.mapping.load(Self::part(address, bytes.len(), WINDOW as u64), bytes);
+        self.mapping.load(Self::part(address, bytes.len(), to_u64(WINDOW)), bytes);
     }
 
     fn write32(&mut self, offset: u64, value: u32) {

@@ -11,8 +11,9 @@ const QUEUES: u32 = 2;
 /// How often the status is read while a request waits: that takes a device a microsecond.
 const LOOK: Duration = Duration::from_millis(1);
 
-/// A device: memory that the controller reaches too, from address 0, and its registers. Addresses, offsets and lengths
-/// are multiples of 4. The controller may change its memory at any moment.
+/// A device: memory of [`WINDOW`](crate::WINDOW) bytes that the controller reaches too, from address 0, and its
+/// registers. Addresses, offsets and lengths are in bytes, and multiples of 4. The controller may change its memory at
+/// any moment.
 pub trait Device {
     /// Stores bytes in the memory.
     fn store(&mut self, address: u64, bytes: &[u8]);
@@ -41,6 +42,11 @@ pub struct Port<D> {
 
 impl<D: Device> Port<D> {
     /// Judges the capabilities, resets the controller, brings it up and asks about it.
+    ///
+    /// # Errors
+    ///
+    /// Why the device is not used: a fault of [`Driver::capabilities`], [`Port::reset`], [`Port::bring_up`] or
+    /// [`Port::answer`]; [`Fault::Outside`] if its registers end before the doorbells; [`Fault::NoMemory`].
     pub fn start(mut device: D) -> Result<Port<D>, Fault> {
         let mut driver = Driver::open(Ticket(1))?;
         let cap = u64::from(device.read32(CAP)) | u64::from(device.read32(CAP + 4)) << 32;
@@ -72,6 +78,10 @@ impl<D: Device> Port<D> {
     }
 
     /// Disables the controller. If that fails, the controller may still change its memory.
+    ///
+    /// # Errors
+    ///
+    /// [`Fault::Removed`], [`Fault::Fatal`] or [`Fault::TimedOut`].
     pub fn reset(&mut self) -> Result<(), Fault> {
         self.driver.reset()?;
         self.perform()?;
@@ -79,6 +89,10 @@ impl<D: Device> Port<D> {
     }
 
     /// Enables the controller after a reset, and creates the queues.
+    ///
+    /// # Errors
+    ///
+    /// Those of [`Driver::bring_up`] and [`Driver::status`].
     pub fn bring_up(&mut self) -> Result<(), Fault> {
         loop {
             let how = self.driver.bring_up();
@@ -92,6 +106,10 @@ impl<D: Device> Port<D> {
     }
 
     /// Shuts the controller down.
+    ///
+    /// # Errors
+    ///
+    /// [`Fault::NotUp`], or those of [`Driver::status`].
     pub fn shutdown(&mut self) -> Result<(), Fault> {
         self.driver.shutdown()?;
         self.perform()?;
@@ -99,6 +117,10 @@ impl<D: Device> Port<D> {
     }
 
     /// Sends all requests that were placed.
+    ///
+    /// # Errors
+    ///
+    /// [`Fault::NotUp`] or [`Fault::Expired`].
     pub fn send(&mut self) -> Result<(), Fault> {
         self.perform()?;
         self.driver.ring()?;
@@ -106,6 +128,10 @@ impl<D: Device> Port<D> {
     }
 
     /// The next answer, if there is one: looks at both queues once.
+    ///
+    /// # Errors
+    ///
+    /// [`Fault::NotUp`], or [`Fault::UnknownCommand`] if a completion answers no request: reset the controller then.
     pub fn poll(&mut self) -> Result<Option<Outcome>, Fault> {
         for queue in 0..QUEUES {
             let next = self.driver.next_completion(queue)?;
@@ -126,6 +152,11 @@ impl<D: Device> Port<D> {
 
     /// Sends a request that was placed, and waits for its answer: its data, or why there is none. Answers to others are
     /// delivered to nobody. A request without an answer in time expires, and one whose controller is not up any more.
+    ///
+    /// # Errors
+    ///
+    /// [`Fault::Answered`] with any status but a success; [`Fault::NoAnswerInTime`], or a fault of [`Driver::health`],
+    /// and the request has expired: reset the controller. Those of [`Port::send`] and [`Port::poll`].
     pub fn answer(&mut self, ticket: Ticket, time: Duration) -> Result<&[u8], Fault> {
         self.send()?;
         let (begun, mut looked) = (Instant::now(), Duration::ZERO);
@@ -137,7 +168,7 @@ impl<D: Device> Port<D> {
                         status => Err(Fault::Answered(status)),
                     };
                 }
-                Some(_) => continue,
+                Some(_) => {}
                 None => self.device.wait(),
             }
             let waited = begun.elapsed();

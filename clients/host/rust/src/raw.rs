@@ -1,4 +1,7 @@
 //! The calls of libnvmehost, and the memory that a device reaches. All unsafe code of this crate is here.
+//!
+//! Keeps what the header asks of its caller: a [`Handle`] begins closed, is neither copied nor shared, and is closed
+//! when it is dropped; references and slices are never null, and have as many values as they say.
 
 use crate::mapped::Mapped;
 use std::ffi::c_void;
@@ -84,11 +87,11 @@ pub struct Handle {
     is_open: bool,
 }
 
-// A handle is of one thread at a time, and the library keeps nothing of a thread.
+// SAFETY: a handle is of one thread at a time, and the library keeps nothing of a thread.
 unsafe impl Send for Handle {}
 
 mod foreign {
-    use super::*;
+    use super::{Action, CompletionData, Controller, Handle, Limits, Namespace, NextCompletion, Outcome, Placed};
 
     extern "C" {
         pub fn nvmehost_open(host: &mut Handle, first_ticket: u64) -> u32;
@@ -121,9 +124,12 @@ mod foreign {
 }
 
 pub fn health(csts: u32) -> u32 {
+    // SAFETY: it takes a number alone.
     unsafe { foreign::nvmehost_health(csts) }
 }
 
+// Each call keeps what the first lines of this file say.
+#[allow(clippy::undocumented_unsafe_blocks)]
 impl Handle {
     pub const CLOSED: Handle = Handle { at: ptr::null_mut(), is_open: false };
 
@@ -203,6 +209,7 @@ impl Handle {
 
 impl Drop for Handle {
     fn drop(&mut self) {
+        // SAFETY: a handle, closed or open.
         unsafe { foreign::nvmehost_close(self) }
     }
 }
@@ -214,7 +221,7 @@ pub struct Mapping {
     registers: *mut u8,
 }
 
-// They are addresses of no thread.
+// SAFETY: they are addresses of no thread.
 unsafe impl Send for Mapping {}
 
 impl Mapped {
@@ -236,6 +243,7 @@ impl Mapping {
     pub fn store(&mut self, address: usize, bytes: &[u8]) {
         for (i, word) in bytes.chunks_exact(4).enumerate() {
             let value = u32::from_ne_bytes([word[0], word[1], word[2], word[3]]);
+            // SAFETY: `Mapped` has checked that all words are inside, and whole.
             unsafe { ptr::write_volatile(self.memory.add(address + 4 * i).cast(), value) }
         }
     }
@@ -243,6 +251,7 @@ impl Mapping {
     /// Loads words, the first one first.
     pub fn load(&mut self, address: usize, bytes: &mut [u8]) {
         for (i, word) in bytes.chunks_exact_mut(4).enumerate() {
+            // SAFETY: `Mapped` has checked that all words are inside, and whole.
             let value: u32 = unsafe { ptr::read_volatile(self.memory.add(address + 4 * i).cast()) };
             word.copy_from_slice(&value.to_ne_bytes());
         }
@@ -251,10 +260,12 @@ impl Mapping {
 
     pub fn write32(&mut self, offset: usize, value: u32) {
         fence(Ordering::SeqCst);
+        // SAFETY: `Mapped` has checked that the register is inside, and whole.
         unsafe { ptr::write_volatile(self.registers.add(offset).cast(), value) }
     }
 
     pub fn read32(&mut self, offset: usize) -> u32 {
+        // SAFETY: `Mapped` has checked that the register is inside, and whole.
         unsafe { ptr::read_volatile(self.registers.add(offset).cast()) }
     }
 }
