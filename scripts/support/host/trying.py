@@ -5,6 +5,7 @@ import re
 import shutil
 import subprocess
 
+from support import clippy
 from support.host import building, header
 from support.library.trying import NEEDED, STRICT
 
@@ -145,12 +146,16 @@ class Trial:
             self.check(f"nvmehost {' '.join(words)}", problem)
 
     def rust(self):
-        """The crate: its tests, those in its documents, and where it is unsafe."""
+        """The crate: its tests, those in its documents, clippy, and where it is unsafe."""
         crate = self.clients / "rust"
         environment = {**os.environ, "NVMEHOST_LIB": str(self.prefix / "lib"), "CARGO_TARGET_DIR": str(self.room / "target")}
         status, text = self.run(["cargo", "test", "--offline", "--quiet", "--locked", "--manifest-path",
                                  crate / "Cargo.toml"], environment)
         self.check("the crate for Rust", status and text)
+        if clippy.is_there():
+            self.check("the crate for Rust under clippy", clippy.problem(crate, environment))
+        else:
+            print("host: there is no clippy, so the crate for Rust is not checked by it", flush=True)
         unsafe = [it.name for it in (crate / "src").glob("*.rs") if "unsafe {" in it.read_text(encoding="utf-8")]
         self.check("where the crate is unsafe", unsafe != ["raw.rs"] and f"{unsafe}")
 

@@ -7,6 +7,7 @@ import subprocess
 import sys
 from pathlib import Path
 
+from support import clippy
 from support.library import building, header, unproved
 
 # What the library needs of the C library, and nothing else.
@@ -149,13 +150,17 @@ class Trial:
                    kept[1:] != [[building.unproved_archive(self.top)]] and f"{kept}")
 
     def rust(self):
-        """The crate: its tests, those in its documents, the example, and where it is unsafe."""
+        """The crate: its tests, those in its documents, clippy, the example, and where it is unsafe."""
         crate = self.top / "clients" / "rust"
         words = ["cargo", "--offline", "--quiet"]
         environment = {**os.environ, "NVMESIM_LIB": str(self.prefix / "lib"), "CARGO_TARGET_DIR": str(self.room / "target")}
         status, text = self.run([*words[:1], "test", *words[1:], "--locked", "--manifest-path", crate / "Cargo.toml"],
                                 env=environment)
         self.check("the crate for Rust", status and text)
+        if clippy.is_there():
+            self.check("the crate for Rust under clippy", clippy.problem(crate, environment))
+        else:
+            print("library: there is no clippy, so the crate for Rust is not checked by it", flush=True)
         if shutil.which("pkg-config"):
             del environment["NVMESIM_LIB"]
             environment["PKG_CONFIG_PATH"] = str(self.prefix / "lib/pkgconfig")
