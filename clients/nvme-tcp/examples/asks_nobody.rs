@@ -8,6 +8,7 @@
 mod sources {
     pub mod bytes;
     pub mod digest;
+    pub mod numbers;
     #[allow(unsafe_code)]
     pub mod system;
     pub mod transport {
@@ -21,7 +22,7 @@ use sources::system::{Interest, Poll};
 use sources::transport::output::Output;
 use sources::transport::pdu;
 use sources::transport::pdu::{Agreed, HostData, Kind, Layout};
-use sources::{bytes, digest, transport};
+use sources::{bytes, digest, numbers, transport};
 use std::collections::HashMap;
 use std::convert::Infallible;
 use std::io::{Read, Result, Write};
@@ -110,7 +111,7 @@ fn answer(out: &mut Output, blocks: &mut Blocks, asked: &mut HashMap<u16, usize>
     match opcode {
         0x01 if layout.data_length == 0 => {
             asked.insert(cid, place);
-            return pdu::ready_to_transfer(out, PLAIN, cid, 0, length);
+            return pdu::ready_to_transfer(out, PLAIN, cid, 0, u32_at(unit, 40));
         }
         0x01 => blocks.write(place, data),
         0x02 => {

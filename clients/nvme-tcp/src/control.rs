@@ -224,13 +224,13 @@ impl Target<'_> {
         for index in 0..self.controllers.len() {
             let queues = self.io_queues(index);
             if let Some(it) = &self.associations[index] {
-                let host: String = it.host_id.iter().map(|byte| format!("{byte:02x}")).collect();
+                let host = u128::from_be_bytes(it.host_id);
                 let name =
                     String::from_utf8_lossy(&it.host_name).replace(|c: char| c == '"' || c == '\\' || c < ' ', "?");
                 let between = if text.is_empty() { "" } else { ", " };
                 let _ = write!(
                     text,
-                    "{between}{{\"controller\": {}, \"host\": \"{host}\", \"name\": \"{name}\", \"address\": \"{}\", \
+                    "{between}{{\"controller\": {}, \"host\": \"{host:032x}\", \"name\": \"{name}\", \"address\": \"{}\", \
                      \"port\": {}, \"target\": \"{}\", \"io_queues\": {queues}}}",
                     self.controllers[index].cntlid,
                     it.peer.ip(),

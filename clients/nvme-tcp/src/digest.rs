@@ -3,19 +3,22 @@
 #[allow(unsafe_code)]
 mod processor;
 
+use crate::bytes::u32_at;
+use crate::numbers::index;
+
 /// What each byte adds, with 0 to 7 bytes after it.
 static TABLES: [[u32; 256]; 8] = {
     let mut tables = [[0; 256]; 8];
     let mut at = 0;
     while at < 8 * 256 {
-        let (after, byte) = (at / 256, at % 256);
-        let mut value = if after == 0 { byte as u32 } else { tables[after - 1][byte] };
+        let (after, byte) = (index(at / 256), at % 256);
+        let mut value = if after == 0 { byte } else { tables[after - 1][index(byte)] };
         let mut bit = 0;
         while bit < 8 {
             value = if value & 1 == 1 { value >> 1 ^ 0x82f6_3b78 } else { value >> 1 };
             bit += 1;
         }
-        tables[after][byte] = value;
+        tables[after][index(byte)] = value;
         at += 1;
     }
     tables
@@ -35,18 +38,19 @@ pub fn crc32c_after(before: u32, bytes: &[u8]) -> u32 {
 fn by_tables(mut value: u32, bytes: &[u8]) -> u32 {
     let mut parts = bytes.chunks_exact(8);
     for part in &mut parts {
-        let low = value ^ u32::from_le_bytes([part[0], part[1], part[2], part[3]]);
-        value = TABLES[7][(low & 255) as usize]
-            ^ TABLES[6][(low >> 8 & 255) as usize]
-            ^ TABLES[5][(low >> 16 & 255) as usize]
-            ^ TABLES[4][(low >> 24) as usize]
+        let low = (value ^ u32_at(part, 0)).to_le_bytes();
+        value = TABLES[7][usize::from(low[0])]
+            ^ TABLES[6][usize::from(low[1])]
+            ^ TABLES[5][usize::from(low[2])]
+            ^ TABLES[4][usize::from(low[3])]
             ^ TABLES[3][usize::from(part[4])]
             ^ TABLES[2][usize::from(part[5])]
             ^ TABLES[1][usize::from(part[6])]
             ^ TABLES[0][usize::from(part[7])];
     }
     for byte in parts.remainder() {
-        value = value >> 8 ^ TABLES[0][((value ^ u32::from(*byte)) & 255) as usize];
+        let [low, ..] = value.to_le_bytes();
+        value = value >> 8 ^ TABLES[0][usize::from(low ^ byte)];
     }
     value
 }
@@ -67,7 +71,7 @@ mod tests {
 
     #[test]
     fn tables_and_parts_give_the_same() {
-        let bytes: Vec<u8> = (0..1000_usize).map(|at| (at * at / 7) as u8).collect();
+        let bytes: Vec<u8> = (0..1000_u32).map(|at| (at * at / 7).to_le_bytes()[0]).collect();
         for end in 0..100 {
             let (first, then) = bytes[..10 * end].split_at(7 * end);
             assert_eq!(crc32c_after(crc32c(first), then), crc32c(&bytes[..10 * end]));

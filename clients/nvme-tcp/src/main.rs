@@ -3,20 +3,25 @@
 //! It has no rule of its own: every status is that of the subsystem, except those of Fabrics commands. One thread owns
 //! the subsystem and serves all connections.
 #![deny(unsafe_code)]
-#![warn(clippy::pedantic)]
-// Casts are of numbers whose bounds clippy can't see. Names of standards are no code.
+#![warn(clippy::pedantic, clippy::as_conversions, clippy::undocumented_unsafe_blocks)]
 #![allow(
-    clippy::assigning_clones,
-    clippy::cast_possible_truncation,
-    clippy::cast_possible_wrap,
-    clippy::cast_precision_loss,
-    clippy::cast_sign_loss,
+    // Names of standards are no code.
     clippy::doc_markdown,
-    clippy::format_collect,
-    clippy::large_stack_arrays,
+    // A call for each is shorter as one line.
     clippy::needless_for_each,
-    clippy::similar_names,
+    // Each is a setting, a field of a PDU or a fact of its own.
     clippy::struct_excessive_bools
+)]
+// Tests make bytes of counters, and have large arrays.
+#![cfg_attr(
+    test,
+    allow(
+        clippy::as_conversions,
+        clippy::cast_possible_truncation,
+        clippy::format_collect,
+        clippy::large_stack_arrays,
+        clippy::similar_names
+    )
 )]
 
 // Simulated network, disk, clock and threads, under the names of the standard library.
@@ -24,6 +29,9 @@
 #[macro_use]
 extern crate simulator as std;
 
+// Few conversions by `as` are left in admin.rs, server.rs, storage.rs, writing.rs, target.rs, deallocating.rs and
+// memory.rs.
+#[allow(clippy::as_conversions, clippy::cast_possible_truncation)]
 mod admin;
 mod authentication;
 mod bytes;
@@ -37,17 +45,21 @@ mod fault;
 mod files;
 mod journal;
 #[cfg(not(feature = "simulated"))]
-#[allow(unsafe_code)]
+#[allow(unsafe_code, clippy::as_conversions, clippy::undocumented_unsafe_blocks)]
 mod memory;
+mod numbers;
 mod nvme;
 mod options;
 mod recording;
+#[allow(clippy::as_conversions, clippy::cast_possible_truncation)]
 mod server;
 mod start;
+#[allow(clippy::as_conversions, clippy::cast_possible_truncation)]
 mod storage;
 #[cfg(not(feature = "simulated"))]
 #[allow(unsafe_code)]
 mod system;
+#[allow(clippy::as_conversions, clippy::cast_possible_truncation)]
 mod target;
 mod transport;
 mod volume;

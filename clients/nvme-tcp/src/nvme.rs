@@ -18,6 +18,7 @@ pub const MOST_BLOCKS: u64 = 65_536;
 
 /// The highest queue identifier of a controller, and its number of queue pairs, including the admin queues.
 pub const MOST_QUEUE: u16 = 4;
+#[allow(clippy::as_conversions)] // `usize::from` is not `const`.
 pub const QUEUES: usize = MOST_QUEUE as usize + 1;
 /// The most entries of a queue: a page of submission queue entries. CAP.MQES is one less.
 pub const MOST_ENTRIES: u16 = 64;

@@ -233,7 +233,7 @@ impl Options {
             "--listen" => self.listen.push(text.parse().map_err(|_| wrong())?),
             "--advertise" => self.settings.advertised = Some(text.parse().map_err(|_| wrong())?),
             "--log" => self.settings.log = Form::of(text).ok_or_else(wrong)?,
-            "--name" if is_name(text) => self.settings.name = text.to_owned(),
+            "--name" if is_name(text) => text.clone_into(&mut self.settings.name),
             "--name" => return Err(wrong()),
             "--allow" => self.settings.admission.allowed.push(allowed(text).ok_or_else(wrong)?),
             "--keys" => {

@@ -17,6 +17,7 @@ pub mod script;
 use crate::bytes::{u16_at, u32_at, u64_at};
 use crate::configuration::Configuration;
 use crate::fault::Fault;
+use crate::numbers::to_u64;
 use crate::recording::appended::Appended;
 use crate::recording::frame::Head;
 use crate::recording::pipeline::Piece;
@@ -46,14 +47,14 @@ struct Fields<'b>(&'b mut Vec<u8>);
 impl Fields<'_> {
     fn put(&mut self, event: &Event) {
         match *event {
-            Event::Stored { cntlid, address, count } => self.begin(STORED, cntlid).u64(address).u64(count as u64),
+            Event::Stored { cntlid, address, count } => self.begin(STORED, cntlid).u64(address).u64(to_u64(count)),
             Event::Wrote32 { cntlid, offset, value } => self.begin(WROTE32, cntlid).u64(offset).u32(value),
             Event::Fetched { cntlid, qid, fetched: Fetched::Took } => self.begin(TOOK, cntlid).u16(qid),
             Event::Fetched { cntlid, qid, fetched: Fetched::Idle } => self.begin(IDLE, cntlid).u16(qid),
-            Event::Executed { cntlid, i, executed: Executed::NoSuch } => self.begin(NO_SUCH, cntlid).u64(i as u64),
-            Event::Executed { cntlid, i, executed: Executed::CqFull } => self.begin(CQ_FULL, cntlid).u64(i as u64),
+            Event::Executed { cntlid, i, executed: Executed::NoSuch } => self.begin(NO_SUCH, cntlid).u64(to_u64(i)),
+            Event::Executed { cntlid, i, executed: Executed::CqFull } => self.begin(CQ_FULL, cntlid).u64(to_u64(i)),
             Event::Executed { cntlid, i, executed: Executed::Posted(Completion { sct, sc, dw0, denied_by }) } => {
-                self.begin(POSTED, cntlid).u64(i as u64).u32(dw0).u8(sct).u8(sc).u8(denied_by.unwrap_or(0))
+                self.begin(POSTED, cntlid).u64(to_u64(i)).u32(dw0).u8(sct).u8(sc).u8(denied_by.unwrap_or(0))
             }
             Event::PowerCycle => self.u8(POWER_CYCLE),
         };
@@ -162,7 +163,7 @@ impl Recording {
     pub fn new(file: File, head: &str) -> io::Result<Recording> {
         let mut file = Appended::new(file)?;
         let mut first = [MAGIC, format!("{VERSION}\n").as_bytes()].concat();
-        first.extend(Head::new(0, head.as_bytes(), &[]).bytes(first.len() as u64)?);
+        first.extend(Head::new(0, head.as_bytes(), &[]).bytes(to_u64(first.len()))?);
         file.append_both(&first, head.as_bytes())?;
         Ok(Recording { file, first })
     }

@@ -6,6 +6,7 @@
 //! values have the lengths that the calls are given; and nobody else owns a descriptor that a call has returned. The
 //! signal handler stores to an atomic value and calls signal(2), as a handler may.
 
+use crate::numbers::narrow;
 use std::fs::File;
 use std::io;
 use std::os::raw::c_long;
@@ -66,8 +67,9 @@ extern "C" {
 /// The time since the machine was started, also while it sleeps: CLOCK_BOOTTIME. If it is unknown, all leases have ended.
 pub fn time_since_boot() -> Duration {
     let mut time = [0; 2];
+    // SAFETY: there is room for both words of the time.
     match unsafe { clock_gettime(7, &mut time) } {
-        0 => Duration::new(time[0] as u64, time[1] as u32),
+        0 => Duration::new(narrow(time[0]), narrow(time[1])),
         _ => Duration::MAX,
     }
 }
@@ -85,11 +87,13 @@ extern "C" fn ask_to_end(_: i32) {
 
 fn act_on_signals(action: usize) {
     for number in ENDING {
+        // SAFETY: the action is SIG_DFL or `ask_to_end`, which does what a handler may.
         unsafe { signal(number, action) };
     }
 }
 
 /// From now on the first SIGINT or SIGTERM is noted, and a second one ends the process at once.
+#[allow(clippy::as_conversions)] // A function has no other conversion to the number that signal(2) takes.
 pub fn note_signals() {
     act_on_signals(ask_to_end as extern "C" fn(i32) as usize);
 }
@@ -106,8 +110,10 @@ extern "C" fn ask_to_read_again(_: i32) {
 }
 
 /// From now on SIGHUP is noted, each time.
+#[allow(clippy::as_conversions)] // As above.
 pub fn note_hang_up() {
     const HANG_UP: i32 = 1;
+    // SAFETY: the action does what a handler may.
     unsafe { signal(HANG_UP, ask_to_read_again as extern "C" fn(i32) as usize) };
 }
 
@@ -119,6 +125,7 @@ pub fn is_asked_to_read_again() -> bool {
 /// Keeps the memory of this process from other processes of its user, and out of core dumps: PR_SET_DUMPABLE.
 pub fn hide_memory() -> io::Result<()> {
     const SET_DUMPABLE: i32 = 4;
+    // SAFETY: it takes numbers alone.
     match unsafe { prctl(SET_DUMPABLE, 0, 0, 0, 0) } {
         0 => Ok(()),
         _ => Err(io::Error::last_os_error()),
@@ -127,6 +134,7 @@ pub fn hide_memory() -> io::Result<()> {
 
 /// The user that this process acts as.
 pub fn user() -> u32 {
+    // SAFETY: it takes nothing, and never fails.
     unsafe { geteuid() }
 }
 
@@ -138,6 +146,7 @@ const ASKS: [(i32, i32, i32); 5] = [(1, 9, 1), (6, 4, 30), (6, 5, 10), (6, 6, 6)
 /// Has the system end a connection whose other side was not heard of for 90 seconds.
 pub fn end_when_lost(socket: &impl AsRawFd) -> io::Result<()> {
     ASKS.iter().try_for_each(|(level, option, value)| {
+        // SAFETY: the value is an `i32`, of 4 bytes.
         match unsafe { setsockopt(socket.as_raw_fd(), *level, *option, value, 4) } {
             0 => Ok(()),
             _ => Err(io::Error::last_os_error()),
@@ -147,15 +156,17 @@ pub fn end_when_lost(socket: &impl AsRawFd) -> io::Result<()> {
 
 /// Reserves disk space for a file, from a position. The file keeps its length.
 pub fn reserve(file: &File, place: u64, count: u64) -> io::Result<()> {
-    match unsafe { fallocate(file.as_raw_fd(), KEEP_LENGTH, place as i64, count as i64) } {
-        0 => Ok(()),
-        _ => Err(io::Error::last_os_error()),
-    }
+    change_space(file, KEEP_LENGTH, place, count)
 }
 
 /// Replaces bytes of a file by a hole, which reads as zeros. The file keeps its length.
 pub fn punch_hole(file: &File, place: u64, count: u64) -> io::Result<()> {
-    match unsafe { fallocate(file.as_raw_fd(), KEEP_LENGTH | PUNCH_HOLE, place as i64, count as i64) } {
+    change_space(file, KEEP_LENGTH | PUNCH_HOLE, place, count)
+}
+
+fn change_space(file: &File, mode: i32, place: u64, count: u64) -> io::Result<()> {
+    // SAFETY: it takes numbers alone, and the file is open.
+    match unsafe { fallocate(file.as_raw_fd(), mode, narrow(place), narrow(count)) } {
         0 => Ok(()),
         _ => Err(io::Error::last_os_error()),
     }
@@ -164,6 +175,7 @@ pub fn punch_hole(file: &File, place: u64, count: u64) -> io::Result<()> {
 /// Locks a file by flock(2): LOCK_SH or LOCK_EX, and LOCK_NB unless it waits.
 pub fn lock(file: &File, is_shared: bool, waits: bool) -> io::Result<()> {
     let operation = if is_shared { 1 } else { 2 } | if waits { 0 } else { 4 };
+    // SAFETY: it takes numbers alone, and the file is open.
     match unsafe { flock(file.as_raw_fd(), operation) } {
         0 => Ok(()),
         _ => Err(io::Error::last_os_error()),
@@ -178,10 +190,12 @@ pub struct Poll {
 
 impl Poll {
     pub fn new() -> io::Result<Poll> {
+        // SAFETY: it takes a number alone.
         let number = unsafe { epoll_create1(CLOSE_ON_EXEC) };
         if number < 0 {
             return Err(io::Error::last_os_error());
         }
+        // SAFETY: the call has made the descriptor, and nobody else has it.
         let descriptor = unsafe { OwnedFd::from_raw_fd(number) };
         Ok(Poll { descriptor, events: [Event { events: 0, name: 0 }; MOST] })
     }
@@ -204,6 +218,7 @@ impl Poll {
     fn control(&self, what: i32, descriptor: RawFd, name: u64, interest: Interest) -> io::Result<()> {
         let events = if interest.read { READ } else { 0 } | if interest.write { WRITE } else { 0 };
         let mut event = Event { events, name };
+        // SAFETY: the event has the layout of the kernel's, which copies it.
         match unsafe { epoll_ctl(self.descriptor.as_raw_fd(), what, descriptor, &mut event) } {
             0 => Ok(()),
             _ => Err(io::Error::last_os_error()),
@@ -214,12 +229,13 @@ impl Poll {
     pub fn wait(&mut self, milliseconds: i32, ready: &mut Vec<Ready>) -> io::Result<()> {
         ready.clear();
         let poll = self.descriptor.as_raw_fd();
-        let count = unsafe { epoll_wait(poll, self.events.as_mut_ptr(), MOST as i32, milliseconds) };
+        // SAFETY: there is room for `MOST` events, which have the layout of the kernel's.
+        let count = unsafe { epoll_wait(poll, self.events.as_mut_ptr(), narrow(MOST), milliseconds) };
         if count < 0 {
             let error = io::Error::last_os_error();
             return if error.kind() == io::ErrorKind::Interrupted { Ok(()) } else { Err(error) };
         }
-        ready.extend(self.events[..count as usize].iter().map(|event| {
+        ready.extend(self.events[..narrow::<_, usize>(count)].iter().map(|event| {
             let Event { events, name } = *event;
             let is_over = events & (FAULT | HANG_UP) != 0;
             Ready { name, read: events & READ != 0, is_over }

@@ -223,6 +223,7 @@ mod tests {
     use super::superblock::JOURNAL_AT;
     use super::*;
     use crate::journal::record::Record;
+    use crate::numbers::to_u64;
     use crate::nvme::entry::SubmissionEntry;
     use crate::nvme::RESERVATION_REGISTER;
     use crate::target::controller::Data;
@@ -304,7 +305,7 @@ mod tests {
             let file = open_direct(&path, true).unwrap();
             let record = Record { epoch: 0, event: Event::Checkpoint(kept(&path).1) }.bytes();
             let begin_segment = |number, place| {
-                let at = JOURNAL_AT + (place % area::SEGMENTS * area::SEGMENT) as u64;
+                let at = JOURNAL_AT + to_u64(place % area::SEGMENTS * area::SEGMENT);
                 file.write_all_at(&area::checkpoint(number, &record), at).unwrap();
             };
             begin_segment(5, place);

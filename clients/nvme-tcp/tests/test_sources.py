@@ -1,20 +1,37 @@
-"""The sources: what is unsafe is in eight short files, numbers of the standard in one, and the crate's tests pass."""
+"""The sources: what is unsafe is in eight short files, numbers of the standard in one, clippy has no warning, and the
+crate's tests pass."""
 import os
 import re
 import shutil
 import subprocess
+import sys
 import unittest
 from pathlib import Path
 
 from tests.targets import has_keys
 
 HERE = Path(__file__).resolve().parent.parent
+sys.path.insert(0, str(HERE.parent.parent / "scripts"))
+
+from support import clippy
+
 # The calls of the library; the simulator's stacks, its memory and its calls of libcrypto; the target's calls of
 # libcrypto, the instruction of the processor, mapped memory, the system calls.
 UNSAFE = sorted([HERE.parent / "rust/src/raw.rs",
                  *(HERE / f"simulator/src/{it}.rs" for it in ("fiber", "heap", "libcrypto")),
                  *(HERE / f"src/{it}.rs" for it in ("authentication/libcrypto", "digest/processor", "memory", "system"))])
 MOST_LINES = 328
+IS_BUILT = shutil.which("cargo") and (HERE / "out/library/lib").is_dir()
+
+
+def environment() -> "dict[str, str]":
+    """What cargo needs to build over the library, in the folder of the program."""
+    return {**os.environ, "NVMESIM_LIB": str(HERE / "out/library/lib"), "CARGO_TARGET_DIR": str(HERE / "out/target")}
+
+
+def features() -> "list[str]":
+    """Those that the program is built with."""
+    return ["--features", "authentication"] if has_keys() else []
 
 
 class Sources(unittest.TestCase):
@@ -38,11 +55,13 @@ class Sources(unittest.TestCase):
             self.assertEqual([it for it in defined if it in text], [], name)
             self.assertNotRegex(text, r"\[None; \d+\]", name)
 
-    @unittest.skipUnless(shutil.which("cargo") and (HERE / "out/library/lib").is_dir(), "nothing was built here")
+    @unittest.skipUnless(IS_BUILT, "nothing was built here")
     def test_units(self) -> None:
-        places = {"NVMESIM_LIB": HERE / "out/library/lib", "CARGO_TARGET_DIR": HERE / "out/target"}
-        environment = {**os.environ, **{name: str(place) for name, place in places.items()}}
-        features = ["--features", "authentication"] if has_keys() else []
-        ran = subprocess.run(["cargo", "test", "--release", "--offline", "--locked", "--quiet", *features], cwd=HERE,
-                             env=environment, stdout=subprocess.PIPE, stderr=subprocess.STDOUT, text=True)
+        ran = subprocess.run(["cargo", "test", "--release", "--offline", "--locked", "--quiet", *features()], cwd=HERE,
+                             env=environment(), stdout=subprocess.PIPE, stderr=subprocess.STDOUT, text=True)
         self.assertEqual(ran.returncode, 0, ran.stdout)
+
+    @unittest.skipUnless(IS_BUILT and clippy.is_there(), "there is no clippy, or nothing was built here")
+    def test_clippy(self) -> None:
+        """The lints that main.rs names: the target, its unit tests and its examples."""
+        self.assertEqual(clippy.problem(HERE, environment(), ["--release", *features()]), "")

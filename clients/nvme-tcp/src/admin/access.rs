@@ -2,6 +2,7 @@
 //! are one group, so that a path has one state.
 
 use crate::bytes::put;
+use crate::numbers::narrow;
 use crate::target::Target;
 
 /// The group of all namespaces, and how many groups there are.
@@ -20,6 +21,12 @@ pub enum Access {
 }
 
 impl Access {
+    /// Its number, the Asymmetric Namespace Access State.
+    #[allow(clippy::as_conversions)] // An enum has no other conversion.
+    pub const fn state(self) -> u8 {
+        self as u8
+    }
+
     /// The state that a word names.
     fn of(word: &str) -> Option<Access> {
         match word {
@@ -56,9 +63,9 @@ impl Target<'_> {
         put(&mut page, 0, &self.access_changes.to_le_bytes());
         put(&mut page, 8, &1u16.to_le_bytes());
         put(&mut page, 16, &GROUP.to_le_bytes());
-        put(&mut page, 20, &(nsids.len() as u32).to_le_bytes());
+        put(&mut page, 20, &narrow::<_, u32>(nsids.len()).to_le_bytes());
         put(&mut page, 24, &self.access_changes.to_le_bytes());
-        page[32] = self.access[index] as u8;
+        page[32] = self.access[index].state();
         nsids.iter().enumerate().for_each(|(place, nsid)| put(&mut page, 48 + 4 * place, &nsid.to_le_bytes()));
         page
     }

@@ -20,12 +20,12 @@ pub struct Notice {
 }
 
 /// The namespace attribute notice, and that of a change of Asymmetric Namespace Access.
-pub const NAMESPACE_NOTICE: Notice = Notice { mask: 1 << 8, dw0: (CHANGED_NAMESPACES as u32) << 16 | 2 };
-pub const ACCESS_NOTICE: Notice = Notice { mask: 1 << 11, dw0: (NAMESPACE_ACCESS as u32) << 16 | 3 << 8 | 2 };
+pub const NAMESPACE_NOTICE: Notice = Notice { mask: 1 << 8, dw0: u32::from_be_bytes([0, CHANGED_NAMESPACES, 0, 2]) };
+pub const ACCESS_NOTICE: Notice = Notice { mask: 1 << 11, dw0: u32::from_be_bytes([0, NAMESPACE_ACCESS, 3, 2]) };
 
 /// Double word 0 of Reservation Log Page Available: the log page, information 0h, and type 6h. No bit of Asynchronous
 /// Event Configuration turns it off, only the masks of the namespaces do.
-const RESERVATION_EVENT: u32 = (RESERVATION_NOTICES as u32) << 16 | 6;
+const RESERVATION_EVENT: u32 = u32::from_be_bytes([0, RESERVATION_NOTICES, 0, 6]);
 
 /// The events of an association.
 #[derive(Default)]
@@ -118,11 +118,12 @@ impl Events {
 #[cfg(test)]
 mod tests {
     use super::*;
+    use crate::numbers::narrow;
 
     #[test]
     fn a_change_is_reported_once_until_it_is_read() {
         let mut events = Events { configuration: 0x900, ..Events::default() };
-        (0..MOST_EVENTS as u16).for_each(|cid| assert!(events.hold(cid)));
+        (0..narrow(MOST_EVENTS)).for_each(|cid| assert!(events.hold(cid)));
         assert!(!events.hold(9));
         assert_eq!(events.due(), None);
         events.change(3);

@@ -3,6 +3,7 @@
 
 use crate::configuration::Configuration;
 use crate::fault::Outcome;
+use crate::numbers::index;
 use crate::nvme::entry::SubmissionEntry;
 use crate::nvme::status::{
     Status, COMMAND_SEQUENCE, FEATURE_NOT_CHANGEABLE, FEATURE_NOT_SAVEABLE, FEATURE_OF_NO_NAMESPACE, INVALID_FIELD,
@@ -105,8 +106,8 @@ impl Features {
 /// of them may be set together with it.
 fn threshold(dw11: u32, may_be_all: bool) -> Result<usize, Status> {
     match (dw11 >> 20 & 3, dw11 >> 16 & 15) {
-        (kind @ (0 | 1), 0) => Ok(kind as usize),
-        (kind @ (0 | 1), 15) if may_be_all => Ok(kind as usize),
+        (kind @ (0 | 1), 0) => Ok(index(kind)),
+        (kind @ (0 | 1), 15) if may_be_all => Ok(index(kind)),
         _ => Err(INVALID_FIELD),
     }
 }

@@ -2,6 +2,7 @@
 //! Information have it.
 
 use crate::bytes::put;
+use crate::numbers::{to_u64, to_usize};
 use crate::nvme::entry::SubmissionEntry;
 use crate::nvme::status::{Status, READ_ERROR, RESERVATION_CONFLICT, WRITE_FAULT};
 use crate::nvme::{COMPARE, READ, WRITE};
@@ -98,7 +99,7 @@ impl Health {
         }
         let slba = if qid == 0 { 0 } else { entry.slba() };
         let (cid, status, nsid) = (entry.command_id(), status.field(), entry.namespace_id());
-        self.failures[self.errors as usize % MOST_ERRORS] =
+        self.failures[to_usize(self.errors) % MOST_ERRORS] =
             Failure { number: self.errors, qid, cid, status, slba, nsid };
     }
 
@@ -111,9 +112,9 @@ impl Health {
     /// Error Information: the last failure comes first.
     pub fn error_page(&self) -> Vec<u8> {
         let mut page = vec![0; MOST_ERRORS * ERROR_BYTES];
-        let kept = (0..MOST_ERRORS as u64).map_while(|ago| self.errors.checked_sub(ago)).take_while(|it| *it != 0);
+        let kept = (0..to_u64(MOST_ERRORS)).map_while(|ago| self.errors.checked_sub(ago)).take_while(|it| *it != 0);
         for (entry, number) in page.chunks_exact_mut(ERROR_BYTES).zip(kept) {
-            let it = self.failures[number as usize % MOST_ERRORS];
+            let it = self.failures[to_usize(number) % MOST_ERRORS];
             put(entry, 0, &it.number.to_le_bytes());
             put(entry, 8, &it.qid.to_le_bytes());
             put(entry, 10, &it.cid.to_le_bytes());

@@ -5,7 +5,8 @@ use crate::admin::events::{ACCESS_NOTICE, MOST_EVENTS, NAMESPACE_NOTICE};
 use crate::admin::health::MOST_ERRORS;
 use crate::admin::identity::Identity;
 use crate::bytes::{put, u16_at, u32_at};
-use crate::nvme::{MOST_BLOCKS, MOST_ENTRIES, MOST_NAMESPACES};
+use crate::numbers::narrow;
+use crate::nvme::{ENTRY, MOST_BLOCKS, MOST_ENTRIES, MOST_NAMESPACES};
 use crate::transport::pdu::IN_CAPSULE;
 use nvmesim::Namespace;
 
@@ -93,7 +94,7 @@ fn fabrics(told: &mut [u8], name: &str) {
     told[controller_at::SUBNQN..controller_at::SUBNQN + NAME].fill(0);
     put(told, controller_at::SUBNQN, name.as_bytes());
     // IOCCSZ, IORCSZ, in units of 16 bytes; MSDBD: one descriptor.
-    put(told, controller_at::IOCCSZ, &((64 + IN_CAPSULE as u32) / 16).to_le_bytes());
+    put(told, controller_at::IOCCSZ, &narrow::<_, u32>((ENTRY + IN_CAPSULE) / 16).to_le_bytes());
     put(told, controller_at::IORCSZ, &1u32.to_le_bytes());
     told[controller_at::MSDBD] = 1;
 }
@@ -106,11 +107,11 @@ pub fn controller(told: &mut [u8], name: &str, identity: Identity, has_write_cac
     put(told, controller_at::OAES, &events.to_le_bytes());
     // ACL: an Abort is answered at once, so four at a time are none too many; AERL.
     told[controller_at::ACL] = 3;
-    told[controller_at::AERL] = MOST_EVENTS as u8 - 1;
+    told[controller_at::AERL] = narrow(MOST_EVENTS - 1);
     // FRMW: one slot, which is read-only. LPA: Log Page 05h, and offsets into pages. ELPE.
     told[controller_at::FRMW] = 1 << 1 | 1;
     told[controller_at::LPA] = 1 << 2 | 1 << 1;
-    told[controller_at::ELPE] = MOST_ERRORS as u8 - 1;
+    told[controller_at::ELPE] = narrow(MOST_ERRORS - 1);
     let commands = u16_at(told, controller_at::ONCS) | COMMANDS;
     put(told, controller_at::ONCS, &commands.to_le_bytes());
     // CMIC, ANATT, ANACAP, ANAGRPMAX, NANAGRPID and MNAN: Asymmetric Namespace Access, with one group.
@@ -181,7 +182,7 @@ pub fn independent(told: &[u8]) -> Vec<u8> {
 pub fn limits() -> Vec<u8> {
     let mut told = vec![0; BYTES];
     told[1] = ZEROES_LIMIT;
-    put(&mut told, 4, &(MOST_BLOCKS as u32).to_le_bytes());
+    put(&mut told, 4, &narrow::<_, u32>(MOST_BLOCKS).to_le_bytes());
     put(&mut told, 8, &MOST_BLOCKS.to_le_bytes());
     told
 }

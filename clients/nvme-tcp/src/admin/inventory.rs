@@ -5,6 +5,7 @@ use crate::admin::identify;
 use crate::bytes::put;
 use crate::configuration::Configuration;
 use crate::fault::Outcome;
+use crate::numbers::narrow;
 use crate::nvme::entry::SubmissionEntry;
 use crate::nvme::status::{Status, DATA_TRANSFER, INVALID_NAMESPACE, SUCCESS};
 use crate::nvme::ALL_NAMESPACES;
@@ -121,7 +122,7 @@ impl Target<'_> {
         let cntlids = self.controllers.iter().map(|it| it.cntlid).filter(|it| *it >= from && is_listed(*it));
         let mut list = vec![0; 2];
         list.extend(cntlids.flat_map(u16::to_le_bytes));
-        let count = (list.len() / 2 - 1) as u16;
+        let count: u16 = narrow(list.len() / 2 - 1);
         put(&mut list, 0, &count.to_le_bytes());
         list
     }

@@ -2,6 +2,7 @@
 
 use crate::admin::features;
 use crate::bytes::put;
+use crate::numbers::{to_u64, to_usize};
 use crate::nvme::entry::SubmissionEntry;
 use crate::nvme::status::{Status, DATA_TRANSFER, INVALID_FIELD, INVALID_LOG_PAGE};
 use crate::nvme::{
@@ -64,14 +65,14 @@ const IO_EFFECTS: [(u8, u32); 10] = [
 pub fn part(page: &[u8], entry: &SubmissionEntry, length: usize) -> Result<Answer, Status> {
     let words = u64::from(entry.cdw10_upper()) | u64::from(entry.cdw11() & 0xffff) << 16;
     let (asked, offset) = (4 * (words + 1), entry.log_offset());
-    if offset % 4 != 0 || offset > page.len() as u64 || entry.cdw14() & BY_INDEX != 0 {
+    if offset % 4 != 0 || offset > to_u64(page.len()) || entry.cdw14() & BY_INDEX != 0 {
         return Err(INVALID_FIELD);
     }
-    if asked > length as u64 {
+    if asked > to_u64(length) {
         return Err(DATA_TRANSFER);
     }
-    let rest = &page[offset as usize..];
-    Ok(Answer::with(rest[..rest.len().min(asked as usize)].to_vec(), length))
+    let rest = &page[to_usize(offset)..];
+    Ok(Answer::with(rest[..rest.len().min(to_usize(asked))].to_vec(), length))
 }
 
 /// Log Page 00h: which pages there are.
@@ -137,12 +138,13 @@ impl Target<'_> {
 #[cfg(test)]
 mod tests {
     use super::*;
+    use crate::numbers::low_u16;
     use crate::nvme::ENTRY;
     use crate::target::answer::Payload;
 
     fn asked(page: &[u8], words: u32, offset: u64, length: usize) -> Result<Vec<u8>, Status> {
         let mut bytes = [0; ENTRY];
-        put(&mut bytes, 42, &(words as u16).to_le_bytes());
+        put(&mut bytes, 42, &low_u16(words).to_le_bytes());
         put(&mut bytes, 44, &(words >> 16).to_le_bytes());
         put(&mut bytes, 48, &offset.to_le_bytes());
         part(page, &bytes.into(), length)

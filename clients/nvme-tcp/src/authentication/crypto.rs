@@ -57,9 +57,15 @@ impl Hash {
     pub const ALL: [(&'static str, Hash); 3] =
         [("sha256", Hash::Sha256), ("sha384", Hash::Sha384), ("sha512", Hash::Sha512)];
 
-    /// The size of its digests.
+    /// Its identifier.
+    #[allow(clippy::as_conversions)] // An enum has no other conversion.
+    pub const fn id(self) -> u8 {
+        self as u8
+    }
+
+    /// The size of its digests, in bytes.
     pub fn size(self) -> usize {
-        16 + 16 * self as usize
+        16 + 16 * usize::from(self.id())
     }
 
     /// The HMAC of the concatenated parts. Their copy is wiped, since a part may be secret.

@@ -47,6 +47,12 @@ impl Group {
         ("ffdhe8192", Group::Ffdhe8192),
     ];
 
+    /// Its identifier.
+    #[allow(clippy::as_conversions)] // An enum has no other conversion.
+    pub const fn id(self) -> u8 {
+        self as u8
+    }
+
     /// The prime, highest byte first; nothing for the null group.
     pub fn prime(self) -> Vec<u8> {
         let (bits, own) = match self {

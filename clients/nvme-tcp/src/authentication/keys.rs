@@ -3,6 +3,7 @@
 
 use crate::authentication::crypto::Wiped;
 use crate::authentication::secret::{NoSecret, Secret};
+use crate::numbers::{to_u64, to_usize};
 use crate::options::{host_id, is_name};
 use crate::system;
 use crate::target::uuid;
@@ -161,6 +162,7 @@ impl Word<'_> {
 }
 
 /// The words of a line.
+#[allow(clippy::as_conversions)] // An address has no other conversion.
 fn words(text: &str, line: usize) -> Vec<Word<'_>> {
     let begin = text.as_ptr() as usize;
     let column = |word: &str| word.as_ptr() as usize - begin + 1;
@@ -259,10 +261,10 @@ fn text_of(path: &Path) -> io::Result<Wiped> {
     if found.uid() != 0 && found.uid() != system::user() {
         return wrong(format!("it is of user {}, neither root nor the one that this runs as", found.uid()));
     }
-    if found.len() > MOST_BYTES as u64 {
+    if found.len() > to_u64(MOST_BYTES) {
         return wrong(format!("it has {} bytes; at most {MOST_BYTES} are read", found.len()));
     }
-    Wiped::filled(found.len() as usize, |bytes| file.read_exact(bytes))
+    Wiped::filled(to_usize(found.len()), |bytes| file.read_exact(bytes))
 }
 
 #[cfg(all(test, feature = "authentication"))]

@@ -5,6 +5,7 @@
 //! which wipes it.
 
 use crate::authentication::crypto::{Failed, Hash};
+use crate::numbers::index;
 use std::ffi::c_void;
 use std::ptr;
 
@@ -60,10 +61,13 @@ extern "C" {
 pub const AVAILABLE: Result<(), &str> = Ok(());
 
 fn kind(hash: Hash) -> *const Digest {
-    match hash {
-        Hash::Sha256 => unsafe { EVP_sha256() },
-        Hash::Sha384 => unsafe { EVP_sha384() },
-        Hash::Sha512 => unsafe { EVP_sha512() },
+    // SAFETY: these take nothing, and return what is there as long as the process.
+    unsafe {
+        match hash {
+            Hash::Sha256 => EVP_sha256(),
+            Hash::Sha384 => EVP_sha384(),
+            Hash::Sha512 => EVP_sha512(),
+        }
     }
 }
 
@@ -71,8 +75,9 @@ fn kind(hash: Hash) -> *const Digest {
 pub fn digest(hash: Hash, data: &[u8]) -> Result<Vec<u8>, Failed> {
     let (mut digest, mut size) = (vec![0; hash.size()], 0);
     let (data, count) = (data.as_ptr().cast(), data.len());
+    // SAFETY: `count` bytes are read, and there is room for a digest of this hash.
     let done = unsafe { EVP_Digest(data, count, digest.as_mut_ptr(), &mut size, kind(hash), ptr::null_mut()) };
-    if done == 1 && size as usize == digest.len() {
+    if done == 1 && index(size) == digest.len() {
         Ok(digest)
     } else {
         Err(Failed)
@@ -84,8 +89,9 @@ pub fn hmac(hash: Hash, key: &[u8], data: &[u8]) -> Result<Vec<u8>, Failed> {
     let (mut code, mut size) = (vec![0; hash.size()], 0);
     let key_count = i32::try_from(key.len()).map_err(|_| Failed)?;
     let (key, bytes) = (key.as_ptr().cast(), data.as_ptr());
+    // SAFETY: key and bytes have these lengths, and there is room for a digest of this hash.
     let made = unsafe { HMAC(kind(hash), key, key_count, bytes, data.len(), code.as_mut_ptr(), &mut size) };
-    if !made.is_null() && size as usize == code.len() {
+    if !made.is_null() && index(size) == code.len() {
         Ok(code)
     } else {
         Err(Failed)
@@ -95,6 +101,7 @@ pub fn hmac(hash: Hash, key: &[u8], data: &[u8]) -> Result<Vec<u8>, Failed> {
 /// Fills bytes with random values that nobody can guess.
 pub fn fill_random(bytes: &mut [u8]) -> Result<(), Failed> {
     let count = i32::try_from(bytes.len()).map_err(|_| Failed)?;
+    // SAFETY: there is room for `count` bytes.
     match unsafe { RAND_bytes(bytes.as_mut_ptr(), count) } {
         1 => Ok(()),
         _ => Err(Failed),
@@ -103,11 +110,13 @@ pub fn fill_random(bytes: &mut [u8]) -> Result<(), Failed> {
 
 /// Compares in constant time.
 pub fn is_same(one: &[u8], other: &[u8]) -> bool {
+    // SAFETY: both have this length.
     one.len() == other.len() && unsafe { CRYPTO_memcmp(one.as_ptr().cast(), other.as_ptr().cast(), one.len()) } == 0
 }
 
 /// Overwrites bytes with zeros, which the compiler can't optimize away.
 pub fn wipe(bytes: &mut [u8]) {
+    // SAFETY: the bytes are borrowed, and have this length.
     unsafe { OPENSSL_cleanse(bytes.as_mut_ptr().cast(), bytes.len()) }
 }
 
@@ -116,12 +125,14 @@ struct Number(*mut BigNumber);
 
 impl Number {
     fn new() -> Result<Number, Failed> {
+        // SAFETY: it takes nothing.
         Number::checked(unsafe { BN_new() })
     }
 
     /// From bytes, highest first.
     fn of(bytes: &[u8]) -> Result<Number, Failed> {
         let count = i32::try_from(bytes.len()).map_err(|_| Failed)?;
+        // SAFETY: `count` bytes are read; null makes a new number.
         Number::checked(unsafe { BN_bin2bn(bytes.as_ptr(), count, ptr::null_mut()) })
     }
 
@@ -136,6 +147,7 @@ impl Number {
 
 impl Drop for Number {
     fn drop(&mut self) {
+        // SAFETY: it is a number of libcrypto, which nobody else has.
         unsafe { BN_clear_free(self.0) }
     }
 }
@@ -146,6 +158,7 @@ pub fn power(base: &[u8], exponent: &[u8], modulus: &[u8]) -> Result<Vec<u8>, Fa
     let [b, e, m] = [Number::of(base)?, Number::of(exponent)?, Number::of(modulus)?];
     let (result, mut bytes) = (Number::new()?, vec![0; modulus.len()]);
     let count = i32::try_from(bytes.len()).map_err(|_| Failed)?;
+    // SAFETY: all are numbers of libcrypto; there is room for `count` bytes; the context is freed once, and may be null.
     unsafe {
         let context = BN_CTX_new();
         let done = !context.is_null()

@@ -3,6 +3,7 @@
 use crate::authentication::crypto::Hash;
 use crate::authentication::groups::Group;
 use crate::bytes::{put, u16_at, u32_at};
+use crate::numbers::narrow;
 
 /// AUTH_TYPE: messages of all protocols, and those of this one.
 const COMMON: u8 = 0x00;
@@ -39,6 +40,14 @@ pub enum Explanation {
     IncorrectMessage = 7,
 }
 
+impl Explanation {
+    /// Its number.
+    #[allow(clippy::as_conversions)] // An enum has no other conversion.
+    pub const fn number(self) -> u8 {
+        self as u8
+    }
+}
+
 /// AUTH_Negotiate.
 #[derive(Debug, PartialEq, Eq)]
 pub struct Negotiate<'m> {
@@ -56,10 +65,10 @@ impl Negotiate<'_> {
             return Err(Explanation::SecureChannelMismatch);
         }
         let (hashes, groups) = self.offered.ok_or(Explanation::ProtocolNotUsable)?;
-        if !hashes.contains(&(hash as u8)) {
+        if !hashes.contains(&hash.id()) {
             return Err(Explanation::HashNotUsable);
         }
-        if !groups.contains(&(group as u8)) {
+        if !groups.contains(&group.id()) {
             return Err(Explanation::GroupNotUsable);
         }
         Ok(())
@@ -134,9 +143,9 @@ fn head(kind: u8, id: u8, transaction: u16, size: usize) -> Vec<u8> {
 pub fn challenge(transaction: u16, hash: Hash, group: Group, sequence: u32, value: &[u8], public: &[u8]) -> Vec<u8> {
     let mut bytes = head(DH_HMAC_CHAP, CHALLENGE, transaction, HEAD);
     let public = if group == Group::Null { &[] } else { public };
-    bytes[6] = hash.size() as u8;
-    put(&mut bytes, 8, &[hash as u8, group as u8]);
-    put(&mut bytes, 10, &(public.len() as u16).to_le_bytes());
+    bytes[6] = narrow(hash.size());
+    put(&mut bytes, 8, &[hash.id(), group.id()]);
+    put(&mut bytes, 10, &narrow::<_, u16>(public.len()).to_le_bytes());
     put(&mut bytes, 12, &sequence.to_le_bytes());
     bytes.extend_from_slice(value);
     bytes.extend_from_slice(public);
@@ -146,7 +155,7 @@ pub fn challenge(transaction: u16, hash: Hash, group: Group, sequence: u32, valu
 /// DH-HMAC-CHAP_Success1, with the controller's response if it was asked for.
 pub fn success1(transaction: u16, hash: Hash, response: Option<&[u8]>) -> Vec<u8> {
     let mut bytes = head(DH_HMAC_CHAP, SUCCESS1, transaction, HEAD + hash.size());
-    bytes[6] = hash.size() as u8;
+    bytes[6] = narrow(hash.size());
     if let Some(response) = response {
         bytes[8] = 1;
         put(&mut bytes, HEAD, response);
@@ -157,7 +166,7 @@ pub fn success1(transaction: u16, hash: Hash, response: Option<&[u8]>) -> Vec<u8
 /// AUTH_Failure1.
 pub fn failure1(transaction: u16, explanation: Explanation) -> Vec<u8> {
     let mut bytes = head(COMMON, FAILURE1, transaction, SHORT_HEAD);
-    put(&mut bytes, 6, &[FAILURE, explanation as u8]);
+    put(&mut bytes, 6, &[FAILURE, explanation.number()]);
     bytes
 }
 

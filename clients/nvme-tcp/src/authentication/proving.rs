@@ -8,6 +8,7 @@ use crate::authentication::{Authentication, Choice, Done, Due, Peers, Sent, Take
 use crate::control::log::warn;
 use crate::fabrics::association::{ConnectData, HostQueue};
 use crate::fault::Outcome;
+use crate::numbers::{index, narrow};
 use crate::nvme::entry::SubmissionEntry;
 use crate::nvme::status::{
     AUTHENTICATION_REQUIRED, COMMAND_SEQUENCE, CONNECT_HOST, INVALID_FIELD, INVALID_OPCODE, SGL_LENGTH, SUCCESS,
@@ -76,7 +77,7 @@ impl Target<'_> {
     pub fn authenticating(&self) -> [u32; 16] {
         let mut numbers = [0; 16];
         for (number, it) in numbers.iter_mut().zip(self.prover.iter().flat_map(|it| &it.counts)) {
-            *number = Rc::strong_count(it) as u32 - 1;
+            *number = narrow(Rc::strong_count(it) - 1);
         }
         numbers
     }
@@ -124,7 +125,7 @@ impl Target<'_> {
         data: Data<'_>,
     ) -> Outcome<Answer> {
         let bytes = match data {
-            Data::ToController(bytes) if bytes.len() == entry.cdw11() as usize => bytes,
+            Data::ToController(bytes) if bytes.len() == index(entry.cdw11()) => bytes,
             _ => return Ok(Answer::of(SGL_LENGTH)),
         };
         if entry.security_protocol() != PROTOCOL {
@@ -177,7 +178,7 @@ impl Target<'_> {
         data: Data<'_>,
     ) -> Outcome<Option<Answer>> {
         let length = match data {
-            Data::FromController(length) if length == entry.cdw11() as usize => length,
+            Data::FromController(length) if length == index(entry.cdw11()) => length,
             _ => return Ok(Some(Answer::of(SGL_LENGTH))),
         };
         if entry.security_protocol() != PROTOCOL {

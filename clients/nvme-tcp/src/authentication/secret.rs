@@ -97,7 +97,8 @@ fn base64(text: &str) -> Option<Wiped> {
         count += 6;
         if count >= 8 {
             count -= 8;
-            bytes.push((bits >> count) as u8);
+            let [low, ..] = (bits >> count).to_le_bytes();
+            bytes.push(low);
         }
     }
     let bytes = Wiped::new(bytes);

@@ -23,6 +23,12 @@ pub enum Kind {
 }
 
 impl Kind {
+    /// Its place in an array of all kinds.
+    #[allow(clippy::as_conversions)] // An enum has no other conversion.
+    pub const fn place(self) -> usize {
+        self as usize
+    }
+
     /// The kind of a command on a queue, and its opcode, which is the type of a command of Fabrics.
     fn of(queue: Live, entry: &SubmissionEntry) -> (Kind, u8) {
         match queue {
@@ -53,6 +59,12 @@ pub enum Closing {
 }
 
 impl Closing {
+    /// Its place in an array of all of them.
+    #[allow(clippy::as_conversions)] // An enum has no other conversion.
+    pub const fn place(self) -> usize {
+        self as usize
+    }
+
     /// What the log says of it.
     pub fn reason(self) -> &'static str {
         match self {
@@ -125,7 +137,7 @@ impl Target<'_> {
         let live = queue.session.last();
         match (Kind::of(live, entry), live) {
             ((Kind::Io, _), Live::Queue { index, .. }) => self.health[usize::from(index)].succeed(entry),
-            ((kind, opcode), _) => self.counters.succeeded[kind as usize][usize::from(opcode)] += 1,
+            ((kind, opcode), _) => self.counters.succeeded[kind.place()][usize::from(opcode)] += 1,
         }
     }
 

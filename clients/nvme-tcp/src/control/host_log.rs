@@ -28,7 +28,8 @@ impl Target<'_> {
         let fields = [("subsystem", name), ("addresses", &addresses)];
         match &epoch {
             Some(epoch) => {
-                self.log.put(Topic::Service, "started", &[&fields[..], &[("epoch", epoch as &dyn Display)]].concat());
+                let epoch: &dyn Display = epoch;
+                self.log.put(Topic::Service, "started", &[&fields[..], &[("epoch", epoch)]].concat());
             }
             None => self.log.put(Topic::Service, "started", &fields),
         }

@@ -1,6 +1,7 @@
 //! The log: lines on standard error about hosts, each with its time, as text or as JSON. Each topic has a limit. Once
 //! lines of a topic are allowed again, one line reports how many were left out.
 
+use crate::numbers::narrow;
 use std::fmt::{self, Display, Write as _};
 use std::io::{self, Write as _};
 use std::sync::atomic::{AtomicU8, Ordering};
@@ -15,6 +16,12 @@ pub enum Form {
 }
 
 impl Form {
+    /// Its number, which an atomic value can have.
+    #[allow(clippy::as_conversions)] // An enum has no other conversion.
+    const fn number(self) -> u8 {
+        self as u8
+    }
+
     /// The form that a word of the command line names.
     pub fn of(word: &str) -> Option<Form> {
         match word {
@@ -27,11 +34,11 @@ impl Form {
 }
 
 /// The form of warnings and faults, which come from everywhere. Before the target serves they are plain texts.
-static FORM: AtomicU8 = AtomicU8::new(Form::None as u8);
+static FORM: AtomicU8 = AtomicU8::new(Form::None.number());
 
 /// Has warnings and faults written in this form from now on.
 pub fn begin(form: Form) {
-    FORM.store(form as u8, Ordering::Relaxed);
+    FORM.store(form.number(), Ordering::Relaxed);
 }
 
 /// Writes a warning.
@@ -46,8 +53,8 @@ pub fn fault(reason: &str) {
 
 fn tell(event: &str, reason: fmt::Arguments<'_>) {
     let form = match FORM.load(Ordering::Relaxed) {
-        it if it == Form::Json as u8 => Form::Json,
-        it if it == Form::Text as u8 => Form::Text,
+        it if it == Form::Json.number() => Form::Json,
+        it if it == Form::Text.number() => Form::Text,
         _ => return put(&format!("nvmetcp: {reason}")),
     };
     put(&line_of(form, now(), event, &[("reason", &reason)]));
@@ -172,7 +179,7 @@ impl Limit {
 
     /// Whether a line is within the limit, which counts it.
     fn take(&mut self, now: Instant) -> bool {
-        let periods = (now.saturating_duration_since(self.at).as_millis() / self.period.as_millis()) as u32;
+        let periods: u32 = narrow(now.saturating_duration_since(self.at).as_millis() / self.period.as_millis());
         if self.room == self.burst {
             self.at = now;
         } else if periods != 0 {

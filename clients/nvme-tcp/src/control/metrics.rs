@@ -1,6 +1,7 @@
 //! `metrics`: the counters, in the text form that Prometheus reads.
 
 use crate::control::counters::{Kind, CLOSINGS};
+use crate::numbers::to_u64;
 use crate::nvme::names::{command_name, fabrics_name};
 use crate::nvme::status::{Status, SUCCESS};
 use crate::nvme::BLOCK;
@@ -60,7 +61,7 @@ impl Target<'_> {
         let name = "nvmetcp_connections_closed_total";
         metrics.begin(name, counter, "Connections that have ended, by reason.");
         for (closing, reason) in CLOSINGS {
-            metrics.sample(name, &[("reason", &reason)], counters.closed[closing as usize]);
+            metrics.sample(name, &[("reason", &reason)], counters.closed[closing.place()]);
         }
         metrics.single("nvmetcp_power_cycles_total", counter, "Power cycles by ctl.", counters.power_cycles);
         let help = "Lines of the log that were left out.";
@@ -73,7 +74,7 @@ impl Target<'_> {
     /// How many commands were answered, by queue, name and status. Opcodes that are not known are one.
     fn put_commands(&self, metrics: &mut Metrics) {
         let mut sums: BTreeMap<(&str, &str, Status), u64> = BTreeMap::new();
-        let others = [Kind::Fabrics, Kind::Admin].map(|kind| (kind, &self.counters.succeeded[kind as usize]));
+        let others = [Kind::Fabrics, Kind::Admin].map(|kind| (kind, &self.counters.succeeded[kind.place()]));
         let succeeded = others.into_iter().chain(self.health.iter().map(|it| (Kind::Io, &it.succeeded)));
         let succeeded = succeeded.flat_map(|(kind, counts)| {
             (0..=255).zip(counts).map(move |(opcode, count)| ((kind, opcode, SUCCESS), *count))
@@ -99,7 +100,7 @@ impl Target<'_> {
         type Read<'r> = &'r dyn Fn(usize) -> u64;
         let (gauge, counter) = ("gauge", "counter");
         let count = self.controllers.len();
-        let queues: Vec<u64> = (0..count).map(|it| self.io_queues(it) as u64).collect();
+        let queues: Vec<u64> = (0..count).map(|it| to_u64(self.io_queues(it))).collect();
         let health = |index: usize| &self.health[index];
         let each: [(&str, &str, &str, Read<'_>); 9] = [
             ("nvmetcp_read_bytes_total", counter, "Bytes of blocks that were read or compared.", &|it| {
@@ -121,9 +122,9 @@ impl Target<'_> {
                 self.associations[it].is_some().into()
             }),
             ("nvmetcp_io_queues", gauge, "I/O queues that are connected.", &|it| queues[it]),
-            ("nvmetcp_held_commands", gauge, "Commands that are held by ctl.", &|it| self.held[it].len() as u64),
+            ("nvmetcp_held_commands", gauge, "Commands that are held by ctl.", &|it| to_u64(self.held[it].len())),
             ("nvmetcp_ana_state", gauge, "Asymmetric access: 1 optimized, 2 non-optimized, 3 inaccessible.", &|it| {
-                self.access[it] as u64
+                self.access[it].state().into()
             }),
         ];
         for (name, kind, help, read) in each {

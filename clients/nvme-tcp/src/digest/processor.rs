@@ -4,7 +4,7 @@
 //! Why it is safe: it is executed only if the processor says that it has it.
 
 #[cfg(target_arch = "x86_64")]
-use crate::bytes::u64_at;
+use crate::{bytes::u64_at, numbers::low_u32};
 #[cfg(target_arch = "x86_64")]
 use std::arch::x86_64::{_mm_crc32_u64, _mm_crc32_u8};
 
@@ -18,6 +18,7 @@ pub fn crc32c(_: u32, _: &[u8]) -> Option<u32> {
 #[cfg(target_arch = "x86_64")]
 pub fn crc32c(value: u32, bytes: &[u8]) -> Option<u32> {
     if is_x86_feature_detected!("sse4.2") {
+        // SAFETY: the processor has the instruction.
         Some(unsafe { crc32c_by_instruction(value, bytes) })
     } else {
         None
@@ -33,7 +34,7 @@ unsafe fn crc32c_by_instruction(value: u32, bytes: &[u8]) -> u32 {
     for part in &mut parts {
         wide = _mm_crc32_u64(wide, u64_at(part, 0));
     }
-    let mut value = wide as u32;
+    let mut value = low_u32(wide);
     for byte in parts.remainder() {
         value = _mm_crc32_u8(value, *byte);
     }

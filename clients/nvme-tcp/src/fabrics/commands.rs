@@ -5,9 +5,10 @@ use crate::bytes::{first, text_of, u16_at};
 use crate::fabrics::association::{Association, ConnectData, ConnectionId, HostQueue};
 use crate::fabrics::discovery::{self, Discovery};
 use crate::fault::Outcome;
+use crate::numbers::{low_u16, low_u32, narrow};
 use crate::nvme::entry::SubmissionEntry;
 use crate::nvme::status::{Status, COMMAND_SEQUENCE, SUCCESS};
-use crate::nvme::{AUTHENTICATION_RECEIVE, MOST_QUEUE};
+use crate::nvme::{AUTHENTICATION_RECEIVE, QUEUES};
 use crate::target::answer::Answer;
 use crate::target::controller::{Data, CAP, ENABLE};
 use crate::target::{Effect, Target};
@@ -40,7 +41,7 @@ impl ConnectBytes<'_> {
 }
 
 /// The connections of the I/O queues of a controller.
-type IoConnections = [Option<ConnectionId>; MOST_QUEUE as usize];
+type IoConnections = [Option<ConnectionId>; QUEUES - 1];
 
 /// The offset of a property, and the value that a Property Set gives it.
 fn property(entry: &SubmissionEntry) -> (u64, u32) {
@@ -113,7 +114,7 @@ impl Target<'_> {
             let is_flow_control_disabled = entry.connect_attributes() & NO_FLOW_CONTROL != 0;
             queue.responses.connected(entries - 1, is_flow_control_disabled);
             match queue.session.last() {
-                Live::Discovery => queue.discovery = Discovery::new(answer.dw0 as u16),
+                Live::Discovery => queue.discovery = Discovery::new(low_u16(answer.dw0)),
                 Live::Authenticating(index) => queue.proof = self.proof_of(data, index.into()).map(Box::new),
                 _ => self.begin_association(queue, &data),
             }
@@ -169,7 +170,7 @@ impl Target<'_> {
 
     /// How many I/O queues of a controller are connected.
     pub fn io_queues(&mut self, index: usize) -> usize {
-        self.io_connections(index as u16).into_iter().flatten().count()
+        self.io_connections(narrow(index)).into_iter().flatten().count()
     }
 
     fn disconnect(&mut self, queue: &mut HostQueue, live: Live) -> Outcome<Answer> {
@@ -220,7 +221,7 @@ impl Target<'_> {
 
 /// The answer to Property Get.
 fn of_property(value: u64) -> Answer {
-    Answer { dw0: value as u32, dw1: (value >> 32) as u32, ..Answer::of(SUCCESS) }
+    Answer { dw0: low_u32(value), dw1: low_u32(value >> 32), ..Answer::of(SUCCESS) }
 }
 
 #[cfg(test)]

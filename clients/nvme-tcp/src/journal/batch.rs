@@ -5,6 +5,7 @@
 
 use super::record::{content_at, push, Record, HEAD, MOST_CONTENT};
 use crate::bytes::u32_at;
+use crate::numbers::{index, narrow};
 
 /// The kind of a record that is a batch. It then has the contents of its records, each after its length.
 const BATCH: u8 = 7;
@@ -19,7 +20,7 @@ pub fn batches(records: &[u8]) -> Vec<Vec<u8>> {
         let mut batch = vec![BATCH];
         let has_room = |length: usize, content: &[u8]| length == 1 || HEAD + length + LENGTH + content.len() <= MOST;
         while let Some(content) = content_at(records, at).filter(|it| has_room(batch.len(), it)) {
-            batch.extend((content.len() as u32).to_le_bytes());
+            batch.extend(narrow::<_, u32>(content.len()).to_le_bytes());
             batch.extend(content);
             at += HEAD + content.len();
         }
@@ -53,7 +54,7 @@ pub fn records_in(content: &[u8]) -> Option<Vec<Record>> {
 
 /// The first record of these bytes, and how many of them it has.
 fn first_of(bytes: &[u8]) -> Option<(Record, usize)> {
-    let end = LENGTH.checked_add(u32_at(bytes.get(..LENGTH)?, 0) as usize)?;
+    let end = LENGTH.checked_add(index(u32_at(bytes.get(..LENGTH)?, 0)))?;
     Some((Record::of(bytes.get(LENGTH..end)?)?, end))
 }
 

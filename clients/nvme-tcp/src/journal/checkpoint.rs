@@ -1,6 +1,7 @@
 //! A checkpoint: what persists of all namespaces, so that the records before it are needed no more.
 
 use crate::bytes::{u16_at, u32_at, u64_at};
+use crate::numbers::narrow;
 use nvmesim::{Holder, Registrant, Reservation};
 
 /// A namespace before its registrants: its identifier, its protection, whether its reservation persists, the type and
@@ -51,11 +52,11 @@ impl NamespaceState {
             Holder::EachRegistrant(rtype) => (rtype, 0),
         };
         bytes.extend(self.nsid.to_le_bytes());
-        bytes.extend([*protection as u8, u8::from(*ptpl), rtype]);
+        bytes.extend([narrow(*protection), u8::from(*ptpl), rtype]);
         bytes.extend(host.to_le_bytes());
         bytes.extend(generation.to_le_bytes());
-        bytes.extend((registrants.len() as u16).to_le_bytes());
-        bytes.extend((self.attached.len() as u16).to_le_bytes());
+        bytes.extend(narrow::<_, u16>(registrants.len()).to_le_bytes());
+        bytes.extend(narrow::<_, u16>(self.attached.len()).to_le_bytes());
         for Registrant { host, key } in registrants {
             bytes.extend(host.to_le_bytes());
             bytes.extend(key.to_le_bytes());

@@ -11,6 +11,7 @@ use crate::files::watched::{changed, Watched};
 use crate::journal::batch::batches;
 use crate::journal::record::{current, heads, newer_version, records_of, Event, Record};
 use crate::journal::state::{self, Folder};
+use crate::numbers::{to_u64, to_usize};
 use crate::storage::aligned::{Aligned, PAGE};
 use std::fs::{File, OpenOptions};
 use std::io::{self, ErrorKind, Read, Seek, SeekFrom, Write};
@@ -59,15 +60,15 @@ pub fn open(mut folder: Folder, configuration: &Configuration) -> io::Result<(Jo
     let epoch = newest_of(&records)?.saturating_add(1);
     let identity = folder.use_it()?;
     if torn != 0 {
-        file.set_len(end as u64)?;
+        file.set_len(to_u64(end))?;
     }
     // A target that was killed may not have synced its last batch. If power is lost before the sync after the next
     // record, that batch must not be torn while the record is whole: it would be damaged, and the folder refused.
     file.sync_all()?;
     file.write_all(&Record { epoch, event: Event::Start }.bytes())?;
     file.sync_all()?;
-    let length = join(&mut records, &read_from(&mut file, end as u64)?, epoch)?;
-    let (watched, length) = (Watched::new(&path, &file)?, (end + length) as u64);
+    let length = join(&mut records, &read_from(&mut file, to_u64(end))?, epoch)?;
+    let (watched, length) = (Watched::new(&path, &file)?, to_u64(end + length));
     let own = Own { file, watched, length: length.into(), limit: length.into(), epoch };
     let log = FolderLog { own: Arc::new(own), _folder: folder };
     let hold = Box::new(Arc::clone(&log.own));
@@ -126,13 +127,13 @@ fn read_all(path: &Path, file: &mut File) -> io::Result<Vec<u8>> {
 
 fn read_direct(path: &Path, file: &File) -> io::Result<Vec<u8>> {
     let direct = open_disk(path, OpenOptions::new().read(true), DIRECT)?;
-    let (found, length) = (direct.metadata()?, file.metadata()?.len() as usize);
+    let (found, length) = (direct.metadata()?, to_usize(file.metadata()?.len()));
     if place_of(&found) != place_of(&file.metadata()?) {
         return Err(ErrorKind::NotFound.into());
     }
     let (mut bytes, mut at) = (Aligned::zeros((length + PAGE - 1) / PAGE * PAGE), 0);
     while at < length {
-        match direct.read_at(&mut bytes[at..], at as u64)? {
+        match direct.read_at(&mut bytes[at..], to_u64(at))? {
             0 => return Err(ErrorKind::UnexpectedEof.into()),
             count => at += count,
         }
@@ -154,7 +155,7 @@ impl Log for FolderLog {
         let own = &self.own;
         own.check_files()?;
         for batch in batches(records) {
-            let end = own.length.load(Ordering::Relaxed) + batch.len() as u64;
+            let end = own.length.load(Ordering::Relaxed) + to_u64(batch.len());
             own.limit.store(end, Ordering::Release);
             (&own.file).write_all(&batch)?;
             own.file.sync_data()?;
@@ -186,7 +187,7 @@ impl Own {
         if found < least {
             return Err(changed(format!("it was cut to {found} bytes, of {least}")));
         }
-        let mut bytes = vec![0; (found - least).min(MOST_OF_OTHERS) as usize];
+        let mut bytes = vec![0; to_usize((found - least).min(MOST_OF_OTHERS))];
         self.file.read_exact_at(&mut bytes, least)?;
         let records = records_of(&bytes, 0).map_or(Vec::new(), |(records, _)| records);
         // Its own records have no start.
@@ -206,7 +207,7 @@ mod tests {
 
     #[test]
     fn a_torn_head_is_known() {
-        let head: Vec<u8> = (0..1300).map(|it| it as u8 | 1).collect();
+        let head: Vec<u8> = (0..1300_u32).map(|it| it.to_le_bytes()[0] | 1).collect();
         for sectors in [0..1, 1..2, 2..3, 0..3] {
             let mut torn = head.clone();
             torn[SECTOR * sectors.start..head.len().min(SECTOR * sectors.end)].fill(0);

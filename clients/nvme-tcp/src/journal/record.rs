@@ -8,6 +8,7 @@ use crate::bytes::{first, put, u16_at, u32_at, u64_at};
 use crate::digest::crc32c;
 use crate::journal::batch;
 use crate::journal::checkpoint::Checkpoint;
+use crate::numbers::{index, narrow};
 use crate::nvme::entry::SubmissionEntry;
 use crate::nvme::ENTRY;
 use nvmesim::buffers::MOST_DATA;
@@ -100,7 +101,7 @@ pub(super) fn push(bytes: &mut Vec<u8>, parts: &[&[u8]]) {
     let at = bytes.len();
     bytes.extend([0; HEAD]);
     parts.iter().for_each(|it| bytes.extend_from_slice(it));
-    let length = ((bytes.len() - at - HEAD) as u32).to_le_bytes();
+    let length = narrow::<_, u32>(bytes.len() - at - HEAD).to_le_bytes();
     let digests = [crc32c(&length), crc32c(&bytes[at + HEAD..])].map(u32::to_le_bytes);
     [length, digests[0], digests[1]].iter().enumerate().for_each(|(number, it)| put(bytes, at + 4 * number, it));
 }
@@ -148,7 +149,7 @@ pub fn records_of(bytes: &[u8], begin: usize) -> io::Result<(Vec<Record>, usize)
 /// The content of the record at a place, if one is there whole.
 pub(super) fn content_at(bytes: &[u8], at: usize) -> Option<&[u8]> {
     let head = bytes.get(at..at + HEAD)?;
-    let length = u32_at(head, 0) as usize;
+    let length = index(u32_at(head, 0));
     if length == 0 || crc32c(&head[..4]) != u32_at(head, 4) {
         return None;
     }

@@ -11,6 +11,7 @@ use crate::configuration::Configuration;
 use crate::fault::Outcome;
 use crate::journal::checkpoint::{Checkpoint, NamespaceState};
 use crate::journal::record::Event;
+use crate::numbers::to_u64;
 use crate::nvme::entry::SubmissionEntry;
 use crate::nvme::status::SUCCESS;
 use crate::nvme::{
@@ -212,7 +213,7 @@ impl Replay<'_, '_> {
                 return Ok(false);
             }
         }
-        let (generation, count) = (u64::from(reservation.generation), reservation.registrants.len() as u64);
+        let (generation, count) = (u64::from(reservation.generation), to_u64(reservation.registrants.len()));
         match reservation.registrants.first() {
             Some(Registrant { host, key }) => {
                 let more = raised(generation, count);

@@ -1,6 +1,7 @@
 //! A file that is written from its beginning to its end. Disk space is reserved ahead, since finding a place for each
 //! page as it is written takes longer. The file is never longer than what was written, and unused space is released.
 
+use crate::numbers::to_u64;
 use crate::system::reserve;
 use std::fs::File;
 use std::io::{self, ErrorKind, IoSlice, Write};
@@ -29,9 +30,9 @@ impl Appended {
 
     /// Appends bytes.
     pub fn append(&mut self, bytes: &[u8]) -> io::Result<()> {
-        self.make_room(bytes.len() as u64);
+        self.make_room(to_u64(bytes.len()));
         self.file.write_all(bytes)?;
-        self.length += bytes.len() as u64;
+        self.length += to_u64(bytes.len());
         Ok(())
     }
 
@@ -41,14 +42,14 @@ impl Appended {
             return self.append(first);
         }
         let count = first.len() + then.len();
-        self.make_room(count as u64);
+        self.make_room(to_u64(count));
         let done = match self.file.write_vectored(&[IoSlice::new(first), IoSlice::new(then)]) {
             Err(error) if error.kind() == ErrorKind::Interrupted => 0,
             result => result?,
         };
         self.file.write_all(&first[done.min(first.len())..])?;
         self.file.write_all(&then[done.saturating_sub(first.len())..])?;
-        self.length += count as u64;
+        self.length += to_u64(count);
         Ok(())
     }
 

@@ -3,6 +3,7 @@
 
 use crate::exit::{Exit, BAD_COMMAND_LINE, FAILED, REFUSED};
 use crate::files::outputs;
+use crate::numbers::to_u64;
 use crate::recording::frame::{Broken, Frames};
 use crate::recording::lines::Lines;
 use crate::recording::run::Events;
@@ -81,7 +82,7 @@ impl<R: Read> Source<R> {
         if !read_batch(count, content, &mut self.batch) {
             return Err(Refusal::Unreadable(self.frames.place()));
         }
-        self.events += count as u64;
+        self.events += to_u64(count);
         Ok(Some(&self.batch))
     }
 }
@@ -98,7 +99,7 @@ fn read_version(input: &mut impl Read) -> Result<u64, Refusal> {
     let digits = line.strip_prefix(MAGIC).and_then(|rest| rest.strip_suffix(b"\n"));
     let version = digits.and_then(|digits| std::str::from_utf8(digits).ok()).unwrap_or_default();
     match version.parse::<u32>() {
-        Ok(VERSION) => Ok(line.len() as u64),
+        Ok(VERSION) => Ok(to_u64(line.len())),
         Ok(number) if number > VERSION => Err(Refusal::Newer(version.to_owned())),
         _ => Err(Refusal::NotRecording),
     }

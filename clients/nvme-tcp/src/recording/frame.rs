@@ -3,6 +3,7 @@
 
 use crate::bytes::{put, u32_at, u64_at};
 use crate::digest::{crc32c, crc32c_after};
+use crate::numbers::{index, narrow, to_u64};
 use std::fmt;
 use std::io::{self, ErrorKind, Read};
 
@@ -40,8 +41,8 @@ impl Head {
             return Err(io::Error::new(ErrorKind::InvalidData, text));
         }
         put(&mut bytes, 0, &place.to_le_bytes());
-        put(&mut bytes, LENGTH_AT, &(self.length as u32).to_le_bytes());
-        put(&mut bytes, EVENTS_AT, &(self.events as u32).to_le_bytes());
+        put(&mut bytes, LENGTH_AT, &narrow::<_, u32>(self.length).to_le_bytes());
+        put(&mut bytes, EVENTS_AT, &narrow::<_, u32>(self.events).to_le_bytes());
         put(&mut bytes, CONTENT_DIGEST_AT, &self.digest.to_le_bytes());
         let digest = crc32c(&bytes[..HEAD_DIGEST_AT]);
         put(&mut bytes, HEAD_DIGEST_AT, &digest.to_le_bytes());
@@ -51,7 +52,7 @@ impl Head {
     /// The head that `bytes`, which are at `place` of the file, begin with, if there is one.
     fn of(bytes: &[u8], place: u64) -> Option<Head> {
         let bytes = bytes.get(..HEAD).filter(|it| u64_at(it, 0) == place)?;
-        let [length, events] = [LENGTH_AT, EVENTS_AT].map(|at| u32_at(bytes, at) as usize);
+        let [length, events] = [LENGTH_AT, EVENTS_AT].map(|at| index(u32_at(bytes, at)));
         let head = Head { events, length, digest: u32_at(bytes, CONTENT_DIGEST_AT) };
         let is_right = crc32c(&bytes[..HEAD_DIGEST_AT]) == u32_at(bytes, HEAD_DIGEST_AT) && length <= MOST;
         is_right.then_some(head)
@@ -157,13 +158,13 @@ impl<R: Read> Frames<R> {
                 return Ok(Broken::Damaged { place, next: self.place });
             }
         }
-        let count = self.place - place + (self.buffer.len() - self.at) as u64;
+        let count = self.place - place + to_u64(self.buffer.len() - self.at);
         Ok(Broken::Torn { place, count, events: cut.map(|it| it.events) })
     }
 
     fn skip(&mut self, count: usize) {
         self.at += count;
-        self.place += count as u64;
+        self.place += to_u64(count);
     }
 
     /// Reads until the buffer has `count` bytes from the current position on. Returns false if the input ends before.
@@ -172,7 +173,7 @@ impl<R: Read> Frames<R> {
             self.buffer.drain(..self.at);
             self.at = 0;
             let missing = count - self.buffer.len();
-            let most = missing.max(READ) as u64;
+            let most = to_u64(missing.max(READ));
             if self.input.by_ref().take(most).read_to_end(&mut self.buffer)? == 0 {
                 return Ok(false);
             }

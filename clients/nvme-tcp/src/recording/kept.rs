@@ -2,6 +2,7 @@
 //! pages at once if bytes begin and end at multiples of them. So lines are written up to such a position, and the rest
 //! with the beginning of the next lines, if these are there by then.
 
+use crate::numbers::{to_u64, to_usize};
 use crate::recording::appended::Appended;
 use crate::recording::run::Synced;
 use std::fs::File;
@@ -33,8 +34,8 @@ impl Kept {
     /// Appends the first of these lines, up to an aligned position.
     pub fn write_first(&mut self, lines: &[u8]) -> io::Result<()> {
         let rest = &lines[self.ahead..];
-        let end = self.script.length() + rest.len() as u64;
-        let beyond = (end % WELL) as usize;
+        let end = self.script.length() + to_u64(rest.len());
+        let beyond = to_usize(end % WELL);
         if beyond < rest.len() {
             self.script.append(&rest[..rest.len() - beyond])?;
             self.ahead += rest.len() - beyond;
@@ -48,8 +49,8 @@ impl Kept {
         let rest = &lines[self.ahead..];
         self.ahead = 0;
         if !rest.is_empty() {
-            let end = self.script.length() + rest.len() as u64;
-            let beyond = ((WELL - end % WELL) % WELL) as usize;
+            let end = self.script.length() + to_u64(rest.len());
+            let beyond = to_usize((WELL - end % WELL) % WELL);
             let first = next.map_or(&[][..], |it| &it[..beyond.min(it.len())]);
             self.script.append_both(rest, first)?;
             self.ahead = first.len();

@@ -1,6 +1,7 @@
 //! The lines of events: each is a line of a script, and what it gave is a line of the transcript. The library writes
 //! both.
 
+use crate::numbers::to_u64;
 use crate::recording::run::{Event, Events};
 use crate::transport::output::Output;
 use nvmesim::{answer_line, event_line, Answered, LineError};
@@ -47,7 +48,7 @@ impl Hasher for Quick {
     }
 
     fn write_usize(&mut self, number: usize) {
-        self.write_u64(number as u64);
+        self.write_u64(to_u64(number));
     }
 
     fn write_u64(&mut self, number: u64) {

@@ -2,6 +2,7 @@
 //! the disk needs is replaced by the CLOCK algorithm: the hand passes frames that were used since it came by last.
 
 use super::frames::{Extent, Frame, Mask, Part, FRAME, FRAME_BYTES, MOST_PARTS};
+use crate::numbers::index;
 use std::cell::Cell;
 use std::collections::HashMap;
 use std::ops::Range;
@@ -34,7 +35,7 @@ impl Cache {
 
     /// How many blocks it can have.
     pub fn blocks(&self) -> usize {
-        self.most * FRAME as usize
+        self.most * index(FRAME)
     }
 
     /// The place of a frame, if it is in memory.

@@ -9,6 +9,7 @@ use super::jobs::Disk;
 use super::options::Options;
 use crate::files::locking::{open_disk, open_regular, Lock, ALONE, DIRECT};
 use crate::files::watched::{changed, Watched};
+use crate::numbers::{to_u64, to_usize};
 use crate::nvme::BLOCK;
 use crate::system::punch_hole;
 use std::fs::{self, File, OpenOptions};
@@ -21,7 +22,7 @@ use std::sync::Arc;
 const READ_ONLY_FILE_SYSTEM: i32 = 30;
 /// Bytes of zeros that are written at a time.
 const ZEROS: usize = 1 << 20;
-const UNIT: u64 = PAGE as u64;
+const UNIT: u64 = to_u64(PAGE);
 
 /// Whether a file can't be written: by permission, or since its file system is read-only.
 pub fn is_read_only(path: &Path) -> bool {
@@ -128,6 +129,7 @@ fn check_length(found: u64, length: u64) -> io::Result<()> {
 }
 
 /// Whether O_DIRECT takes bytes as they are: whole pages, in memory too.
+#[allow(clippy::as_conversions)] // An address has no other conversion.
 fn is_whole(place: u64, bytes: &[u8]) -> bool {
     place % UNIT == 0 && bytes.len() % PAGE == 0 && bytes.as_ptr() as usize % PAGE == 0
 }
@@ -136,7 +138,7 @@ impl ImageDisk {
     /// The whole pages around bytes, and the place of the bytes in them.
     fn around(place: u64, count: usize) -> (u64, usize, usize) {
         let first = place / UNIT * UNIT;
-        let before = (place - first) as usize;
+        let before = to_usize(place - first);
         (first, before, (before + count + PAGE - 1) / PAGE * PAGE)
     }
 
@@ -157,7 +159,7 @@ impl ImageDisk {
                 Ok(0) => return Err(ErrorKind::WriteZero.into()),
                 Ok(count) => {
                     bytes = &bytes[count..];
-                    place += count as u64;
+                    place += to_u64(count);
                 }
                 Err(error) if error.kind() == ErrorKind::Interrupted => (),
                 Err(error) => return Err(error),
@@ -175,11 +177,11 @@ impl ImageDisk {
 
     /// Writes zeros.
     fn write_zeros(&self, place: u64, count: u64) -> io::Result<()> {
-        let zeros = Aligned::zeros(ZEROS.min(count as usize));
+        let zeros = Aligned::zeros(ZEROS.min(to_usize(count)));
         let (mut place, end) = (place, place + count);
         while place < end {
-            let count = (end - place).min(zeros.len() as u64);
-            self.write(place, &zeros[..count as usize])?;
+            let count = (end - place).min(to_u64(zeros.len()));
+            self.write(place, &zeros[..to_usize(count)])?;
             place += count;
         }
         Ok(())

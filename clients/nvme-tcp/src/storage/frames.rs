@@ -1,12 +1,13 @@
 //! Ranges of blocks, and the frames that the cache keeps them in: aligned pieces of the disk of one size, with a bit for
 //! each block.
 
+use crate::numbers::{index, narrow, to_usize};
 use crate::nvme::BLOCK;
 use std::ops::Range;
 
 /// The blocks of a frame, and its bytes.
 pub const FRAME: u32 = 32;
-pub const FRAME_BYTES: usize = FRAME as usize * BLOCK as usize;
+pub const FRAME_BYTES: usize = index(FRAME) * to_usize(BLOCK);
 /// The most frames that a command with 128 KiB of data has blocks in.
 pub const MOST_PARTS: usize = 128 * 1024 / FRAME_BYTES + 1;
 
@@ -30,12 +31,12 @@ impl Extent {
     }
 
     pub fn bytes(self) -> usize {
-        self.blocks as usize * BLOCK as usize
+        index(self.blocks) * to_usize(BLOCK)
     }
 
     /// Its first `blocks` blocks.
     pub fn front(self, blocks: u64) -> Extent {
-        Extent { first: self.first, blocks: u64::from(self.blocks).min(blocks) as u32 }
+        Extent { first: self.first, blocks: narrow(u64::from(self.blocks).min(blocks)) }
     }
 
     /// The numbers of the frames that it has blocks of.
@@ -49,7 +50,7 @@ impl Extent {
         let (size, begin) = (u64::from(FRAME), number * u64::from(FRAME));
         let from = self.first.max(begin) - begin;
         let to = self.end().min(begin + size) - begin;
-        Part { number, from: from as u32, to: to as u32 }
+        Part { number, from: narrow(from), to: narrow(to) }
     }
 
     /// Its parts in each frame, in order.
@@ -64,7 +65,7 @@ impl Extent {
 
     /// It, in pieces of at most `most` blocks.
     pub fn pieces(self, most: u32) -> impl Iterator<Item = Extent> {
-        let begins = (0..self.blocks).step_by(most as usize);
+        let begins = (0..self.blocks).step_by(index(most));
         begins.map(move |at| Extent { first: self.first + u64::from(at), blocks: most.min(self.blocks - at) })
     }
 
@@ -103,7 +104,7 @@ impl Part {
 
     /// Their bytes in the frame.
     pub fn range(self) -> Range<usize> {
-        self.from as usize * BLOCK as usize..self.to as usize * BLOCK as usize
+        index(self.from) * to_usize(BLOCK)..index(self.to) * to_usize(BLOCK)
     }
 
     pub fn extent(self) -> Extent {

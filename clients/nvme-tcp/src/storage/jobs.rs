@@ -2,6 +2,7 @@
 
 use super::aligned::Aligned;
 use super::frames::{Extent, Mask, Part};
+use crate::numbers::{to_u64, to_usize};
 use crate::nvme::BLOCK;
 use std::io;
 
@@ -81,7 +82,7 @@ impl Reading {
             Ok(()) => return Ok(()),
             Err(error) => error,
         };
-        let blocks = (self.extent.first..).zip(bytes.chunks_exact_mut(BLOCK as usize));
+        let blocks = (self.extent.first..).zip(bytes.chunks_exact_mut(to_usize(BLOCK)));
         let is_failed = |(block, room): (u64, &mut [u8])| self.is_ahead || disk.read(block * BLOCK, room).is_err();
         self.failed = blocks.map(is_failed).collect();
         if self.failed.contains(&true) {
@@ -93,12 +94,12 @@ impl Reading {
     /// The bytes of a part.
     pub fn bytes_of(&self, part: Part) -> &[u8] {
         let Extent { first, .. } = part.extent();
-        &self.bytes[(first - self.extent.first) as usize * BLOCK as usize..][..part.range().len()]
+        &self.bytes[to_usize((first - self.extent.first) * BLOCK)..][..part.range().len()]
     }
 
     /// The blocks of a part that could not be read.
     pub fn failed_of(&self, part: Part) -> Mask {
-        let begin = (part.extent().first - self.extent.first) as usize;
+        let begin = to_usize(part.extent().first - self.extent.first);
         let failed = self.failed.iter().skip(begin).zip(part.from..part.to);
         failed.filter(|(is_failed, _)| **is_failed).fold(0, |mask, (_, block)| mask | 1 << block)
     }
@@ -122,7 +123,7 @@ impl Job {
         match self {
             Job::Read(reading) => reading.read(disk),
             Job::Write(writing) => writing.write(disk),
-            Job::Zero(extent) => disk.zero(extent.place(), extent.bytes() as u64),
+            Job::Zero(extent) => disk.zero(extent.place(), to_u64(extent.bytes())),
             Job::Sync => disk.sync(),
         }
     }

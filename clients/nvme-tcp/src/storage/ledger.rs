@@ -2,6 +2,7 @@
 //! answer waits for the writes of its own command; only a Flush waits for all commands before it.
 
 use crate::fabrics::association::ConnectionId;
+use crate::numbers::{to_u64, to_usize};
 use crate::nvme::entry::SubmissionEntry;
 use crate::target::answer::Answer;
 use std::collections::VecDeque;
@@ -47,7 +48,7 @@ impl Ledger {
 
     /// The next ticket.
     pub fn next(&self) -> u64 {
-        self.first + self.lines.len() as u64
+        self.first + to_u64(self.lines.len())
     }
 
     /// How many commands are open, or came after one that is.
@@ -110,7 +111,7 @@ impl Ledger {
     }
 
     fn line(&mut self, ticket: u64) -> Option<&mut Line> {
-        self.lines.get_mut(ticket.checked_sub(self.first)? as usize)
+        self.lines.get_mut(to_usize(ticket.checked_sub(self.first)?))
     }
 }
 

@@ -1,6 +1,7 @@
 //! Hosts that read blocks in their order. The next blocks of such a stream are read ahead of its commands.
 
 use super::frames::Extent;
+use crate::numbers::narrow;
 
 /// How many streams of a controller are followed: those that it has read from last.
 const FOLLOWED: usize = 4;
@@ -39,7 +40,7 @@ impl Stream {
         }
         let blocks = self.next + u64::from(ahead) - self.end;
         self.ahead = most.min(2 * ahead);
-        Some(Extent { first: self.end, blocks: blocks as u32 })
+        Some(Extent { first: self.end, blocks: narrow(blocks) })
     }
 }
 

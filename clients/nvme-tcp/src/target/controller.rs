@@ -1,6 +1,7 @@
 //! A controller of the subsystem, whose host's memory the target keeps: the way of a command through its queues.
 
 use crate::fault::Outcome;
+use crate::numbers::narrow;
 use crate::nvme::entry::SubmissionEntry;
 use crate::nvme::status::{Status, COMMAND_SEQUENCE, SUCCESS};
 use crate::nvme::{
@@ -120,14 +121,14 @@ impl Controller {
     fn place_admin_queues(&self, machine: &mut Machine<'_>, entries: u16) -> Outcome<()> {
         let last = u32::from(entries) - 1;
         let (submission, completion) = (buffers::submission_queue(0), buffers::completion_queue(0));
-        for (offset, value) in [(AQA, last << 16 | last), (ASQ, submission as u32), (ASQ + 4, 0)] {
+        for (offset, value) in [(AQA, last << 16 | last), (ASQ, narrow(submission)), (ASQ + 4, 0)] {
             machine.write32(self.cntlid, offset, value)?;
         }
-        machine.write32(self.cntlid, ACQ, completion as u32)?;
+        machine.write32(self.cntlid, ACQ, narrow(completion))?;
         machine.write32(self.cntlid, ACQ + 4, 0)?;
         machine.store(self.cntlid, completion, &[0; MEMORY_PAGE])?;
-        let (list, pages) = buffers::prp_list();
-        machine.store(self.cntlid, list, &pages)
+        let (prp_list, bytes) = buffers::prp_list();
+        machine.store(self.cntlid, prp_list, &bytes)
     }
 
     /// Create I/O Completion Queue and Create I/O Submission Queue, by the admin queue: the first status that is not

@@ -6,6 +6,7 @@ use crate::control::counters::Closing;
 use crate::control::log::warn;
 use crate::fabrics::association::HostQueue;
 use crate::fault::{Fault, Outcome};
+use crate::numbers::narrow;
 use crate::nvme::entry::SubmissionEntry;
 use crate::nvme::status::{Status, SUCCESS, TRANSIENT_TRANSPORT};
 use crate::nvme::FLUSH;
@@ -242,7 +243,7 @@ impl Connection {
     /// A command. It is executed as soon as it has its data.
     fn capsule(&mut self, target: &mut Target<'_>, layout: &Layout, is_sound: bool, unit: &[u8]) -> Result<(), Stop> {
         let data = pdu::data_in(layout, unit);
-        let capsule = Capsule { entry: *first(&unit[COMMON..]), data_length: data.len() as u32, is_sound };
+        let capsule = Capsule { entry: *first(&unit[COMMON..]), data_length: narrow(data.len()), is_sound };
         let HostQueue { session, responses, .. } = &mut self.queue;
         let outcome = self.transfers.take_capsule(responses, session, &capsule);
         let entry = capsule.entry.into();
@@ -263,13 +264,13 @@ impl Connection {
     /// Asks for data of commands that wait for them.
     fn request_data(&mut self) {
         while let Some(it) = self.transfers.next_request() {
-            pdu::ready_to_transfer(&mut self.output, *self.framing.agreed(), it.cid, it.tag, it.length as usize);
+            pdu::ready_to_transfer(&mut self.output, *self.framing.agreed(), it.cid, it.tag, it.length);
         }
     }
 
     fn host_data(&mut self, target: &mut Target<'_>, layout: &Layout, is_sound: bool, unit: &[u8]) -> Result<(), Stop> {
         let data = pdu::data_in(layout, unit);
-        let length = data.len() as u32;
+        let length = narrow(data.len());
         let HostData { cid, tag, offset } = HostData::of(first(unit), length)?;
         let part = Part { cid, tag, offset, length, is_last: layout.is_last, is_sound };
         if let Some(transfer) = self.transfers.take(&part, data)? {

@@ -87,6 +87,7 @@ impl Output {
 #[cfg(test)]
 mod tests {
     use super::*;
+    use crate::numbers::narrow;
 
     #[test]
     fn bytes_go_in_their_order() {
@@ -105,7 +106,7 @@ mod tests {
         assert_eq!(output.waiting(), [1]);
         for (most, wanted) in [(5, Ok(2)), (9, Err(7)), (3, Ok(3))] {
             let put = |room: &mut [u8]| {
-                room.fill(most as u8);
+                room.fill(narrow(most));
                 wanted
             };
             assert_eq!(output.fill(most, put), wanted.map(|_| ()));

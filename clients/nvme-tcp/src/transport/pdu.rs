@@ -2,6 +2,7 @@
 
 use crate::bytes::{first_mut, u32_at};
 use crate::digest::crc32c;
+use crate::numbers::narrow;
 use crate::transport::output::Output;
 use nvmesim::buffers::MOST_DATA;
 pub use nvmesim::pdu::{Agreed, Fatal, HostData, Kind, Layout};
@@ -58,7 +59,7 @@ pub fn ic_response(out: &mut Output, agreed: Agreed) {
 
 /// Ends a connection, and repeats the header at fault.
 pub fn termination(out: &mut Output, fatal: Fatal, received: &[u8]) {
-    let layout = put_header(out, |header| fatal.termination(received.len() as u32, header));
+    let layout = put_header(out, |header| fatal.termination(narrow(received.len()), header));
     out.put(&received[..layout.data_length]);
 }
 
@@ -69,8 +70,8 @@ pub fn response(out: &mut Output, agreed: Agreed, entry: &[u8; 16]) {
 }
 
 /// Asks for all data of a command.
-pub fn ready_to_transfer(out: &mut Output, agreed: Agreed, cid: u16, tag: u16, length: usize) {
-    put_header(out, |header| agreed.ready(cid, tag, length as u32, header));
+pub fn ready_to_transfer(out: &mut Output, agreed: Agreed, cid: u16, tag: u16, length: u32) {
+    put_header(out, |header| agreed.ready(cid, tag, length, header));
 }
 
 /// All data of a command in one PDU: the header, and `length` bytes, all of which `fill` writes.
@@ -82,7 +83,7 @@ pub fn controller_data<E>(
     length: usize,
     fill: impl FnOnce(&mut [u8]) -> Result<(), E>,
 ) -> Result<(), E> {
-    let write = |header: &mut [u8; HEADER]| agreed.data(cid, length as u32, header).expect("a PDU of at most 4 GiB");
+    let write = |header: &mut [u8; HEADER]| agreed.data(cid, narrow(length), header).expect("a PDU of at most 4 GiB");
     let layout = put_header(out, write);
     let room = out.room(length);
     fill(room)?;

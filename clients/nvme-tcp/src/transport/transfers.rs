@@ -1,5 +1,6 @@
 //! Memory for the data that a host sends in answer to R2T. The library decides which data are whose.
 
+use crate::numbers::index;
 use crate::nvme::ENTRY;
 use crate::transport::pdu::Fatal;
 use nvmesim::capsules::{self, Capsule, Outcome};
@@ -52,7 +53,7 @@ impl Transfer {
         if self.bytes.is_empty() {
             last
         } else {
-            &self.bytes[..self.completed.length as usize]
+            &self.bytes[..index(self.completed.length)]
         }
     }
 }
@@ -76,7 +77,7 @@ impl Transfers {
     /// The next command to request data for, if a tag is free.
     pub fn next_request(&mut self) -> Option<Request> {
         let request = self.commands.next_request()?;
-        self.rooms[usize::from(request.tag)].length = request.length as usize;
+        self.rooms[usize::from(request.tag)].length = index(request.length);
         Some(request)
     }
 
@@ -111,16 +112,17 @@ impl Transfers {
 #[cfg(test)]
 mod tests {
     use super::*;
+    use crate::numbers::narrow;
 
     fn part(offset: u32, data: &[u8], is_last: bool) -> Part {
-        Part { cid: 0, tag: 0, offset, length: data.len() as u32, is_last, is_sound: true }
+        Part { cid: 0, tag: 0, offset, length: narrow(data.len()), is_last, is_sound: true }
     }
 
     /// A command of `length` bytes that was asked for them.
     fn asked(length: usize) -> Transfers {
         let mut transfers = Transfers::new().unwrap();
-        transfers.commands.begin(&[0; ENTRY], length as u32).unwrap();
-        assert_eq!(transfers.next_request(), Some(Request { cid: 0, tag: 0, length: length as u32 }));
+        transfers.commands.begin(&[0; ENTRY], narrow(length)).unwrap();
+        assert_eq!(transfers.next_request(), Some(Request { cid: 0, tag: 0, length: narrow(length) }));
         transfers
     }
 

@@ -9,6 +9,7 @@ use super::refusal::Refusal;
 use crate::bytes::{put, u32_at, u64_at};
 use crate::digest::crc32c;
 use crate::journal::record::{records_of, Record};
+use crate::numbers::{index, narrow};
 use crate::storage::aligned::{Aligned, PAGE};
 
 pub const SEGMENTS: usize = 4;
@@ -35,7 +36,7 @@ pub fn pages_of(length: usize) -> usize {
 pub fn batch(segment: u64, number: u64, records: &[u8]) -> Aligned {
     let mut pages = Aligned::zeros(pages_of(records.len()) * PAGE);
     put(&mut pages, 0, MAGIC);
-    put(&mut pages, LENGTH_AT, &(records.len() as u32).to_le_bytes());
+    put(&mut pages, LENGTH_AT, &narrow::<_, u32>(records.len()).to_le_bytes());
     put(&mut pages, SEGMENT_AT, &segment.to_le_bytes());
     put(&mut pages, NUMBER_AT, &number.to_le_bytes());
     put(&mut pages, HEAD, records);
@@ -64,7 +65,7 @@ fn batch_of(pages: &[u8]) -> Option<Batch<'_>> {
     if !pages.starts_with(MAGIC) {
         return None;
     }
-    let length = u32_at(pages, LENGTH_AT) as usize;
+    let length = index(u32_at(pages, LENGTH_AT));
     let bytes = pages.get(..pages_of(length).checked_mul(PAGE)?)?;
     let digest = crc32c_without(bytes);
     (digest == u32_at(bytes, DIGEST_AT)).then(|| Batch {
@@ -139,7 +140,7 @@ pub fn read(area: &[u8]) -> Result<Kept, Refusal> {
     if batches_of(rest).iter().any(|it| it.segment == head.segment) {
         return Err(damaged(format!("batch {number} of segment {} is damaged, and others follow it", head.segment)));
     }
-    let torn = if is_of_it(rest) { (u32_at(rest, LENGTH_AT) as usize).min(rest.len()) } else { 0 };
+    let torn = if is_of_it(rest) { index(u32_at(rest, LENGTH_AT)).min(rest.len()) } else { 0 };
     let (records, end) = records_of(&bytes, 0).map_err(|error| damaged(error.to_string()))?;
     if end != bytes.len() {
         return Err(damaged(format!("segment {} has a part of a record", head.segment)));

@@ -9,6 +9,7 @@ use super::{is_device, open_direct};
 use crate::admin::identity::Identity;
 use crate::configuration::Configuration;
 use crate::files::locking::Lock;
+use crate::numbers::{to_u64, to_usize};
 use crate::nvme::BLOCK;
 use crate::storage::aligned::{Aligned, PAGE};
 use crate::storage::options::Options;
@@ -40,7 +41,7 @@ pub struct How {
 /// Makes a volume with a configuration; what it prints.
 pub fn format(path: &Path, configuration: &Configuration, how: How) -> Result<String, Refusal> {
     let bytes = configuration.total_blocks().checked_mul(BLOCK).and_then(|it| it.checked_add(BLOCKS_AT));
-    let needed = bytes.and_then(|it| it.checked_add(PAGE as u64 - 1)).map(|it| it / PAGE as u64 * PAGE as u64);
+    let needed = bytes.and_then(|it| it.checked_add(to_u64(PAGE) - 1)).map(|it| it / to_u64(PAGE) * to_u64(PAGE));
     let needed = needed.ok_or(Refusal::TooSmall(how.size.unwrap_or(0), u64::MAX))?;
     let image = claim(path, needed, how)?;
     let file = open_direct(path, true)?;
@@ -48,7 +49,7 @@ pub fn format(path: &Path, configuration: &Configuration, how: How) -> Result<St
     log::write_first(&file, configuration)?;
     let superblock = Superblock {
         identity: Identity::random()?,
-        size: image.length / PAGE as u64 * PAGE as u64,
+        size: image.length / to_u64(PAGE) * to_u64(PAGE),
         revision: 1,
         epoch: 0,
         lease: how.lease.unwrap_or(LEASE),
@@ -78,12 +79,12 @@ pub fn copy(from: &Path, to: &Path, how: How) -> Result<String, Refusal> {
     let mut piece = Aligned::zeros(PIECE);
     let mut place = JOURNAL_AT;
     while place < superblock.size {
-        let count = (superblock.size - place).min(PIECE as u64) as usize;
+        let count = to_usize((superblock.size - place).min(to_u64(PIECE)));
         file.read_exact_at(&mut piece[..count], place)?;
         if !is_empty || piece[..count].iter().any(|it| *it != 0) {
             copy.file.write_all_at(&piece[..count], place)?;
         }
-        place += count as u64;
+        place += to_u64(count);
     }
     copy.file.sync_all()?;
     let superblock = Superblock { revision: superblock.revision + 1, ..superblock };
@@ -128,15 +129,15 @@ fn check_empty(image: &Image) -> Result<(), Refusal> {
 fn find_byte(image: &Image, begin: u64, end: u64) -> Result<(), Refusal> {
     let (mut place, mut piece) = (begin, vec![0; PIECE]);
     while place < end {
-        let count = (end - place).min(PIECE as u64) as usize;
+        let count = to_usize((end - place).min(to_u64(PIECE)));
         image.file.read_exact_at(&mut piece[..count], place).map_err(|error| match error.kind() {
             ErrorKind::UnexpectedEof => io::Error::new(ErrorKind::UnexpectedEof, "it was cut while it was read"),
             _ => error,
         })?;
         if let Some(at) = piece[..count].iter().position(|it| *it != 0) {
-            return Err(Refusal::NotEmpty(place + at as u64));
+            return Err(Refusal::NotEmpty(place + to_u64(at)));
         }
-        place += count as u64;
+        place += to_u64(count);
     }
     Ok(())
 }

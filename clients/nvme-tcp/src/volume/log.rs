@@ -10,6 +10,7 @@ use crate::files::watched::changed;
 use crate::journal::record::{records_of, Event, Record};
 use crate::journal::restoring::Replica;
 use crate::journal::Log;
+use crate::numbers::to_u64;
 use crate::storage::aligned::{Aligned, PAGE};
 use std::fs::File;
 use std::io;
@@ -80,7 +81,7 @@ impl VolumeLog {
     fn begin_segment(&mut self, further: usize) -> io::Result<()> {
         let event = Event::Checkpoint(self.replica.checkpoint());
         let record = Record { epoch: self.superblock.epoch, event }.bytes();
-        self.segment += further as u64;
+        self.segment += to_u64(further);
         self.place = (self.place + further) % SEGMENTS;
         let pages = area::checkpoint(self.segment, &record);
         self.page = FIRST_PAGE;
@@ -90,7 +91,7 @@ impl VolumeLog {
 
     /// Writes pages of the segment.
     fn write(&self, page: usize, pages: &[u8]) -> io::Result<()> {
-        self.file.write_all_at(pages, JOURNAL_AT + (self.place * SEGMENT + page * PAGE) as u64)
+        self.file.write_all_at(pages, JOURNAL_AT + to_u64(self.place * SEGMENT + page * PAGE))
     }
 
     /// Executes the commands of records in the replica.

@@ -4,6 +4,7 @@ use super::refusal::Refusal;
 use crate::admin::identity::Identity;
 use crate::bytes::{put, text_of, u16_at, u32_at, u64_at};
 use crate::digest::crc32c;
+use crate::numbers::narrow;
 use crate::nvme::BLOCK;
 use crate::storage::aligned::{Aligned, PAGE};
 use std::fs::File;
@@ -95,8 +96,8 @@ impl Superblock {
         for (at, number) in [(SIZE_AT, self.size), (REVISION_AT, self.revision), (EPOCH_AT, self.epoch)] {
             put(&mut page, at, &number.to_le_bytes());
         }
-        put(&mut page, LEASE_AT, &(self.lease.as_millis() as u32).to_le_bytes());
-        put(&mut page, LENGTH_AT, &(lines.len() as u16).to_le_bytes());
+        put(&mut page, LEASE_AT, &narrow::<_, u32>(self.lease.as_millis()).to_le_bytes());
+        put(&mut page, LENGTH_AT, &narrow::<_, u16>(lines.len()).to_le_bytes());
         if let Some(Owner { number, boot, place, name }) = &self.owner {
             put(&mut page, OWNER_AT, number);
             put(&mut page, BOOT_AT, boot);
