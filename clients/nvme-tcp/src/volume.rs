@@ -160,7 +160,7 @@ impl Volume {
     fn begin_journal(&self, superblock: Superblock, lease: Arc<Lease>) -> Result<Owned, Refusal> {
         let Content { kept, mut current, mut replica, .. } = Content::read_settled(&self.file, self.image.length)?;
         current.events.push(Event::Start);
-        replica.follow(&[Event::Start]).map_err(Refusal::Journal)?;
+        replica.follow(&[Event::Start]).map_err(|error| Refusal::Journal(error.to_string()))?;
         let (epoch, identity, file) = (superblock.epoch, superblock.identity, self.file.try_clone()?);
         let log = VolumeLog::begin(file, Arc::clone(&lease), superblock, (&kept, replica))?;
         let journal = Journal::start(Box::new(log), Box::new(Arc::clone(&lease)), epoch, identity)?;

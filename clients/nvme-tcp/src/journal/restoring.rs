@@ -8,7 +8,7 @@
 use crate::admin::features::PROTECTED;
 use crate::bytes::put;
 use crate::configuration::Configuration;
-use crate::fault::Outcome;
+use crate::fault::{Fault, Outcome};
 use crate::journal::checkpoint::{Checkpoint, NamespaceState};
 use crate::journal::record::Event;
 use crate::numbers::to_u64;
@@ -22,6 +22,8 @@ use crate::target::controller::{Controller, Data, ENABLE};
 use crate::target::machine::Machine;
 use crate::target::Target;
 use nvmesim::{Holder, OpenError, Registrant, Subsystem};
+use std::error::Error;
+use std::fmt;
 
 /// CC of a controller that executes commands of the journal: entries of 64 and of 16 bytes.
 const CONFIGURATION: u32 = 4 << 20 | 6 << 16 | ENABLE;
@@ -35,6 +37,26 @@ const UNREGISTER: u32 = 1;
 const REPLACE: u32 = 2;
 const IGNORE_KEY: u32 = 1 << 3;
 const SET_PTPL: u32 = 3 << 30;
+
+/// Why a replica does not follow a journal.
+#[derive(Debug)]
+pub enum Unfollowed {
+    /// The library refused a call.
+    Fault(Fault),
+    /// The command of this record, from 0, does not succeed again.
+    Record(usize),
+}
+
+impl fmt::Display for Unfollowed {
+    fn fmt(&self, f: &mut fmt::Formatter<'_>) -> fmt::Result {
+        match self {
+            Unfollowed::Fault(fault) => fault.fmt(f),
+            Unfollowed::Record(number) => write!(f, "record {number} does not succeed again"),
+        }
+    }
+}
+
+impl Error for Unfollowed {}
 
 /// A subsystem whose controllers execute the events of a journal.
 struct Replay<'t, 'a> {
@@ -62,11 +84,11 @@ impl Replica {
         })
     }
 
-    /// Executes the events of a journal; the error says why it can't.
-    pub fn follow(&mut self, events: &[Event]) -> Result<(), String> {
+    /// Executes the events of a journal.
+    pub fn follow(&mut self, events: &[Event]) -> Result<(), Unfollowed> {
         let Replica { machine, controllers, .. } = self;
-        let failed = Replay { machine, controllers, is_read_only: false }.all(events).map_err(|it| it.to_string())?;
-        failed.map_or(Ok(()), |number| Err(format!("record {number} does not succeed again")))
+        let failed = Replay { machine, controllers, is_read_only: false }.all(events).map_err(Unfollowed::Fault)?;
+        failed.map_or(Ok(()), |number| Err(Unfollowed::Record(number)))
     }
 
     /// What persists now.
@@ -374,7 +396,7 @@ mod tests {
                 let others = state.0.iter().map(|it| (it.reservation.protection, it.attached.clone()));
                 if shapes.insert((found.clone(), others.collect::<Vec<_>>())) {
                     let mut again = self::replica();
-                    assert_eq!(again.follow(&[Event::Checkpoint(state.clone())]), Ok(()), "{state:?}");
+                    assert!(again.follow(&[Event::Checkpoint(state.clone())]).is_ok(), "{state:?}");
                     assert_eq!(again.checkpoint(), state);
                     kinds.extend(found);
                 }
@@ -395,16 +417,20 @@ mod tests {
 
     #[test]
     fn a_state_that_can_not_be_made_is_noticed() {
-        let refused = Err("record 0 does not succeed again".to_owned());
+        let is_refused = |states: &[NamespaceState]| {
+            let events = [Event::Checkpoint(Checkpoint(states.to_vec()))];
+            matches!(replica().follow(&events), Err(error @ Unfollowed::Record(0))
+                if error.to_string() == "record 0 does not succeed again")
+        };
         let Checkpoint(mut states) = replica().checkpoint();
         states[0].reservation.registrants = vec![Registrant { host: 0xc3, key: 1 }];
-        assert_eq!(replica().follow(&[Event::Checkpoint(Checkpoint(states.clone()))]), refused);
+        assert!(is_refused(&states));
         states[0].reservation.registrants.clear();
         states[0].reservation.holder = Holder::Host(1, 0xa1);
-        assert_eq!(replica().follow(&[Event::Checkpoint(Checkpoint(states.clone()))]), refused);
+        assert!(is_refused(&states));
         states[0].reservation.holder = Holder::Nobody;
         states[0].attached = vec![9];
-        assert_eq!(replica().follow(&[Event::Checkpoint(Checkpoint(states))]), refused);
+        assert!(is_refused(&states));
     }
 
     #[test]
@@ -415,7 +441,7 @@ mod tests {
             let Checkpoint(mut states) = replica.checkpoint();
             states[0].reservation.generation = generation;
             let mut again = self::replica();
-            assert_eq!(again.follow(&[Event::Checkpoint(Checkpoint(states.clone()))]), Ok(()));
+            assert!(again.follow(&[Event::Checkpoint(Checkpoint(states.clone()))]).is_ok());
             assert_eq!(again.checkpoint(), Checkpoint(states));
         }
     }

@@ -51,7 +51,7 @@ impl Content {
             return Err(Refusal::Journal(format!("it is of epoch {newest}, and the superblock of {epoch}")));
         }
         let (current, mut replica) = (current(kept.records.clone()), log::replica(&configuration)?);
-        replica.follow(&current.events).map_err(Refusal::Journal)?;
+        replica.follow(&current.events).map_err(|error| Refusal::Journal(error.to_string()))?;
         Ok(Content { chosen, configuration, kept, current, replica })
     }
 

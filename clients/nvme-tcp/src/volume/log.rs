@@ -97,7 +97,7 @@ impl VolumeLog {
     /// Executes the commands of records in the replica.
     fn follow(&mut self, records: &[u8]) -> io::Result<()> {
         let events: Vec<Event> = records_of(records, 0)?.0.into_iter().map(|it| it.event).collect();
-        self.replica.follow(&events).map_err(changed)
+        self.replica.follow(&events).map_err(|error| changed(error.to_string()))
     }
 }
 
