@@ -63,5 +63,6 @@ class Sources(unittest.TestCase):
 
     @unittest.skipUnless(IS_BUILT and clippy.is_there(), "there is no clippy, or nothing was built here")
     def test_clippy(self) -> None:
-        """The lints that main.rs names: the target, its unit tests and its examples."""
-        self.assertEqual(clippy.problem(HERE, environment(), ["--release", *features()]), "")
+        """The lints that main.rs names: the target, its unit tests and its examples; those of the simulator."""
+        for given in features(), ["--package", "simulator"]:
+            self.assertEqual(clippy.problem(HERE, environment(), ["--release", *given]), "")

@@ -116,7 +116,7 @@ fn options(words: impl Iterator<Item = String>) -> Result<Options, String> {
         run: Run::new(),
         is_one: false,
         seeds: None,
-        jobs: thread::available_parallelism().map_or(1, |it| it.get()),
+        jobs: thread::available_parallelism().map_or(1, std::num::NonZeroUsize::get),
         time: Duration::from_secs(60),
         log: None,
         page: None,

@@ -69,7 +69,7 @@ impl Operator {
 
     /// A few lines, whose answers are judged.
     fn query(&mut self, asked: &Asked) {
-        let lines: Vec<String> = (0..1 + below(6)).map(|_| self.line()).collect();
+        let lines: Vec<String> = (0..=below(6)).map(|_| self.line()).collect();
         if let Some(text) = exchange(asked, &(lines.join("\n") + "\n")) {
             self.judge(asked, &lines, &text);
         }
@@ -162,7 +162,7 @@ impl Operator {
     /// Someone who sends too much, or takes nothing, gets no more, and keeps nobody from being served.
     fn flood(&mut self, asked: &Asked) {
         let mut streams: Vec<UnixStream> =
-            (0..1 + below(12)).filter_map(|_| UnixStream::connect(&asked.control).ok()).collect();
+            (0..=below(12)).filter_map(|_| UnixStream::connect(&asked.control).ok()).collect();
         let text = match below(3) {
             0 => "metrics\n".repeat(40),
             1 => "x".repeat(2 * LINE),

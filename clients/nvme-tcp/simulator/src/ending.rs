@@ -1,6 +1,6 @@
 //! How targets and machines are stopped at once: by a kill, by a loss of power, and in the midst of a write.
 
-use crate::hosts::checker::check;
+use crate::hosts::checker::{check, Checker};
 use crate::world::disk::SECTOR;
 use crate::world::{self, with, World, MICROSECOND, MILLISECOND, SECOND};
 
@@ -66,5 +66,5 @@ pub fn fail_power() {
         world.cut_power();
         world.boots.values_mut().for_each(|it| *it += 1);
     });
-    check(|it| it.lose_power());
+    check(Checker::lose_power);
 }

@@ -86,7 +86,7 @@ extern "C" fn enter(begun: *mut (Work, fn(Option<String>))) {
 /// Runs a fiber until it calls `leave`. The simulator itself calls this.
 pub fn resume(place: *mut usize) {
     CURRENT.with(|it| it.set(place));
-    let root = ROOT.with(|it| it.as_ptr());
+    let root = ROOT.with(std::cell::Cell::as_ptr);
     unsafe { simulator_switch(root, *place) };
     CURRENT.with(|it| it.set(std::ptr::null_mut()));
 }
@@ -98,8 +98,8 @@ pub fn is_inside() -> bool {
 
 /// Continues the simulator. It returns when the fiber is resumed.
 pub fn leave() {
-    let place = CURRENT.with(|it| it.get());
+    let place = CURRENT.with(std::cell::Cell::get);
     assert!(!place.is_null(), "only a fiber can wait");
-    let root = ROOT.with(|it| it.get());
+    let root = ROOT.with(std::cell::Cell::get);
     unsafe { simulator_switch(place, root) };
 }

@@ -123,12 +123,11 @@ impl Totals {
 /// Runs a number of seeds, or seeds until the time is over.
 pub fn many(options: &Options) -> ExitCode {
     let first = options.run.clone();
-    let seeds: Box<dyn Iterator<Item = u64> + Send> = match options.seeds {
-        Some(count) => Box::new(first.seed..first.seed.saturating_add(count)),
-        None => {
-            let (begin, time) = (Instant::now(), options.time);
-            Box::new((first.seed..).take_while(move |_| begin.elapsed() < time))
-        }
+    let seeds: Box<dyn Iterator<Item = u64> + Send> = if let Some(count) = options.seeds {
+        Box::new(first.seed..first.seed.saturating_add(count))
+    } else {
+        let (begin, time) = (Instant::now(), options.time);
+        Box::new((first.seed..).take_while(move |_| begin.elapsed() < time))
     };
     let totals = Mutex::new(Totals::new(seeds));
     thread::scope(|scope| (0..options.jobs).for_each(|_| drop(scope.spawn(|| work(&first, &totals)))));

@@ -5,6 +5,31 @@
 //! What it does not do: name changes of files are durable at once.
 
 #![deny(unsafe_code)]
+#![warn(clippy::pedantic)]
+#![allow(
+    // Functions have the form of the standard library's, whose place they take.
+    clippy::missing_errors_doc,
+    clippy::must_use_candidate,
+    clippy::needless_pass_by_value,
+    clippy::return_self_not_must_use,
+    clippy::unnecessary_wraps,
+    clippy::unused_self,
+    // Seeds become counts, places and bytes, and figures of reports are rounded.
+    clippy::cast_possible_truncation,
+    clippy::cast_possible_wrap,
+    clippy::cast_precision_loss,
+    clippy::cast_sign_loss,
+    // Names of standards are no code; a call for each is shorter as one line; speed matters less than in the target.
+    clippy::doc_markdown,
+    clippy::format_collect,
+    clippy::format_push_string,
+    clippy::large_stack_arrays,
+    clippy::match_same_arms,
+    clippy::naive_bytecount,
+    clippy::needless_for_each,
+    clippy::struct_excessive_bools,
+    clippy::verbose_bit_mask
+)]
 
 pub use ::std::*;
 

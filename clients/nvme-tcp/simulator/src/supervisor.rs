@@ -5,7 +5,7 @@ mod troubles;
 use crate::chance::Random;
 use crate::ending::{fail_power, has_ended};
 use crate::hosts::chap::Choice;
-use crate::hosts::checker::{check, BLOCK};
+use crate::hosts::checker::{check, Checker, BLOCK};
 use crate::hosts::keyring::KEYS;
 use crate::replay::{commands_of, replay, values_of};
 use crate::scenario::Scenario;
@@ -197,7 +197,7 @@ impl Supervisor {
         if self.scenario.manner.is_memory {
             check(|it| it.begin_memory(process));
         }
-        let loss = check(|it| it.lose_reservations());
+        let loss = check(Checker::lose_reservations);
         let next = if self.has("disk") { with(|it| stray_of_start(&mut it.random)) } else { None };
         next.into_iter().for_each(|next| with(|it| it.disks.misdirection.next = Some(next)));
         self.wait_until_it_serves(process);
@@ -276,8 +276,8 @@ impl Supervisor {
         let strayed = with(|world| world.disks.misdirection.reads) > it.strayed;
         match outcome {
             Ok(()) => {
-                check(|check| check.sync());
-                self.replay(it, true)
+                check(Checker::sync);
+                self.replay(it, true);
             }
             Err((1..=2, text)) if names_journal(text) && with(|it| it.disks.put_back()) => {
                 with(|it| *it.injected.entry("misdirection noticed").or_default() += 1);

@@ -183,7 +183,7 @@ thread_local! {
 
 /// Plants a fault, in a copy of the target.
 pub fn plant(name: &str) {
-    PLANTED.with(|it| *it.borrow_mut() = name.to_owned());
+    PLANTED.with(|it| name.clone_into(&mut it.borrow_mut()));
 }
 
 pub fn is_planted(name: &str) -> bool {
@@ -300,15 +300,12 @@ impl World {
             fiber: Some(fiber),
         };
         let free = self.threads.iter().position(|it| it.state == State::Ended && it.fiber.is_none());
-        match free {
-            Some(at) => {
-                self.threads[at] = thread;
-                at
-            }
-            None => {
-                self.threads.push(thread);
-                self.threads.len() - 1
-            }
+        if let Some(at) = free {
+            self.threads[at] = thread;
+            at
+        } else {
+            self.threads.push(thread);
+            self.threads.len() - 1
         }
     }
 

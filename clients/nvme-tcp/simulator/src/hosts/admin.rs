@@ -160,7 +160,7 @@ impl Session<'_> {
             match EVENTS.iter().find(|(value, _)| *value == it.value) {
                 Some((_, page)) => self.read_page_of_event(*page)?,
                 None => {
-                    self.complain(&format!("an event has status {:x} and double word 0 {:#x}", it.status, it.value))
+                    self.complain(&format!("an event has status {:x} and double word 0 {:#x}", it.status, it.value));
                 }
             }
         }

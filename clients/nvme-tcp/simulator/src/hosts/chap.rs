@@ -138,9 +138,10 @@ impl Reply {
         let Peers { choice: Choice { hash, group }, host, subsystem, secret, controller } = peers;
         let prime = prime(*group);
         let private: Vec<u8> = (0..PRIVATE).map(|_| with(|it| it.random.next() as u8 | 1)).collect();
-        let (public, shared) = match prime.is_empty() {
-            true => (Vec::new(), None),
-            false => (power(&[2], &private, &prime), Some(power(&it.public, &private, &prime))),
+        let (public, shared) = if prime.is_empty() {
+            (Vec::new(), None)
+        } else {
+            (power(&[2], &private, &prime), Some(power(&it.public, &private, &prime)))
         };
         let respond = |key: &[u8], (challenge, sequence): (&[u8], u32), who: [&str; 3]| {
             let augmented = match &shared {

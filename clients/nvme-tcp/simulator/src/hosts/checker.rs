@@ -283,12 +283,11 @@ impl Checker {
 
     /// A command is answered; whether that promises what a crash may not take.
     pub fn answer(&mut self, number: u64, completion: &Completion) -> bool {
-        let sent = match self.open.remove(&number) {
-            Some(sent) => sent,
-            None => {
-                self.violate(format!("command {number} is answered twice"));
-                return false;
-            }
+        let sent = if let Some(sent) = self.open.remove(&number) {
+            sent
+        } else {
+            self.violate(format!("command {number} is answered twice"));
+            return false;
         };
         let is_reserve = matches!(sent.act, Act::Register | Act::Unregister | Act::Reserve { .. });
         let lasts = is_reserve || matches!(sent.act, Act::Flush { .. }) || sent.is_forced;
@@ -311,7 +310,7 @@ impl Checker {
         match &sent.act {
             Act::Write { .. } | Act::Read { .. } | Act::Compare { .. } | Act::Flush { .. } if self.is_void(sent) => (),
             Act::Write { .. } if sent.is_spoiled && is_done => {
-                self.violate(format!("a write succeeds whose digest is wrong: {sent:?}"))
+                self.violate(format!("a write succeeds whose digest is wrong: {sent:?}"));
             }
             Act::Write { slba, values } => self.wrote(sent, number, (*slba, values), completion.status),
             Act::Read { slba, count } if is_done => self.has_read(sent, *slba, *count, &completion.data),

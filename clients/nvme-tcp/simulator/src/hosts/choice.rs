@@ -73,7 +73,7 @@ impl Path {
 
     fn area(&self) -> Area {
         let count = self.areas().count();
-        let wanted = if count > 1 && below(3) == 0 { 1 } else { 0 };
+        let wanted = usize::from(count > 1 && below(3) == 0);
         self.areas().nth(wanted).unwrap_or(Area { nsid: 1, base: 0, blocks: self.blocks })
     }
 

@@ -115,7 +115,7 @@ impl Block {
             return Ok(());
         }
         if !self.versions.iter().any(is_possible) {
-            return Err(format!("value {value:#x} was read from {start} to {end}; it may be {:?}", self));
+            return Err(format!("value {value:#x} was read from {start} to {end}; it may be {self:?}"));
         }
         // An answer that was on the way when power was lost promises nothing.
         if start > self.lost {

@@ -112,7 +112,7 @@ impl Path {
             Some(choice) => {
                 let proof = queue.prove(&self.peers(choice))?;
                 with(|it| {
-                    *it.injected.entry(if proof == Proof::Done { "proof" } else { "no proof" }).or_default() += 1
+                    *it.injected.entry(if proof == Proof::Done { "proof" } else { "no proof" }).or_default() += 1;
                 });
                 Ok(proof)
             }

@@ -20,7 +20,7 @@ impl Write for Said {
             let said = &mut world.processes[process].said;
             said.push_str(&text);
             if said.len() >= 2 * KEPT {
-                let cut = (KEPT..).find(|at| said.is_char_boundary(*at)).unwrap_or(0);
+                let cut = (KEPT..said.len()).find(|at| said.is_char_boundary(*at)).unwrap_or(0);
                 said.drain(..cut);
             }
             if !self.is_error && world.processes[process].served.is_none() {

@@ -22,7 +22,7 @@ impl<T> Mutex<T> {
 
 impl<T: ?Sized> Mutex<T> {
     fn key(&self) -> Key {
-        Key::Address(&self.0 as *const _ as *const u8 as usize)
+        Key::Address(std::ptr::addr_of!(self.0).cast::<u8>() as usize)
     }
 
     pub fn lock(&self) -> LockResult<MutexGuard<'_, T>> {

@@ -91,7 +91,7 @@ impl Poll {
     pub fn new() -> io::Result<Poll> {
         with(|it| {
             let name = it.net.descriptor();
-            it.net.polls.insert(name, Default::default());
+            it.net.polls.insert(name, world::network::Poll::default());
             Ok(Poll { name, last: (0, 0) })
         })
     }

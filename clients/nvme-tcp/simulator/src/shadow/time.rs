@@ -20,7 +20,7 @@ impl Instant {
     }
 
     pub fn elapsed(&self) -> Duration {
-        now() - self.0
+        now().saturating_sub(self.0)
     }
 
     pub fn duration_since(&self, earlier: Instant) -> Duration {
@@ -58,7 +58,7 @@ impl Sub<Duration> for Instant {
     type Output = Instant;
 
     fn sub(self, time: Duration) -> Instant {
-        Instant(self.0 - time)
+        Instant(self.0.checked_sub(time).expect("an instant after the start"))
     }
 }
 

@@ -58,7 +58,7 @@ impl Supervisor {
             "end" => self.end(at),
             "stop" => self.stop(at),
             "takeover" if self.scenario.is_volume && self.running.len() == 1 => {
-                self.start(1 - self.running[at].machine.min(1))
+                self.start(1 - self.running[at].machine.min(1));
             }
             "cut" => (0..3).for_each(|_| self.cut()),
             "cycle" => self.cycle(at),

@@ -172,7 +172,7 @@ mod tests {
         let mut capsule = vec![0; CAPSULE_HEADER];
         (capsule[0], capsule[4], capsule[8], capsule[10]) = (CAPSULE, 72, 2, 5);
         (capsule[48], capsule[56]) = (9, 3);
-        let mut response = vec![0; RESPONSE_LENGTH];
+        let mut response = [0; RESPONSE_LENGTH];
         (response[0], response[4], response[20]) = (RESPONSE, 24, 5);
         response[22..24].copy_from_slice(&(0x83u16 << 1).to_le_bytes());
         let mut tap = Tap::default();
