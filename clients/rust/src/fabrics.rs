@@ -19,9 +19,10 @@
 use crate::layout;
 use crate::numbers::{halves, joined};
 use crate::raw::Associations;
-use crate::{OpenError, OK};
+use crate::{status_name, OpenError, OK};
 use std::cell::Cell;
 use std::sync::atomic::{AtomicU64, Ordering};
+use std::{error, fmt};
 
 /// The fields of a completion that an answer sets.
 #[derive(Clone, Copy, Debug, PartialEq, Eq)]
@@ -41,6 +42,15 @@ impl Answer {
         (self.sct, self.sc) == (0, 0)
     }
 }
+
+impl fmt::Display for Answer {
+    fn fmt(&self, f: &mut fmt::Formatter<'_>) -> fmt::Result {
+        write!(f, "status {:x}:{:02x}, {}", self.sct, self.sc, status_name(self.sct, self.sc))
+    }
+}
+
+/// A command is refused by its answer.
+impl error::Error for Answer {}
 
 /// What a Connect asks for.
 #[derive(Clone, Copy, Debug, PartialEq, Eq)]

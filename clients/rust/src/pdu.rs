@@ -6,13 +6,16 @@
 //! let agreed = Agreed::default();
 //! let layout = agreed.layout(&[4, 0, 72, 72, 72, 2, 0, 0])?;
 //! assert_eq!((layout.kind, layout.data_offset, layout.data_length), (Kind::CapsuleCmd, 72, 512));
-//! assert_eq!(agreed.layout(&[4, 0, 24, 0, 72, 0, 0, 0]), Err(Fatal { status: 1, field: 2 }));
+//! let fatal = agreed.layout(&[4, 0, 24, 0, 72, 0, 0, 0]).unwrap_err();
+//! assert_eq!(fatal, Fatal { status: 1, field: 2 });
+//! assert_eq!(fatal.to_string(), "Fatal Error Status 01h, at byte 2 of the header");
 //! # Ok::<_, Fatal>(())
 //! ```
 
 use crate::layout::PduLayout;
 use crate::numbers::to_usize;
 use crate::{raw, OK};
+use std::{error, fmt};
 
 /// A type of PDU, by its name in the standard.
 #[derive(Clone, Copy, Debug, PartialEq, Eq)]
@@ -188,6 +191,14 @@ impl Fatal {
         raw::pdu_termination(self.status, self.field, received, header).into()
     }
 }
+
+impl fmt::Display for Fatal {
+    fn fmt(&self, f: &mut fmt::Formatter<'_>) -> fmt::Result {
+        write!(f, "Fatal Error Status {:02x}h, at byte {} of the header", self.status, self.field)
+    }
+}
+
+impl error::Error for Fatal {}
 
 /// The fault of an answer that is not `OK`.
 #[inline]

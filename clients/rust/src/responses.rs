@@ -19,6 +19,7 @@
 //! ```
 
 use crate::{raw, OK};
+use std::{error, fmt};
 
 /// [`Responses::accept`]: the command is accepted, and its identifier in use.
 const CONFLICT: u32 = 47;
@@ -32,6 +33,17 @@ pub enum Refused {
     /// As many commands have no response as the queue has entries.
     Full,
 }
+
+impl fmt::Display for Refused {
+    fn fmt(&self, f: &mut fmt::Formatter<'_>) -> fmt::Result {
+        f.write_str(match self {
+            Refused::Ended => "the queue takes no more commands",
+            Refused::Full => "as many commands have no response as the queue has entries",
+        })
+    }
+}
+
+impl error::Error for Refused {}
 
 /// The outcome of a command: its identifier, its status, and double words 0 and 1.
 #[repr(C)]
