@@ -13,6 +13,7 @@ pub mod pages;
 use crate::bytes::u16_at;
 use crate::fabrics::association::Association;
 use crate::fault::Outcome;
+use crate::numbers::narrow;
 use crate::nvme::entry::SubmissionEntry;
 use crate::nvme::status::{EVENT_LIMIT, INVALID_OPCODE, SUCCESS};
 use crate::nvme::{
@@ -88,7 +89,7 @@ impl Target<'_> {
 
     /// Answers requests that wait for an event, as many as have one.
     pub fn tell_events(&mut self, index: usize) {
-        let admin = self.fabrics.connection(index as u16, 0);
+        let admin = self.fabrics.connection(narrow(index), 0);
         if let Some(association) = &mut self.associations[index] {
             while let (Some((cid, dw0)), Some(admin)) = (association.events.due(), admin) {
                 let answer = Answer { dw0, ..Answer::of(SUCCESS) };

@@ -29,9 +29,6 @@
 #[macro_use]
 extern crate simulator as std;
 
-// Few conversions by `as` are left in admin.rs, server.rs, storage.rs, writing.rs, target.rs, deallocating.rs and
-// memory.rs.
-#[allow(clippy::as_conversions, clippy::cast_possible_truncation)]
 mod admin;
 mod authentication;
 mod bytes;
@@ -45,21 +42,18 @@ mod fault;
 mod files;
 mod journal;
 #[cfg(not(feature = "simulated"))]
-#[allow(unsafe_code, clippy::as_conversions, clippy::undocumented_unsafe_blocks)]
+#[allow(unsafe_code)]
 mod memory;
 mod numbers;
 mod nvme;
 mod options;
 mod recording;
-#[allow(clippy::as_conversions, clippy::cast_possible_truncation)]
 mod server;
 mod start;
-#[allow(clippy::as_conversions, clippy::cast_possible_truncation)]
 mod storage;
 #[cfg(not(feature = "simulated"))]
 #[allow(unsafe_code)]
 mod system;
-#[allow(clippy::as_conversions, clippy::cast_possible_truncation)]
 mod target;
 mod transport;
 mod volume;

@@ -26,20 +26,25 @@ fn own_memory(line: &str) -> Option<(usize, usize)> {
     Some((usize::from_str_radix(from, 16).ok()?, usize::from_str_radix(to, 16).ok()?))
 }
 
+#[allow(clippy::as_conversions)] // An address has no other conversion to a pointer.
 fn has_only_zeros(page: usize) -> bool {
+    // SAFETY: the page is memory of this process, which nobody writes to, since there is one thread.
     let words = unsafe { std::slice::from_raw_parts(page as *const u64, PAGE / 8) };
     words.iter().all(|it| *it == 0)
 }
 
 /// Returns pages of large mappings that have only zeros, and so take memory for nothing, to the system: the memory of
 /// the controllers' hosts, of which the target uses little. It is called before there is a second thread.
+#[allow(clippy::as_conversions)] // An address has no other conversion to a pointer.
 pub fn give_back_zeros() -> io::Result<()> {
     let maps = std::fs::read_to_string("/proc/self/maps")?;
     for (from, to) in maps.lines().filter_map(own_memory).filter(|(from, to)| to - from >= LEAST_MAPPED) {
+        // SAFETY: advice on the size of pages changes no byte.
         unsafe { madvise(from as *mut u8, to - from, SMALL_PAGES) };
         let mut begin = from;
         for page in (from..=to).step_by(PAGE) {
             if page == to || !has_only_zeros(page) {
+                // SAFETY: these pages have only zeros, as they have when they come back.
                 unsafe { madvise(begin as *mut u8, page - begin, NOT_NEEDED) };
                 begin = page + PAGE;
             }

@@ -6,6 +6,7 @@ use crate::control::log::Topic;
 use crate::control::Console;
 use crate::fabrics::association::HostQueue;
 use crate::fault::{Fault, Outcome};
+use crate::numbers::{narrow, to_u64, to_usize};
 use crate::nvme::entry::SubmissionEntry;
 use crate::storage::Storage;
 use crate::system::{end_when_lost, is_asked_to_end, is_asked_to_read_again, Interest, Poll, Ready};
@@ -105,7 +106,7 @@ impl<'a> Server<'a> {
         Ok(Server {
             target,
             poll,
-            next: 1 + hosts.len() as u64,
+            next: 1 + to_u64(hosts.len()),
             hosts,
             control,
             connections: HashMap::new(),
@@ -158,7 +159,7 @@ impl<'a> Server<'a> {
         let is_patient = self.awaited().is_none() && !self.target.has_turn();
         let patience = if is_patient { LOOK } else { Duration::ZERO };
         self.target.hand_out();
-        self.poll.wait(patience.as_millis() as i32, ready).map_err(Fault::System)?;
+        self.poll.wait(narrow(patience.as_millis()), ready).map_err(Fault::System)?;
         let now = Instant::now();
         let is_due = now >= *look;
         // Nothing is served before, so that a target that was stopped notices first what has happened meanwhile.
@@ -175,7 +176,7 @@ impl<'a> Server<'a> {
                 WORK => self.take_work()?,
                 DISK => self.take_blocks()?,
                 JOURNAL => self.take_records()?,
-                name if name <= self.hosts.len() as u64 => self.accept_hosts(name as usize - 1)?,
+                name if name <= to_u64(self.hosts.len()) => self.accept_hosts(to_usize(name) - 1)?,
                 name if self.consoles.contains_key(&name) => self.serve_console(name)?,
                 name => is_idle &= !self.serve(name, *it)?,
             }

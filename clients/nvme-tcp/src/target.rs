@@ -18,6 +18,7 @@ use crate::fabrics::admission::Admission;
 use crate::fabrics::association::{Association, ConnectionId, HostQueue};
 use crate::fault::{Fault, Outcome};
 use crate::journal::Journal;
+use crate::numbers::narrow;
 use crate::nvme::entry::SubmissionEntry;
 use crate::nvme::status::{Status, INACCESSIBLE, SUCCESS};
 use crate::nvme::{DATASET_MANAGEMENT, NAMESPACE_ATTACHMENT};
@@ -344,7 +345,7 @@ impl<'a> Target<'a> {
 
     /// The connection of a queue is gone: the queue ends, and with the admin queue the association.
     pub fn lose(&mut self, queue: &mut HostQueue, closing: Closing) -> Outcome<()> {
-        self.counters.closed[closing as usize] += 1;
+        self.counters.closed[closing.place()] += 1;
         self.log_closed(queue, closing);
         self.end_session(queue, closing.reason())
     }
@@ -381,8 +382,8 @@ impl<'a> Target<'a> {
 
     /// An association ends: its connections are closed, except for this one.
     fn forget_association(&mut self, index: usize, own: Option<ConnectionId>, reason: &str) {
-        let (io, admin) = (self.io_connections(index as u16), self.fabrics.connection(index as u16, 0));
-        self.fabrics.end_association(index as u16);
+        let (io, admin) = (self.io_connections(narrow(index)), self.fabrics.connection(narrow(index), 0));
+        self.fabrics.end_association(narrow(index));
         self.forget_commands(index);
         let lost = io.into_iter().chain([admin]).flatten().filter(|it| Some(*it) != own);
         self.effects.extend(lost.map(Effect::Close));

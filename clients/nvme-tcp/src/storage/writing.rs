@@ -5,6 +5,7 @@ use super::frames::{runs, Extent, FRAME_BYTES};
 use super::jobs::{Done, Job, Writing};
 use super::Storage;
 use crate::fault::Outcome;
+use crate::numbers::{index, to_usize};
 use crate::nvme::BLOCK;
 use nvmesim::Need;
 use std::mem;
@@ -73,17 +74,14 @@ impl Storage {
         }
         let is_before =
             |it: &&mut Zeroing| !it.is_running && it.changed_by == ticket && it.extent.end() == extent.first;
-        match self.zeroing.iter_mut().find(is_before) {
+        if let Some(before) = self.zeroing.iter_mut().find(is_before) {
             // The disk zeroes adjacent pieces of a command together.
-            Some(before) => {
-                before.extent.blocks += extent.blocks;
-                before.tickets.append(&mut tickets);
-            }
-            None => {
-                self.ledger.add(ticket);
-                tickets.push(ticket);
-                self.zeroing.push(Zeroing { extent, changed_by: ticket, tickets, is_running: false });
-            }
+            before.extent.blocks += extent.blocks;
+            before.tickets.append(&mut tickets);
+        } else {
+            self.ledger.add(ticket);
+            tickets.push(ticket);
+            self.zeroing.push(Zeroing { extent, changed_by: ticket, tickets, is_running: false });
         }
     }
 
@@ -131,7 +129,7 @@ impl Storage {
     /// Writes the dirty blocks of frames one after the other.
     fn write(&mut self, places: &[usize], is_alone: bool) -> Outcome<()> {
         let blocks: u32 = places.iter().map(|place| self.cache.at(*place).dirty.count_ones()).sum();
-        let mut writing = Writing::new(blocks as usize * BLOCK as usize);
+        let mut writing = Writing::new(index(blocks) * to_usize(BLOCK));
         for place in places {
             let frame = self.cache.at(*place);
             runs(frame.number, frame.dirty).for_each(|part| writing.put(part, self.cache.bytes(*place, part)));

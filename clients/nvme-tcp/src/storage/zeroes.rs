@@ -3,6 +3,7 @@
 //! whole, or denied whole; unless its queue ends meanwhile.
 
 use super::pending::Issued;
+use super::Storage;
 use crate::fabrics::association::ConnectionId;
 use crate::fault::Outcome;
 use crate::nvme::status::SUCCESS;
@@ -74,7 +75,7 @@ impl Target<'_> {
     /// Whether a command can have a turn now.
     #[inline]
     pub fn has_turn(&self) -> bool {
-        let has_many = || self.storage.as_ref().map_or(false, |it| it.has_many_zeroes());
+        let has_many = || self.storage.as_ref().map_or(false, Storage::has_many_zeroes);
         self.long_zeroes.has_begun() || !self.long_zeroes.list.is_empty() && !has_many()
     }
 
@@ -129,7 +130,7 @@ impl Target<'_> {
     }
 
     fn conclude_zeroes(&mut self, it: &LongZeroing, answer: Answer) {
-        self.storage.iter_mut().for_each(|storage| storage.end_pieces());
+        self.storage.iter_mut().for_each(Storage::end_pieces);
         let Issued { connection, entry, .. } = it.issued;
         if let Some(answer) = self.owe(it.ticket, &it.issued, answer) {
             self.effects.push_back(Effect::Answer(connection, entry, answer));

@@ -3,6 +3,7 @@
 
 use crate::bytes::{u32_at, u64_at};
 use crate::fault::Outcome;
+use crate::numbers::narrow;
 use crate::nvme::entry::SubmissionEntry;
 use crate::nvme::status::{Status, DATA_TRANSFER, OUT_OF_RANGE, SIZE_LIMIT, SUCCESS};
 use crate::nvme::{DATASET_MANAGEMENT, MOST_BLOCKS, WRITE_ZEROES};
@@ -40,7 +41,7 @@ impl Range {
 
     /// The Write Zeroes of it, in the name of a command. One within a namespace has no more blocks than one zeroes.
     pub fn zeroing(self, entry: &SubmissionEntry) -> SubmissionEntry {
-        let nlb = (self.count - 1) as u16;
+        let nlb = narrow(self.count - 1);
         match entry.opcode() {
             WRITE_ZEROES => entry.at_blocks(self.slba, nlb),
             _ => entry.on_blocks(WRITE_ZEROES, self.slba, nlb),
