@@ -104,7 +104,7 @@ CHANGED = (
      "keys.py:1: 'empty text': write empty string"),
     ("clients/python/nvmesim/session.py", '"the session was not started"', '"the session is under way"',
      "session.py:78: 'under way': write in progress"),
-    ("clients/rust/src/lib.rs", '"the bytes are not a whole number of blocks"', '"the bytes are what came of a Read"',
+    ("clients/rust/src/refusal.rs", '"the bytes are not a whole number of blocks"', '"the bytes are what came of a Read"',
      "'what came of': write result"),
     ("clients/nvme-cli/tests/client/support.c", "instead of %#llx", "in place of %#llx", "support.c:23: 'in place of'"),
     ("scripts/clients", "there is no pytest;", "it goes on without pytest;", "clients:30: 'goes on': write continue"),
