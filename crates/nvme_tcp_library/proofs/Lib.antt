@@ -4,3 +4,4 @@ pub mod TransferValues
 pub mod Values
 pub mod Verdicts
 mod CapsulesRead
+pub mod Determined

@@ -2,6 +2,7 @@ pub mod Answers
 pub mod Buffers
 pub mod Capsules
 pub mod Connections
+pub mod Determined
 pub mod Examples
 pub mod Fabrics
 pub mod Holding

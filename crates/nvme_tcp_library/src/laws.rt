@@ -1,5 +1,11 @@
 //! Laws that follow from the definitions. Each is the contract of an empty function.
 
+ghost use Rattle.nvme_tcp_library.specs.Determined.{
+  CapsulesAreDetermined,
+  FabricsAreDetermined,
+  TakingsAreDetermined,
+  TransfersAreDetermined,
+};
 ghost use Rattle.nvme_tcp_library.specs.Laws.{
   DestinationsDiffer,
   LiveSessionsServe,
@@ -29,4 +35,13 @@ fn capsules_differ()
     ensures outcomes { OutcomesDiffer }
     ensures destinations { DestinationsDiffer }
     ensures sessions { LiveSessionsServe }
+{}
+
+/// Each call has one outcome, apart from an opening for which memory is refused.
+#[tactic(auto, using(crate::proofs::Determined::fabrics_are_determined, crate::proofs::Determined::transfers_are_determined, crate::proofs::Determined::capsules_are_determined, crate::proofs::Determined::takings_are_determined))]
+fn calls_are_determined()
+    ensures fabrics { FabricsAreDetermined }
+    ensures transfers { TransfersAreDetermined }
+    ensures capsules { CapsulesAreDetermined }
+    ensures takings { TakingsAreDetermined }
 {}
