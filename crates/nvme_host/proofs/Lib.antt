@@ -6,6 +6,8 @@ pub mod Following
 pub mod Actions
 pub mod Recorded
 pub mod Determined
+pub mod ExportsDetermined
 pub mod RunExamples
+pub mod LawsAtWork
 pub mod Expiring
 pub mod Naming

@@ -3,7 +3,9 @@ pub mod Outcomes
 pub mod Doorbells
 pub mod Calls
 pub mod Determined
+pub mod ExportsDetermined
 pub mod Devices
+pub mod Examples
 pub mod Exports
 pub mod Refusals
 pub mod Health

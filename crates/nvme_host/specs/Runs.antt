@@ -160,6 +160,13 @@ DeliversGivenTicketsOnce =
     → IsIdle old → Uses uses old tickets new
     → (deliveries t tickets ≤ times t tickets.given) × (times t tickets.given ≤ 1)
 
+-- so a ticket that is delivered with the controller's answer is not delivered again
+abbrev pub DeliversNoneAgain : Type 0
+DeliversNoneAgain =
+    (uses : List Use) (tickets : Tickets) (old new : OpenDriver) (t : ℕ) (later : List ℕ)
+    → IsIdle old → Uses uses old tickets new → tickets.done ≡ t ∷ later
+    → (times t later ≡ 0) × (times t tickets.aborted ≡ 0)
+
 -- the number of slots that hold a request with this ticket that was not aborted
 abbrev pub live_bears : ℕ → Option Waiting → ℕ
 live_bears t None = 0

@@ -1,12 +1,24 @@
 //! Worked examples of the definitions. Each is the contract of an empty function, proved by computing.
 
-ghost use Rattle.std.specs.Prelude.{◌≡◌, true, false};
+mod calls;
+mod ports;
+
+ghost use Rattle.std.specs.Prelude.{◌≡◌, ◌++◌, [], ◌∷◌, replicate, true, false};
+ghost use Rattle.nvme_spec.specs.declared.command.Command.TheVariants as command;
+ghost use Rattle.nvme_driver.specs.declared.lane.Lane.TheVariants.{Admin};
+ghost use Rattle.nvme_driver.specs.declared.request.Request.TheVariants.{Flush};
+ghost use Rattle.nvme_driver.specs.Drivers.{new_driver};
+ghost use Rattle.nvme_driver.specs.Polls.{is_new};
 ghost use Rattle.nvme_host.specs.RunExamples.{
   ResetAbortsAFlush,
   WithoutAResetItIsDone,
   WithoutIdlenessNoneGaveIt,
   AFlushExpires,
+  aborted,
 };
+ghost use Rattle.nvme_host.specs.Runs.{Places, Polls, Resets, HasNoReset, IsAborted, no_tickets};
+ghost use Rattle.nvme_host.specs.Snapshots.{IsFirstSeen, next_of};
+ghost use Rattle.nvme_host.specs.Exports.{zeroing};
 ghost use Rattle.nvme_host.specs.Doorbells.{initial_doorbells, repeats_tail, register_at};
 ghost use Rattle.nvme_host.specs.Health.{health};
 
@@ -45,4 +57,20 @@ pub fn tickets_are_delivered()
     ensures reset { WithoutAResetItIsDone }
     ensures idle { WithoutIdlenessNoneGaveIt }
     ensures expiry { AFlushExpires }
+{}
+
+/// What the law on resets says of the first of these runs.
+pub fn a_flush_is_aborted()
+    ensures { IsAborted 7 (record no_tickets { given = 7 ∷ [] }) (record no_tickets { aborted = 7 ∷ [] }) aborted }
+{}
+
+/// The premises of two laws: calls without a reset, and a poll that sees the admin lane (queue pair) first.
+#[tactic(auto, unfolding(nvme_wire::specs::Completion::phase))]
+pub fn premises_hold()
+    ensures no_calls { HasNoReset [] }
+    ensures no_reset { HasNoReset (Places 1 command.Flush (zeroing 0 0) (Flush 1) ∷ Polls ∷ []) }
+    ensures a_reset { HasNoReset (Polls ∷ Resets ∷ []) → ⊥ }
+    ensures new { is_new (new_driver 1).admin (next_of (new_driver 1) Admin (replicate 0x1000 0 ++ replicate 16 1))
+        ≡ true }
+    ensures admin_first { IsFirstSeen (new_driver 1) Admin (replicate 0x1000 0 ++ replicate 16 1) }
 {}

@@ -2,9 +2,11 @@
 
 ghost use Rattle.nvme_host.specs.Actions.{PlacingRecordsItsStores};
 ghost use Rattle.nvme_host.specs.Determined.{CallsAreDetermined, RunsHaveDistinctTickets};
+ghost use Rattle.nvme_host.specs.ExportsDetermined.{ExportsAreDetermined};
 ghost use Rattle.nvme_host.specs.Snapshots.{SnapshotsAreOfOneMoment, PollsAreOfOneMoment};
 ghost use Rattle.nvme_host.specs.Runs.{
   DeliversGivenTicketsOnce,
+  DeliversNoneAgain,
   ResetsAbort,
   ExpiryStopsRequests,
   AnswersNameTheirRequests,
@@ -22,6 +24,11 @@ pub fn moving()
 /// No ticket is delivered twice, and none that no placing gave, whatever C calls, and whatever bytes the device wrote.
 pub fn tickets()
     ensures { DeliversGivenTicketsOnce }
+{}
+
+/// A ticket that was delivered with the controller's answer is not delivered again, with an answer or as aborted.
+pub fn tickets_come_once()
+    ensures { DeliversNoneAgain }
 {}
 
 /// After a reset no answer of the controller has a ticket from before it: that ticket is delivered as aborted.
@@ -44,6 +51,11 @@ pub fn answers()
 pub fn calls()
     ensures determined { CallsAreDetermined }
     ensures distinct { RunsHaveDistinctTickets }
+{}
+
+/// Each export has one outcome, whether a driver is open or not. Opening has two, of which memory decides.
+pub fn exports_are_determined()
+    ensures { ExportsAreDetermined }
 {}
 
 /// A program looks for completions where the driver does, whatever it called before.
