@@ -1,5 +1,5 @@
--- Each export has one outcome, whether a driver is open or not. So what a program sees of a handle is what `Exports`
--- says, and nothing else.
+-- Each export has one outcome, whether a driver is open or not; a poll only if no two aborted requests have one ticket,
+-- and if the data of its answer are in the window.
 use Rattle.std.specs.Prelude.{◌≡◌, ℕ, List, Option, IfSome}
 use Rattle.nvme_driver.specs.declared.request.Request.{Request}
 use Rattle.nvme_host.specs.declared.outcome.Outcome.{Outcome}

@@ -53,7 +53,8 @@ pub fn calls()
     ensures distinct { RunsHaveDistinctTickets }
 {}
 
-/// Each export has one outcome, whether a driver is open or not. Opening has two, of which memory decides.
+/// Each export has one outcome, whether a driver is open or not. Opening has two, of which memory decides. A poll has
+/// one if no two aborted requests have one ticket, and if the data of its answer are in the window.
 pub fn exports_are_determined()
     ensures { ExportsAreDetermined }
 {}

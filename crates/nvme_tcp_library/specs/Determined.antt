@@ -1,5 +1,4 @@
--- Each export has one outcome, apart from an opening for which memory is refused. That it has one is what the contract
--- of its function says.
+-- What C sees of each call is determined, apart from an opening for which memory is refused.
 use Rattle.std.specs.Prelude.{◌≡◌, ◌≢◌, ℕ, Bool, List, Option}
 use Rattle.nvme_wire.specs.declared.status.Status.{Status}
 use Rattle.nvme_capsules.specs.declared.capsule.Capsule.{Capsule}

@@ -37,7 +37,7 @@ fn capsules_differ()
     ensures sessions { LiveSessionsServe }
 {}
 
-/// Each call has one outcome, apart from an opening for which memory is refused.
+/// What C sees of each call is determined, apart from an opening for which memory is refused.
 #[tactic(auto, using(crate::proofs::Determined::fabrics_are_determined, crate::proofs::Determined::transfers_are_determined, crate::proofs::Determined::capsules_are_determined, crate::proofs::Determined::takings_are_determined))]
 fn calls_are_determined()
     ensures fabrics { FabricsAreDetermined }
