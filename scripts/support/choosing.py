@@ -3,6 +3,7 @@ import hashlib
 from dataclasses import dataclass, field
 
 from support import edits, record
+from support.definitions.citing import Sources
 
 
 @dataclass
@@ -24,7 +25,7 @@ class Book:
 
 def read_book(rt, root, crates, logic):
     """Reads every mutant and every record."""
-    book, digests = Book(crates), record.Digests(logic)
+    book, digests = Book(crates), record.Digests(logic, Sources(crates))
     for folder in edits.orphans(root, crates.values()):
         book.faults.append(f"{folder.relative_to(root)}: these are never tried, since there is no crate")
     for name, crate in crates.items():

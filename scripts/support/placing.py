@@ -99,9 +99,9 @@ def joined(lines, copies, edits):
             function, first = edit.function, len(out) + 1
             name = name_of_copy(function, number)
             out += ["", *renamed(own, name.split("::")[-1])]
-            moved = Function(name, first, first + function.body - function.first, len(out) - 1, function.is_seen)
+            moved = Function(name, first, first + function.body - function.first, len(out) - 1)
             found[edit] = Placed(edit, moved, function)
     for edit in (it for it in edits if it not in found):
         it = edit.function
-        found[edit] = Placed(edit, Function(it.name, at_of[it.first], at_of[it.body], at_of[it.last], it.is_seen))
+        found[edit] = Placed(edit, Function(it.name, at_of[it.first], at_of[it.body], at_of[it.last]))
     return "\n".join(out), [found[it] for it in edits]

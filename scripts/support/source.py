@@ -1,13 +1,10 @@
-"""The functions of a formatted source file, by its indentation, and the contracts that other crates can see."""
+"""The functions of a formatted source file, by its indentation."""
 import re
 from dataclasses import dataclass
 
 HEAD = re.compile(r"( *)(pub(?:\([a-z]+\))? )?(?:const )?(?:unsafe )?(?:extern \"C\" )?fn (\w+)")
 IMPL = re.compile(r"(?:unsafe )?impl\b(.*)")
 TRAIT = re.compile(r"(?:pub(?:\([a-z]+\))? )?(?:unsafe )?trait (\w+)")
-
-# The beginnings of lines that do not matter to a contract: comments, imports of code, and advice to the prover.
-UNSEEN = ("//", "use ", "#[tactic", "#![tactic")
 
 
 @dataclass(frozen=True)
@@ -18,7 +15,6 @@ class Function:
     first: int
     body: int
     last: int
-    is_seen: bool
     is_of_trait: bool = False
 
     @property
@@ -109,19 +105,7 @@ def functions_of(text, path):
             is_method = bool(owner.name and head[1])
             name = f"{owner.name}::{head[3]}" if is_method else module_of(path) + head[3]
             is_of_trait = is_method and owner.shows_all
-            is_seen = head[2] == "pub " or is_of_trait
-            found.append(Function(name, top_of(lines, at), body, last, is_seen, is_of_trait))
+            found.append(Function(name, top_of(lines, at), body, last, is_of_trait))
             at = last
         at += 1
     return found
-
-
-def contracts_of(text, path):
-    """The text of a source file without comments and bodies, and without the functions that no other crate sees."""
-    lines = text.split("\n")
-    gone = set()
-    for it in functions_of(text, path):
-        begin = it.body + (lines[it.body].strip() != "{") if it.is_seen else it.first
-        gone |= set(range(begin, it.last + 1)) if it.last > it.body or not it.is_seen else set()
-    kept = [line.rstrip() for at, line in enumerate(lines) if at not in gone]
-    return "\n".join(line for line in kept if line and not line.lstrip().startswith(UNSEEN))

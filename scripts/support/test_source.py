@@ -1,4 +1,4 @@
-"""Tests of what is read of Rattle's text: where functions begin and end, what they are called, and their contracts."""
+"""Tests of what is read of Rattle's text: where functions begin and end, and what they are called."""
 import unittest
 from typing import List, Tuple
 
@@ -97,26 +97,14 @@ class SourceTest(unittest.TestCase):
         self.assertEqual(bodies["draw"], ("ensures { result < 3 };", 1))
         self.assertEqual(bodies["unit"], ("fn unit() {}", 1))
 
-    def test_who_sees_them(self) -> None:
-        seen = {it.word: (it.is_seen, it.is_of_trait) for it in source.functions_of(TEXT, "src/pairs/mod.rt")}
-        self.assertEqual({name for name, (is_seen, _) in seen.items() if is_seen}, {"free", "from", "draw", "twice"})
-        self.assertEqual({name for name, (_, is_of_trait) in seen.items() if is_of_trait}, {"from", "draw", "twice"})
+    def test_methods_of_traits(self) -> None:
+        found = source.functions_of(TEXT, "src/pairs/mod.rt")
+        self.assertEqual({it.word for it in found if it.is_of_trait}, {"from", "draw", "twice"})
 
     def test_modules(self) -> None:
         for path, name in (("src/lib.rt", "one"), ("src/main.rt", "one"), ("src/a.rt", "a::one"),
                            ("src/a/mod.rt", "a::one"), ("src/a/b.rt", "a::b::one")):
             self.assertEqual(named("fn one() {}\n", path)[0][0], name)
-
-    def test_contracts(self) -> None:
-        """A contract stays if a body or a comment changes, and goes if an ensures changes."""
-        before = source.contracts_of(TEXT, "src/pairs.rt")
-        for old, new, is_same in (("            1\n", "            2\n", True), ("/// Free.", "/// Of nothing.", True),
-                                  ("use std::fmt;", "use std::io;", True), ("IsOk result", "IsErr result", False),
-                                  ("self.one\n", "self.two\n", True), ("result ≡ self.new", "result ≡ self.old", True),
-                                  ("result < 3", "result < 4", False), ("fn unit() {}", "fn other() {}", True),
-                                  ("        2\n", "        3\n", True), ("    one: T,", "    two: T,", False)):
-            self.assertIn(old, TEXT)
-            self.assertEqual(source.contracts_of(TEXT.replace(old, new, 1), "src/pairs.rt") == before, is_same, new)
 
     def test_a_function_without_an_end(self) -> None:
         with self.assertRaises((ValueError, StopIteration)):

@@ -7,10 +7,10 @@ rests on, comments and layout left out; if no item is named, of the crate. A lin
 one says nothing.
 crates/NAME/same-definitions lists those that mean the same, each with the reason.
 """
-import re
 from dataclasses import dataclass
 from pathlib import Path
 
+from support.definitions.citing import plain
 from support.definitions.rules import wrong_definitions
 from support.record import digest_of
 
@@ -84,11 +84,6 @@ def wrong_item(text, mutant):
     return mutant.bare[start:len(mutant.bare) - after]
 
 
-def plain(text):
-    """A text without comments and layout."""
-    return " ".join(re.sub(r"(?m)^ *(?:--|//).*$", "", text).split())
-
-
 class Book:
     """The records of one crate."""
 
@@ -100,13 +95,10 @@ class Book:
 
     def digest(self, mutant, crate, item):
         """What a line rests on; nothing if there is no such item any more."""
-        if not item:
-            return digest_of([mutant.path, mutant.text, self.digests.of_crate(self.crates[crate])])[:16]
-        reached, entered = self.sources.basis(item)
-        texts = sorted((it.crate, it.path, it.name, plain(it.head), plain(it.body) if it in entered else "")
-                       for it in reached)
         wrong = plain(wrong_item(self.sources.files[mutant.crate, mutant.path].text, mutant))
-        return digest_of([self.digests.logic, mutant.label, wrong, *texts])[:16]
+        if not item:
+            return digest_of([self.digests.of_crate(self.crates[crate]), mutant.label, wrong])[:16]
+        return digest_of([self.digests.logic, mutant.label, wrong, *self.sources.basis_texts([item])])[:16]
 
     def item_of(self, line):
         """The item that a line names, and whether there is one."""

@@ -15,6 +15,11 @@ DOTTED = re.compile(r"([\w-]+)\.([\w-]+)")
 PATH = re.compile(r"\w+(?:::[\w]+)+")
 
 
+def plain(text):
+    """A text without comments and layout."""
+    return " ".join(re.sub(r"(?m)^ *(?:--|//).*$", "", text).split())
+
+
 class Sources:
     """All files of all crates, and what each item names."""
 
@@ -190,6 +195,17 @@ class Sources:
     @property
     def items(self):
         return [it for file in self.files.values() for it in file.items]
+
+    def function(self, crate, path, function):
+        """The item of a function; nothing if two of its file have its name."""
+        found = [it for it in self.files[crate, path].items if it.kind == "function" and it.name == function.name]
+        return found[0] if len(found) == 1 else None
+
+    def basis_texts(self, items):
+        """The texts of all that these items rest on, comments and layout left out."""
+        reached, entered = (set().union(*them) for them in zip((set(), set()), *map(self.basis, items)))
+        return sorted((it.crate, it.path, it.name, plain(it.head), plain(it.body) if it in entered else "")
+                      for it in reached)
 
     def basis(self, item):
         """All items that an item rests on, and those of them whose bodies it sees."""

@@ -104,7 +104,7 @@ def read_all(root, words):
     if unknown:
         raise BadRecord(f"crates.txt has no crate {unknown[0]}")
     sources = Sources(crates)
-    digests = record.Digests(toolchain.logic())
+    digests = record.Digests(toolchain.logic(), sources)
     books = {it: Book(crates[it], crates, digests, sources) for it in words.names or crates}
     return rt, crates, sources, books
 

@@ -12,6 +12,7 @@ OPENED = re.compile(r"^ *unfolding (.*)$|\bunfold ([^()\n]*?) in\b", re.M)
 ADVICE = re.compile(r"^ *#!?\[tactic\(.*$", re.M)
 TYPE = re.compile(r"^(?:pub(?:\([a-z]+\))? )?(?:unsafe )?(?:struct|enum|trait|const|static|type|union|macro_rules!) (\w+)")
 BLOCK = re.compile(r"^(?:unsafe )?impl\b.*?(\w+)(?:<[^{]*>)?(?: where.*)? \{")
+METHODS = re.compile(r"\s*(?:unsafe )?impl\b(?:(?! for ).)*\{\s*\}\s*")
 OF_TRAIT = re.compile(r"(?:unsafe )?impl\b.*?(\w+)(?:<.*>)? for ")
 CLAUSE = re.compile(r"^ +ensures\*? (?:([\w-]+) )?\{", re.M)
 
@@ -171,3 +172,5 @@ def read_code(file):
         # What is known of a type or a trait is also what its methods promise.
         if owners[it.first] and it.is_of_trait:
             owners[it.first].shown.add(found[0])
+    # A block of methods alone says nothing that its methods don't say.
+    file.items = [it for it in file.items if not (it.kind == "code" and METHODS.fullmatch(it.head))]
