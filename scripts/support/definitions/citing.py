@@ -13,6 +13,7 @@ from support.definitions.items import ADVICE, OPENED, File, folder_of, parts_of,
 WORDS = (re.compile(r"[^\s()\[\]{},;|.:`]+"), re.compile(r"[\w-]+"), re.compile(r"\w+"))
 DOTTED = re.compile(r"([\w-]+)\.([\w-]+)")
 PATH = re.compile(r"\w+(?:::[\w]+)+")
+CALLED = re.compile(r"(\w+)\(\)")
 
 
 def plain(text):
@@ -68,9 +69,11 @@ class Sources:
             self.advice[where] = self.advised(file, "\n".join(it.advice for it in self.around(file)))
         return self.advice[where]
 
-    def code(self, crate, names):
-        """The items of code of a crate, and of those below it, that have one of these names."""
-        return {it for name in names for it in self.code_names.get(name, ()) if it.crate in self.below[crate]}
+    def code(self, crate, names, called=()):
+        """The items of code of a crate, and of those below it, that have one of these names. A law or an example is meant
+        only if it is called."""
+        return {it for name in names for it in self.code_names.get(name, ())
+                if it.crate in self.below[crate] and (name in called or not it.is_law)}
 
     def resolved(self, path, depth=0):
         """What a path may be: the items of that name."""
@@ -160,7 +163,8 @@ class Sources:
         item.inner |= self.named(file, body) - {item}
         if item.kind == "function":
             # A function may have the name of a definition. What it is a method of, it does not name.
-            item.inner |= self.code(file.crate, {*re.findall(r"\w+", body), *(item.owner.names if item.owner else ())})
+            words = {*re.findall(r"\w+", body), *(item.owner.names if item.owner else ())}
+            item.inner |= self.code(file.crate, words, CALLED.findall(body))
             item.inner.discard(item)
         opened = [one or other for one, other in OPENED.findall(f"{head}\n{body}")]
         item.opens |= self.named(file, " ".join(opened))

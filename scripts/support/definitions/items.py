@@ -38,6 +38,8 @@ class Item:
     opens: set = field(default_factory=set)
     # Of a function in a block: the block.
     owner: object = None
+    # Whether it is a law or an example: a function without parameters, and with an empty body.
+    is_law: bool = False
 
     def __repr__(self):
         return f"{self.crate} {self.path} {self.name}"
@@ -134,6 +136,7 @@ def read_function(file, function, lines):
     whole = Item(*where, function.name, "function", *lines_of, seen, f"{advice}\n{body}", False, function, {function.word})
     if not body.strip().endswith("{}"):
         return [whole]
+    whole.is_law = f"fn {function.word}()" in seen
     own = (seen[:seen.find(" ensures")] if " ensures" in seen else seen).replace(f"fn {function.word}", "fn", 1)
     clauses = [Item(*where, f"{function.name}#{name}", "clause", *lines_of, "", f"{own}\n{advice}\n{text}", True, function)
                for name, text in clauses_of(seen)]
