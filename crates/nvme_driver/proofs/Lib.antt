@@ -4,6 +4,7 @@ pub mod PageEntries
 pub mod PageLists
 pub mod SlotPointers
 pub mod Placing
+pub mod HostCommands
 pub mod Risen
 pub mod Once
 pub mod Moving

@@ -1,10 +1,11 @@
--- For `laws.rt` and laws of mailboxes: the entry of a request transfers as many bytes as the request.
+-- For `laws.rt` and laws of mailboxes: the entry of a request transfers as many bytes as the request, at most 131,072.
 use Rattle.std.proofs.Common.{
   ◌≡◌,
   ℕ,
   zero,
   suc,
   ◌-◌,
+  ◌*◌,
   ◌/◌,
   ◌%◌,
   ◌≤◌,
@@ -25,12 +26,13 @@ use Rattle.std.proofs.Common.{
   ⊎_elim,
 }
 use Rattle.std.specs.Prelude.{◌==◌}
-use Rattle.std.proofs.lemmas.Bool.{cases_lt, lt-ltb, ne_eqb}
+use Rattle.std.proofs.lemmas.Bool.{cases_lt, le-ltb, lt-ltb, ne_eqb}
 use Rattle.nvme_wire.specs.declared.sqe.fields.SqeFields.{SqeFields}
 use Rattle.nvme_wire.specs.Submission.{cdw10, cdw12}
 use Rattle.nvme_spec.specs.Limits.{most_bytes}
 use Rattle.nvme_spec.specs.Commands as commands
 use Rattle.nvme_spec.specs.AdminCommands as admin_commands
+use Rattle.nvme_driver.specs.declared.request.Request.{Request}
 use Rattle.nvme_driver.specs.declared.request.Request.TheVariants.{
   Read,
   Write,
@@ -47,7 +49,7 @@ use Rattle.nvme_driver.specs.declared.request.Request.TheVariants.{
   Attach,
   Detach,
 }
-use Rattle.nvme_driver.specs.Requests.{are_whole_blocks}
+use Rattle.nvme_driver.specs.Requests.{are_whole_blocks, asked_of, is_bad}
 use Rattle.nvme_driver.specs.Drivers.{EntriesMoveTheirData}
 
 -- a count that is not refused
@@ -141,3 +143,22 @@ entries_move_their_data (Attach nsid list) slot e good h =
     ap (λ (f : SqeFields). admin_commands.data_length_of (admin_commands.command_of f.opcode) e) h
 entries_move_their_data (Detach nsid list) slot e good h =
     ap (λ (f : SqeFields). admin_commands.data_length_of (admin_commands.command_of f.opcode) e) h
+
+-- a request that is not refused transfers at most 131,072 bytes
+pub moves-few : (request : Request) → is_bad request ≡ false → nat_lt most_bytes (asked_of request).moved ≡ false
+moves-few (Read nsid slba blocks) good =
+    let w = within blocks 256 good in le-ltb most_bytes (512 * blocks) (omega (arith, w.1))
+moves-few (Write nsid slba bytes) good = le-ltb most_bytes (length bytes.now) (whole bytes.now good).most
+moves-few (Compare nsid slba bytes) good = le-ltb most_bytes (length bytes.now) (whole bytes.now good).most
+moves-few (Report nsid dwords) good =
+    let w = within dwords 32768 good in le-ltb most_bytes (4 * dwords) (omega (arith, w.1))
+moves-few (WriteZeroes nsid slba blocks) good = refl
+moves-few (Flush nsid) good = refl
+moves-few (Register nsid action iekey cptpl crkey nrkey) good = refl
+moves-few (Acquire nsid action rtype crkey prkey) good = refl
+moves-few (Release nsid action rtype crkey) good = refl
+moves-few (Identify cns nsid) good = refl
+moves-few (Protect nsid state) good = refl
+moves-few (Protection nsid) good = refl
+moves-few (Attach nsid list) good = refl
+moves-few (Detach nsid list) good = refl

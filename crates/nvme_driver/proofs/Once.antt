@@ -40,7 +40,6 @@ use Rattle.nvme_driver.specs.declared.lane.Lane.TheVariants.{Admin, Io}
 use Rattle.nvme_driver.specs.declared.found.Found.{Found}
 use Rattle.nvme_driver.specs.declared.slots.Waiting.{Waiting}
 use Rattle.nvme_driver.specs.declared.ticket.Ticket.{Ticket}
-use Rattle.nvme_driver.specs.declared.request.Request.{Request}
 use Rattle.nvme_driver.specs.declared.faults.PollFault.TheVariants.{NotUp}
 use Rattle.nvme_driver.specs.Layout.{queue_id}
 use Rattle.nvme_driver.specs.Drivers.{
@@ -48,15 +47,14 @@ use Rattle.nvme_driver.specs.Drivers.{
   Ends,
   new_driver,
   free_slot,
-  placed,
   abort,
   with_ends,
-  waiting_of,
   is_up,
   ends,
   put_ends,
-  lane_of,
 }
+use Rattle.nvme_driver.specs.HostCommands.{placed_command, waiting_command}
+use Rattle.nvme_driver.specs.Requests.{Asked, asked_of}
 use Rattle.nvme_driver.specs.Polls.{
   Poll,
   waiting_at,
@@ -77,6 +75,7 @@ use Rattle.nvme_driver.specs.Polls.{
 use Rattle.nvme_driver.specs.Once.{
   Event,
   Places,
+  PlacesCommand,
   Polls,
   Resets,
   Stays,
@@ -255,22 +254,25 @@ next-given t n =
     (λ (above : n ≤ t). next-above t n above)
     (cases_lt t n)
 
-places : (t : ℕ) (d : Driver) (request : Request) (slot : ℕ)
-    → free_slot d ≡ Some slot → left t (placed d request slot) ≡ left t d
-places t d request slot e =
+places : (t : ℕ) (d : Driver) (asked : Asked) (slot : ℕ)
+    → free_slot d ≡ Some slot → left t (placed_command d asked slot) ≡ left t d
+places t d asked slot e =
     let free = first-free d.slots slot e in
-    let w : Waiting = waiting_of d request in
+    let w : Waiting = waiting_command d asked in
     let mid : Driver = record d { next = d.next + 1; slots = slice_set d.slots slot (Some w) } in
     let k = put-in t d.slots slot w free.0 free.1 in
-    let s = ap (borne t) (slots-kept (lane_of request) (put_ends (ends (lane_of request) d)) mid) in
-    let n = ap (ungiven t) (next-kept (lane_of request) (put_ends (ends (lane_of request) d)) mid) in
+    let s = ap (borne t) (slots-kept asked.command.lane (put_ends (ends asked.command.lane d)) mid) in
+    let n = ap (ungiven t) (next-kept asked.command.lane (put_ends (ends asked.command.lane d)) mid) in
     let g = next-given t d.next in
     omega (arith, k, s, n, g)
 
 pub step : (t : ℕ) (event : Event) (d d' : Driver)
     → Happens event d d' → times t (handed event d) + left t d' ≡ left t d
 step t (Places request slot) d d' h =
-    let k : left t d' ≡ left t d = ap (left t) h.1 ∙ places t d request slot h.0 in
+    let k : left t d' ≡ left t d = ap (left t) h.1 ∙ places t d (asked_of request) slot h.0 in
+    omega (arith, k)
+step t (PlacesCommand asked slot) d d' h =
+    let k : left t d' ≡ left t d = ap (left t) h.1 ∙ places t d asked slot h.0 in
     omega (arith, k)
 step t (Polls oldest window) d d' h =
     let k = (hands t d oldest window h.0).count in

@@ -12,6 +12,7 @@ pub mod Layout
 pub mod Pointers
 pub mod Tickets
 pub mod Drivers
+pub mod HostCommands
 pub mod Polls
 pub mod Rises
 pub mod Once

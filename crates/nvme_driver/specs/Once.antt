@@ -24,18 +24,22 @@ use Rattle.nvme_driver.specs.declared.answer.Answer.{Answer}
 use Rattle.nvme_driver.specs.declared.answer.Answer.TheVariants.{Done, Aborted}
 use Rattle.nvme_driver.specs.declared.faults.PollFault.{PollFault}
 use Rattle.nvme_driver.specs.Drivers.{Driver, new_driver, free_slot, placed, after_reset}
+use Rattle.nvme_driver.specs.HostCommands.{placed_command}
 use Rattle.nvme_driver.specs.Polls.{IsOldest, polled}
+use Rattle.nvme_driver.specs.Requests.{Asked}
 
--- The effect of a call on the requests: a request is placed in a slot; a poll of a window, with this oldest aborted
--- request; a reset; or no effect, like that of a ring, a bring-up or a refusal.
+-- The effect of a call on the requests: a request, or a command, is placed in a slot; a poll of a window, with this
+-- oldest aborted request; a reset; or no effect, like that of a ring, a bring-up or a refusal.
 pub data Event : Type 0 where
   Places : Request → ℕ → Event
+  PlacesCommand : Asked → ℕ → Event
   Polls : Option ℕ → List ℕ → Event
   Resets : Event
   Stays : Event
 
 abbrev pub Happens : Event → Driver → Driver → Type 0
 Happens (Places request slot) d d' = (free_slot d ≡ Some slot) × (d' ≡ placed d request slot)
+Happens (PlacesCommand asked slot) d d' = (free_slot d ≡ Some slot) × (d' ≡ placed_command d asked slot)
 Happens (Polls oldest window) d d' = IsOldest d.slots oldest × (d' ≡ (polled d oldest window).driver)
 Happens Resets d d' = d' ≡ after_reset d
 Happens Stays d d' = (d'.slots ≡ d.slots) × (d'.next ≡ d.next)
@@ -49,6 +53,7 @@ handed_by (Err fault) = []
 
 abbrev pub handed : Event → Driver → List ℕ
 handed (Places request slot) d = []
+handed (PlacesCommand asked slot) d = []
 handed (Polls oldest window) d = handed_by (polled d oldest window).answer
 handed Resets d = []
 handed Stays d = []

@@ -26,6 +26,7 @@ use std::marker::Model;
 
 mod bring_up;
 mod place;
+mod place_command;
 mod poll;
 
 /// A host's driver: it places requests in a window that it shares with a controller, and delivers the answer to each

@@ -11,6 +11,7 @@ ghost use Rattle.nvme_driver.specs.Pointers.{
 };
 ghost use Rattle.nvme_driver.specs.Once.{HandsUpOutstanding, HandsUpOnce};
 ghost use Rattle.nvme_driver.specs.Drivers.{EntriesMoveTheirData};
+ghost use Rattle.nvme_driver.specs.HostCommands.{RequestsAreCommands};
 
 /// The parts of the window: each is in it, no two have a common byte, and entries are in their queue's page.
 #[tactic(auto, using(crate::proofs::Areas::areas_lie_in_window, crate::proofs::Areas::areas_are_apart, crate::proofs::Areas::entries_lie_in_their_pages))]
@@ -46,4 +47,10 @@ pub fn tickets()
 #[tactic(auto, using(crate::proofs::Moving::entries_move_their_data))]
 pub fn data()
     ensures { EntriesMoveTheirData }
+{}
+
+/// Placing a request is placing its command.
+#[tactic(auto, using(crate::proofs::HostCommands::requests_are_commands))]
+pub fn requests()
+    ensures { RequestsAreCommands }
 {}

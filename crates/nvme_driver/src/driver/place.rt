@@ -32,7 +32,7 @@ use crate::ticket::Ticket;
 use nvme_wire::{Sqe, SqeFields};
 
 /// PRP Entry 1 of a request in a slot that transfers `moved` bytes: the slot's data, if there are any.
-fn first_entry(slot: usize, moved: usize) -> u64
+pub fn first_entry(slot: usize, moved: usize) -> u64
     requires { slot < slot_count }
     ensures { result ≡ spec_first_entry slot moved }
 {
@@ -40,7 +40,7 @@ fn first_entry(slot: usize, moved: usize) -> u64
 }
 
 /// PRP Entry 2: nothing, the second page of its data, or the list of its pages.
-fn second_entry(slot: usize, moved: usize) -> u64
+pub fn second_entry(slot: usize, moved: usize) -> u64
     requires { slot < slot_count }
     ensures { result ≡ spec_second_entry slot moved }
 {
