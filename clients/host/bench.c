@@ -4,7 +4,6 @@
 #include <string.h>
 #include <time.h>
 
-enum { EACH_SECONDS = 30 };
 static const uint64_t second = 1000000000;
 
 static uint64_t now(void)
@@ -67,6 +66,15 @@ static uint64_t take(struct waiting *w, uint64_t ticket)
     return 0;
 }
 
+/* The ticket that waits for the longest time, of one or more. */
+static uint64_t oldest(const struct waiting *w)
+{
+    uint32_t found = 0;
+    for (uint32_t i = 1; i < w->count; i++)
+        found = w->sent[i] < w->sent[found] ? i : found;
+    return w->ticket[found];
+}
+
 /* Places requests up to the depth, as long as there is room: NVMEHOST_OK, or why one was refused. */
 static uint32_t place(struct port *p, const struct bench *b, struct waiting *w, uint64_t *random, const uint8_t *data)
 {
@@ -112,12 +120,14 @@ uint32_t bench_run(struct port *p, const struct bench *b, struct bench_result *r
         } else if (outcome->code != NVMEHOST_NOTHING) {
             return outcome->code;
         } else if (time - looked > second / 1000) {
-            looked = time;
-            what = time - heard > EACH_SECONDS * second ? NVMEHOST_EXPIRED : port_health(p);
+            looked = time, outcome->ticket = oldest(&w);
+            what = port_health(p);
             if (what != NVMEHOST_OK) {
-                nvmehost_expire(&p->host, w.ticket[0]);
+                nvmehost_expire(&p->host, outcome->ticket);
                 return what;
             }
+            if (time - heard > b->timeout_ms * (second / 1000))
+                return NVMEHOST_NOTHING;
         } else if (p->turn) {
             p->turn(p->turned);
         }

@@ -68,7 +68,8 @@ enum {
     NVMEHOST_TOO_LONG = 62,             /* MDTS */
     NVMEHOST_PAST_THE_END = 63,         /* NSZE */
     NVMEHOST_NSID_TOO_HIGH = 64,        /* above NVMEHOST_HIGHEST_NSID */
-    NVMEHOST_EXPIRED = 65               /* the time of a request is over: nvmehost_reset first */
+    NVMEHOST_EXPIRED = 65,              /* the time of a request is over: nvmehost_reset first */
+    NVMEHOST_NO_HOST_IDENTIFIER = 66    /* nvmehost_set_host_identifier has to be answered with success first */
 };
 
 /* The highest namespace identifier that can be asked. */
@@ -132,6 +133,23 @@ struct nvmehost_namespace {
     uint32_t code;
 };
 
+/* An event that a controller reports: double word 0 of the answer to nvmehost_await_event. */
+struct nvmehost_event {
+    uint32_t kind;
+    uint8_t type, info, log_page;       /* the fields of the standard: nvmehost_log of log_page clears the event */
+};
+
+/* Kinds of events. */
+enum {
+    NVMEHOST_EVENT_OTHER = 0,           /* type and info say which */
+    NVMEHOST_EVENT_ERROR = 1,           /* Error Status */
+    NVMEHOST_EVENT_HEALTH = 2,          /* SMART / Health Status */
+    NVMEHOST_EVENT_NAMESPACES = 3,      /* Namespace Attribute Changed: ask the namespaces again */
+    NVMEHOST_EVENT_FIRMWARE = 4,        /* Firmware Activation Starting */
+    NVMEHOST_EVENT_RESERVATION = 5,     /* Reservation Log Page Available: log page 80h */
+    NVMEHOST_EVENT_SANITIZE = 6         /* Sanitize Operation Completed */
+};
+
 /* A life: open, capabilities, reset, status until it is OK, bring_up, ask 0 and each namespace; then requests. After a
  * fault: reset, status until it is OK, bring_up. If that status never comes, the controller may still write to the
  * window: unmap it, and close. */
@@ -164,6 +182,28 @@ struct nvmehost_placed nvmehost_compare(struct nvmehost *host, uint32_t nsid, ui
                                         size_t len);
 struct nvmehost_placed nvmehost_write_zeroes(struct nvmehost *host, uint32_t nsid, uint64_t slba, uint32_t blocks);
 struct nvmehost_placed nvmehost_flush(struct nvmehost *host, uint32_t nsid);
+
+/* Reservations. They need the identifier of this host, which the controller forgets at each reset. A host that was
+ * preempted learns of it by an event. Of 0 to 7, action is RREGA, RACQA or RRELA. */
+struct nvmehost_placed nvmehost_set_host_identifier(struct nvmehost *host, const uint8_t identifier[16]);
+struct nvmehost_placed nvmehost_register(struct nvmehost *host, uint32_t nsid, uint8_t action, bool iekey, uint8_t cptpl,
+                                         uint64_t crkey, uint64_t nrkey);
+struct nvmehost_placed nvmehost_acquire(struct nvmehost *host, uint32_t nsid, uint8_t action, uint8_t rtype,
+                                        uint64_t crkey, uint64_t prkey);
+struct nvmehost_placed nvmehost_release(struct nvmehost *host, uint32_t nsid, uint8_t action, uint8_t rtype,
+                                        uint64_t crkey);
+struct nvmehost_placed nvmehost_report(struct nvmehost *host, uint32_t nsid, uint32_t dwords);
+
+/* The answer to nvmehost_await_event comes once the controller has an event to report. nvmehost_log reads dwords double
+ * words of a log page, 1 to 32768; the event stays reported if it is retained. */
+struct nvmehost_placed nvmehost_await_event(struct nvmehost *host);
+struct nvmehost_event nvmehost_event(uint32_t dw0);
+struct nvmehost_placed nvmehost_log(struct nvmehost *host, uint32_t nsid, uint8_t lid, bool retain, uint32_t dwords);
+
+/* Asks the controller to abort the request with this ticket. The answer has a ticket of its own, and bit 0 of its double
+ * word 0 is 0 if the request was aborted: the request is then answered with status 0:07. */
+struct nvmehost_placed nvmehost_abort(struct nvmehost *host, uint64_t ticket);
+
 uint32_t nvmehost_ring(struct nvmehost *host);
 struct nvmehost_outcome nvmehost_poll(struct nvmehost *host, uint8_t *buffer, size_t len);
 

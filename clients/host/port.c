@@ -62,7 +62,7 @@ void port_perform(struct port *p)
     for (size_t i = 0; i < count; i++) {
         if (actions[i].kind == NVMEHOST_WRITE)
             write32(p, actions[i].at, actions[i].value);
-        else
+        else if (actions[i].len != 0)
             store(p, actions[i].at, actions[i].len);
     }
 }
@@ -172,7 +172,7 @@ uint32_t port_health(struct port *p)
     return nvmehost_health(port_read32(p, CSTS));
 }
 
-struct nvmehost_outcome port_answer(struct port *p, struct nvmehost_placed placed, unsigned timeout_ms)
+struct nvmehost_outcome port_wait(struct port *p, struct nvmehost_placed placed, unsigned timeout_ms)
 {
     struct nvmehost_outcome outcome = { 0, 0, 0, placed.code, 0, 0 };
     uint64_t begun = now_ms(), time = begun;
@@ -190,14 +190,25 @@ struct nvmehost_outcome port_answer(struct port *p, struct nvmehost_placed place
         /* The status is read once a millisecond, since that takes a device a microsecond. */
         if (outcome.code == NVMEHOST_NOTHING && now_ms() != time)
             time = now_ms(), health = port_health(p);
-        if (health != NVMEHOST_OK || (outcome.code == NVMEHOST_NOTHING && time - begun >= timeout_ms))
+        bool is_over = timeout_ms != PORT_FOREVER && time - begun >= timeout_ms;
+        if (health != NVMEHOST_OK || (outcome.code == NVMEHOST_NOTHING && is_over))
             break;
         if (outcome.code == NVMEHOST_NOTHING)
             give_turn(p);
     }
-    bool is_over = nvmehost_expire(&p->host, placed.ticket) == NVMEHOST_OK;
-    outcome.code = health != NVMEHOST_OK ? health : is_over ? NVMEHOST_EXPIRED : NVMEHOST_NOTHING;
     outcome.ticket = placed.ticket;
+    if (health != NVMEHOST_OK) {
+        nvmehost_expire(&p->host, placed.ticket);
+        outcome.code = health;
+    }
+    return outcome;
+}
+
+struct nvmehost_outcome port_answer(struct port *p, struct nvmehost_placed placed, unsigned timeout_ms)
+{
+    struct nvmehost_outcome outcome = port_wait(p, placed, timeout_ms);
+    if (outcome.code == NVMEHOST_NOTHING && nvmehost_expire(&p->host, placed.ticket) == NVMEHOST_OK)
+        outcome.code = NVMEHOST_EXPIRED;
     return outcome;
 }
 
@@ -223,7 +234,7 @@ const char *port_name(uint32_t what)
         "its blocks have metadata (MS, DPS)", "the controller was not asked", "the namespace was not asked",
         "the controller does not support the command (ONCS)", "the request is longer than MDTS allows",
         "blocks after the last one of the namespace (NSZE)", "namespaces above 64 are not supported",
-        "the controller did not answer in time: reset it"
+        "the controller did not answer in time: reset it", "the controller does not have the identifier of this host"
     };
     if (what < sizeof low / sizeof *low)
         return low[what];

@@ -5,6 +5,11 @@
 
 #include "nvmehost.h"
 
+#include <limits.h>
+
+/* No time limit. */
+#define PORT_FOREVER UINT_MAX
+
 struct port {
     struct nvmehost host;
     volatile uint8_t *memory;    /* NVMEHOST_WINDOW bytes, which the device reaches from address 0 */
@@ -29,8 +34,11 @@ void port_ring(struct port *p);
 struct nvmehost_outcome port_poll(struct port *p);
 /* Whether the controller is still up: NVMEHOST_OK, or the fault. */
 uint32_t port_health(struct port *p);
-/* Sends a placed request, and waits for its answer; others are delivered to nobody. If the time is over, the request
- * expires: NVMEHOST_EXPIRED. If the controller is not up any more, it does too, and the code is the fault. */
+/* Sends a placed request, and waits for its answer; others are delivered to nobody. If the time is over, the code is
+ * NVMEHOST_NOTHING, and the request still waits. If the controller is not up any more, the request expires, and the code
+ * is the fault. */
+struct nvmehost_outcome port_wait(struct port *p, struct nvmehost_placed placed, unsigned timeout_ms);
+/* The same, but if the time is over, the request expires too: NVMEHOST_EXPIRED. */
 struct nvmehost_outcome port_answer(struct port *p, struct nvmehost_placed placed, unsigned timeout_ms);
 uint32_t port_read32(struct port *p, uint64_t offset);
 /* The name of a result, for messages. */

@@ -1,53 +1,6 @@
 /* The port over a controller in memory that does as the standard asks, and over controllers that differ in one thing,
  * each of which is refused by name before anything is sent to its blocks. Prints nothing if all is as expected. */
-#include "../port.h"
-#include "device.h"
-
-#include <stdio.h>
-#include <stdlib.h>
-#include <string.h>
-
-static struct device device;
-static struct port p;
-static int failed;
-
-#define EXPECT(what) ((what) ? (void)0 : (void)(failed++, printf("%s:%d: not so: %s\n", __FILE__, __LINE__, #what)))
-#define EXPECT_IS(what, wanted) expect_is(__LINE__, #what, what, wanted)
-
-static void expect_is(int line, const char *text, uint32_t what, uint32_t wanted)
-{
-    if (what != wanted) {
-        failed++;
-        printf("%s:%d: %s: %s, not %s\n", __FILE__, line, text, port_name(what), port_name(wanted));
-    }
-}
-
-/* A new controller and a closed driver. */
-static void begin(void)
-{
-    nvmehost_close(&p.host);
-    memset((void *)p.memory, 0, NVMEHOST_WINDOW);
-    memset((void *)p.registers, 0, DEVICE_REGISTERS);
-    device_reset(&device, p.memory, p.registers);
-    EXPECT_IS(nvmehost_open(&p.host, 1), NVMEHOST_OK);
-}
-
-static uint32_t start(void)
-{
-    struct nvmehost_outcome outcome;
-    device_turn(&device);
-    return port_start(&p, &outcome);
-}
-
-static struct nvmehost_outcome answer(struct nvmehost_placed placed)
-{
-    return port_answer(&p, placed, 1000);
-}
-
-static uint32_t ask(uint32_t nsid)
-{
-    return answer(nvmehost_ask(&p.host, nsid)).code;
-}
+#include "trial.h"
 
 static void transfers(void)
 {
@@ -146,13 +99,6 @@ static void good(void)
     transfers();
     refusals();
     resets();
-}
-
-static void open_namespace(void)
-{
-    EXPECT_IS(start(), NVMEHOST_OK);
-    EXPECT_IS(ask(0), NVMEHOST_DONE);
-    EXPECT_IS(ask(1), NVMEHOST_DONE);
 }
 
 /* A Read that is not answered in time: nothing is sent before a reset. */
@@ -302,9 +248,7 @@ static void asked(void)
 
 int main(void)
 {
-    p.memory = aligned_alloc(4096, NVMEHOST_WINDOW), p.registers = aligned_alloc(4096, DEVICE_REGISTERS);
-    p.registers_len = DEVICE_REGISTERS, p.buffer = malloc(NVMEHOST_BUFFER), p.copy = malloc(NVMEHOST_BUFFER);
-    p.turn = device_turn, p.turned = &device;
+    trial_begin();
     EXPECT_IS(nvmehost_ring(&p.host), NVMEHOST_CLOSED);
     good();
     expires();
@@ -312,7 +256,5 @@ int main(void)
     strides();
     unfit();
     asked();
-    nvmehost_close(&p.host);
-    free((void *)p.memory), free((void *)p.registers), free(p.buffer), free(p.copy);
-    return failed != 0;
+    return trial_end();
 }

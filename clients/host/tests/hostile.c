@@ -1,6 +1,7 @@
 /* A device that writes anything at any moment: a thread of its own fills the completion queues and the data with
  * random bytes, and with completions that look right, while requests are placed and polled. Each ticket must be
- * delivered at most once, none that was not given, and none from before a reset as an answer. usage: hostile TICKETS SEED */
+ * delivered at most once, none that was not given, and none from before a reset as an answer. An event has a known kind,
+ * whatever the answer says. Each call has to place a request at times. usage: hostile TICKETS SEED */
 #include "../port.h"
 #include "device.h"
 
@@ -18,7 +19,7 @@ static atomic_ullong written;
 /* What was given and delivered: the last ticket, the first one after the last reset, and a flag for each. */
 static uint8_t *handed;
 static uint64_t given, most, since_reset = 1;
-static uint64_t done, aborted, twice, strangers, stale, unknown, resets;
+static uint64_t done, aborted, twice, strangers, stale, unknown, resets, nameless;
 
 static uint32_t next_random(uint64_t *state)
 {
@@ -59,6 +60,7 @@ static bool count(const struct nvmehost_outcome *outcome)
         return false;
     bool is_done = outcome->code == NVMEHOST_DONE;
     done += is_done, aborted += !is_done;
+    nameless += nvmehost_event(outcome->dw0).kind > NVMEHOST_EVENT_SANITIZE;
     if (outcome->ticket == 0 || outcome->ticket > given) {
         strangers++;
         return true;
@@ -91,24 +93,78 @@ static void start_again(void)
         for (outcome = port_poll(&p); count(&outcome); outcome = port_poll(&p))
             ;
     } while (outcome.code != NVMEHOST_NOTHING);
-    for (uint32_t nsid = 0; nsid < 2; nsid++)
+    /* The driver learns from the answer to its last question alone. */
+    for (uint32_t nsid = 0; nsid < 2; nsid++) {
         note(nvmehost_ask(&p.host, nsid));
-    port_ring(&p);
-    device_turn(&device);
+        port_ring(&p);
+        device_turn(&device);
+        for (outcome = port_poll(&p); count(&outcome); outcome = port_poll(&p))
+            ;
+    }
     may_write = true;
 }
 
+/* The calls that place a request, and which of them one was placed by. */
+enum { IDENTIFY, FLUSH, READ, SET_HOST_IDENTIFIER, REGISTER, ACQUIRE, RELEASE, REPORT, AWAIT_EVENT, LOG, ABORT, CALLS };
+static uint32_t placed_by;
+
+/* One of the calls on reservations, events and log pages, with arguments that are often right, or an Abort of a ticket
+ * that was given lately, or will be. */
+static struct nvmehost_placed place_other(uint64_t *state, uint32_t call)
+{
+    static const uint8_t identifier[16] = { 1 };
+    uint64_t key = next_random(state) % 2;
+    uint32_t nsid = next_random(state) % 16 != 0, dwords = next_random(state) % (next_random(state) % 8 ? 64 : 33000);
+    uint8_t action = (uint8_t)(next_random(state) % 9), rtype = (uint8_t)(next_random(state) % 8);
+    switch (call) {
+    case SET_HOST_IDENTIFIER:
+        return nvmehost_set_host_identifier(&p.host, identifier);
+    case REGISTER:
+        return nvmehost_register(&p.host, nsid, action, key, rtype % 5, key, key);
+    case ACQUIRE:
+        return nvmehost_acquire(&p.host, nsid, action, rtype, key, key);
+    case RELEASE:
+        return nvmehost_release(&p.host, nsid, action, rtype, key);
+    case REPORT:
+        return nvmehost_report(&p.host, nsid, dwords);
+    case AWAIT_EVENT:
+        return nvmehost_await_event(&p.host);
+    case LOG:
+        return nvmehost_log(&p.host, nsid, (uint8_t)(rtype * 32), key, dwords);
+    default:
+        return nvmehost_abort(&p.host, given + 2 - next_random(state) % 24);
+    }
+}
+
+static struct nvmehost_placed place_one(uint64_t *state, uint32_t call)
+{
+    switch (call) {
+    case IDENTIFY:
+        return nvmehost_identify(&p.host, 1, 0);
+    case FLUSH:
+        return nvmehost_flush(&p.host, 1);
+    case READ:
+        return nvmehost_read(&p.host, 1, next_random(state) % 1024, 1 + next_random(state) % 32);
+    default:
+        return place_other(state, call);
+    }
+}
+
+/* Places up to four requests, half of them Reads. The device may hold Reads back, and have an event. */
 static void place_some(uint64_t *state)
 {
     for (uint32_t i = next_random(state) % 5; i > 0 && given < most; i--) {
-        uint32_t kind = next_random(state) % 4;
-        if (kind == 0)
-            note(nvmehost_identify(&p.host, 1, 0));
-        else if (kind == 1)
-            note(nvmehost_flush(&p.host, 1));
-        else
-            note(nvmehost_read(&p.host, 1, next_random(state) % 1024, 1 + next_random(state) % 32));
+        uint32_t call = next_random(state) % (2 * CALLS);
+        call = call < CALLS ? call : READ;
+        struct nvmehost_placed placed = place_one(state, call);
+        placed_by |= (uint32_t)(placed.code == NVMEHOST_OK) << call;
+        note(placed);
     }
+    if (next_random(state) % 64 == 0)
+        device_raise(&device, DEVICE_PREEMPTED);
+    device.is_holding = next_random(state) % 8 == 0, device.held_opcode = 2;
+    if (next_random(state) % 16 == 0)
+        device_release(&device);
     if (next_random(state) % 4)
         port_ring(&p);
     if (next_random(state) % 2)
@@ -158,5 +214,8 @@ int main(int words, char **word)
            (unsigned long long)given, (unsigned long long)done, (unsigned long long)aborted, (unsigned long long)twice,
            (unsigned long long)strangers, (unsigned long long)stale, (unsigned long long)written,
            (unsigned long long)unknown, (unsigned long long)resets);
-    return twice || strangers || stale || done + aborted != given || unknown == 0;
+    bool is_idle = placed_by != (1u << CALLS) - 1;
+    if (is_idle)
+        printf("some calls placed nothing: %x\n", placed_by);
+    return is_idle || twice || strangers || stale || nameless || done + aborted != given || unknown == 0;
 }

@@ -1,5 +1,8 @@
-/* Replaces vfio.c in tests of the program: the controller of device.c. Its blocks stay in the file `blocks` of the current
- * folder. */
+/* Replaces vfio.c in tests of the program: the controller of device.c. Its blocks and its reservation stay in files of
+ * the current folder. Variables of the environment make it differ:
+ * EVENT: there is an event, with this double word 0; HOLD: I/O commands with this opcode are held back, until the
+ * controller is asked to abort one; HOLD_LATE: that Abort aborts none, and what is held back is executed then;
+ * HOLD_FOREVER: that Abort aborts none. */
 #include "../vfio.h"
 #include "device.h"
 
@@ -9,6 +12,34 @@
 
 static struct device device;
 
+/* Reads what is kept in a file, if it is there. */
+static void restore(const char *name, void *bytes, size_t len)
+{
+    FILE *file = fopen(name, "rb");
+    if (file && fread(bytes, 1, len, file) != len)
+        abort();
+    if (file)
+        fclose(file);
+}
+
+static void keep(const char *name, const void *bytes, size_t len)
+{
+    FILE *file = fopen(name, "wb");
+    if (!file || fwrite(bytes, 1, len, file) != len || fclose(file))
+        abort();
+}
+
+static void read_environment(void)
+{
+    const char *event = getenv("EVENT"), *hold = getenv("HOLD");
+    if (event)
+        device_raise(&device, (uint32_t)strtoul(event, NULL, 0));
+    if (hold)
+        device.is_holding = true, device.held_opcode = (uint8_t)strtoul(hold, NULL, 0);
+    device.aborts_nothing = getenv("HOLD_LATE") || getenv("HOLD_FOREVER");
+    device.aborting_releases = getenv("HOLD_LATE");
+}
+
 int vfio_open(struct vfio *v, const char *address, struct port *p)
 {
     (void)address;
@@ -17,12 +48,9 @@ int vfio_open(struct vfio *v, const char *address, struct port *p)
         abort();
     memset(v->memory, 0, NVMEHOST_WINDOW), memset(v->registers, 0, DEVICE_REGISTERS);
     device_reset(&device, v->memory, v->registers);
-    FILE *blocks = fopen("blocks", "rb");
-    if (blocks) {
-        if (fread(device.blocks, 1, sizeof device.blocks, blocks) != sizeof device.blocks)
-            abort();
-        fclose(blocks);
-    }
+    restore("blocks", device.blocks, sizeof device.blocks);
+    restore("reservation", &device.reservation, sizeof device.reservation);
+    read_environment();
     p->memory = v->memory, p->registers = v->registers, p->registers_len = DEVICE_REGISTERS;
     p->turn = device_turn, p->turned = &device;
     device_turn(&device);
@@ -31,10 +59,11 @@ int vfio_open(struct vfio *v, const char *address, struct port *p)
 
 void vfio_close(struct vfio *v)
 {
-    FILE *blocks = v->memory ? fopen("blocks", "wb") : NULL;
-    if (blocks && fwrite(device.blocks, 1, sizeof device.blocks, blocks) != sizeof device.blocks)
-        abort();
-    if (blocks)
-        fclose(blocks);
+    if (v->memory) {
+        keep("blocks", device.blocks, sizeof device.blocks);
+        keep("reservation", &device.reservation, sizeof device.reservation);
+    }
+    if (device.reported != 0)
+        fputs("the log page of an event was not read\n", stderr);
     free(v->memory), free(v->registers);
 }

@@ -58,12 +58,12 @@ use Rattle.nvme_driver.specs.Drivers.{
   abort,
   ends,
   is_up,
-  lane_of,
   place_refusal,
   put_ends,
-  waiting_of,
   with_ends,
 }
+use Rattle.nvme_driver.specs.HostCommands.{IsCommandPlaced, command_refusal, waiting_command}
+use Rattle.nvme_driver.specs.Requests.{Asked, asked_of}
 use Rattle.nvme_driver.specs.Polls.{
   answered,
   answered_poll,
@@ -172,18 +172,18 @@ live-bound t w = bound (w.ticket.0 == t) w.live
     bound false true = omega arith
     bound false false = omega arith
 
-pub places : (t : ℕ) (d d' : Driver) (request : Request) (slot : ℕ) (x : Tickets)
-    → once.Happens (once.Places request slot) d d' → times t x.given ≡ (if d.next == t then 1 else 0)
+pub places-command : (t : ℕ) (d d' : Driver) (asked : Asked) (slot : ℕ) (x : Tickets)
+    → once.Happens (once.PlacesCommand asked slot) d d' → times t x.given ≡ (if d.next == t then 1 else 0)
     → times t x.done ≡ 0 → times t x.aborted ≡ 0 → Counts t d d' x
-places t d d' request slot x h given done aborted =
-    let w : Waiting = waiting_of d request in
-    let e : Ends = put_ends (ends (lane_of request) d) in
+places-command t d d' asked slot x h given done aborted =
+    let w : Waiting = waiting_command d asked in
+    let e : Ends = put_ends (ends asked.command.lane d) in
     let mid : Driver = record d { next = d.next + 1; slots = slice_set d.slots slot (Some w) } in
-    let all = driver.step t (once.Places request slot) d d' h in
-    let n : d'.next ≡ d.next + 1 = ap (λ (y : Driver). y.next) h.1 ∙ next-kept (lane_of request) e mid in
+    let all = driver.step t (once.PlacesCommand asked slot) d d' h in
+    let n : d'.next ≡ d.next + 1 = ap (λ (y : Driver). y.next) h.1 ∙ next-kept asked.command.lane e mid in
     let u = ap (driver.ungiven t) n in
     let s : d'.slots ≡ slice_set d.slots slot (Some w) =
-    ap (λ (y : Driver). y.slots) h.1 ∙ slots-kept (lane_of request) e mid in
+    ap (λ (y : Driver). y.slots) h.1 ∙ slots-kept asked.command.lane e mid in
     let l = ap (live_borne t) s in
     let more = live-set t d.slots slot (Some w) in
     let bound = live-bound t w in
@@ -193,6 +193,12 @@ places t d d' request slot x h given done aborted =
       held = omega (arith, given, done, aborted, u, g, all);
       live = omega (arith, done, u, l, more, bound, g);
     }
+
+pub places : (t : ℕ) (d d' : Driver) (request : Request) (slot : ℕ) (x : Tickets)
+    → once.Happens (once.Places request slot) d d' → times t x.given ≡ (if d.next == t then 1 else 0)
+    → times t x.done ≡ 0 → times t x.aborted ≡ 0 → Counts t d d' x
+places t d d' request slot x h given done aborted =
+    places-command t d d' (asked_of request) slot x h given done aborted
 
 pub given-count : (t : ℕ) (ticket : Ticket) (n : ℕ) → ticket ≡ record { 0 = n }
     → times t ((given_by (placed_of (Ok ticket))).given) ≡ (if n == t then 1 else 0)
@@ -219,6 +225,19 @@ placed-by t old new request (Ok ticket) x kept issued is are =
     (ap (λ (y : Tickets). times t y.given) are ∙ given-count t ticket old.driver.next issued.1)
     (ap (λ (y : Tickets). times t y.done) are) (ap (λ (y : Tickets). times t y.aborted) are)
 placed-by t old new request (Err fault) x kept issued is are =
+    stays t old.driver new.driver x kept.0 (are ∙ refused-none fault)
+
+pub placed-command-by : (t : ℕ) (old new : OpenDriver) (asked : Asked) (result : Result Ticket PlaceRefusal)
+    (x : Tickets)
+    → OnErr result ((new.driver ≡ old.driver) × (new.port ≡ old.port))
+    → IfOk result (λ ticket. (command_refusal old.driver asked ≡ None) × (ticket ≡ record { 0 = old.driver.next }))
+    → OnOk result (IsCommandPlaced Records old.driver asked old.port new.driver new.port)
+    → x ≡ given_by (placed_of result) → Counts t old.driver new.driver x
+placed-command-by t old new asked (Ok ticket) x kept issued is are =
+    places-command t old.driver new.driver asked is.0 x (is.1, is.2)
+    (ap (λ (y : Tickets). times t y.given) are ∙ given-count t ticket old.driver.next issued.1)
+    (ap (λ (y : Tickets). times t y.done) are) (ap (λ (y : Tickets). times t y.aborted) are)
+placed-command-by t old new asked (Err fault) x kept issued is are =
     stays t old.driver new.driver x kept.0 (are ∙ refused-none fault)
 
 -- polling

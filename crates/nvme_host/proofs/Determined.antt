@@ -45,15 +45,14 @@ use Rattle.nvme_driver.specs.Calls.{Writes, Calls}
 use Rattle.nvme_spec.specs.Memory.{window_size}
 use Rattle.nvme_driver.specs.Drivers.{
   Driver,
-  IsPlaced,
   cc as configuration,
   is_down,
   place_refusal,
-  placed,
   ring_calls,
   reset_calls,
-  stores_of,
 }
+use Rattle.nvme_driver.specs.HostCommands.{IsCommandPlaced, command_refusal, command_stores, placed_command}
+use Rattle.nvme_driver.specs.Requests.{Asked, asked_of}
 use Rattle.nvme_driver.specs.Polls.{IsOldest, IsNotBelow, handed_len, polled}
 use Rattle.nvme_driver.specs.Rises.{Rises}
 use Rattle.nvme_host.specs.declared.outcome.Outcome.{Outcome}
@@ -66,6 +65,7 @@ use Rattle.nvme_host.specs.Calls.{
   Polled,
   PollingUnless,
   Placing,
+  Commanding,
   AskingIf,
   RingingUnless,
   ResettingUnless,
@@ -84,7 +84,7 @@ use Rattle.nvme_host.specs.Calls.{
 }
 use Rattle.nvme_host.specs.Refusals.{blocked_by, stopped_by, bring_up_refusal}
 use Rattle.nvme_host.specs.Recording.{Records, IsSamePort, left_out, with_actions, without_reports}
-use Rattle.nvme_host.specs.Facts.{learned, with_question}
+use Rattle.nvme_host.specs.Facts.{learned, with_command, with_question}
 use Rattle.nvme_host.specs.Stages.{awaited_in}
 use Rattle.nvme_host.specs.Completions.{StoringCompletionUnless, StoringCompletion, StoringDataUnless}
 use Rattle.nvme_host.proofs.Recorded.{SameStep, same-port, all-calls, rises}
@@ -126,50 +126,62 @@ record SameCall (d e : Driver) (p q : RecordingPort) : Type 0 where
 some-is : {A : Type 0} (x y : A) → Some x ≡ Some y → x ≡ y
 some-is x y h = cc
 
-is-placed : (old : OpenDriver) (request : Request) (d e : Driver) (p q : RecordingPort)
-    → IsPlaced Records old.driver request old.port d p → IsPlaced Records old.driver request old.port e q
+-- the result of a placing, by the first test that refuses it and the next ticket
+placed-result : (verdict : Option PlaceRefusal) (next : ℕ) (r s : Result Ticket PlaceRefusal)
+    → IfErr r (λ refusal. verdict ≡ Some refusal)
+    → IfOk r (λ ticket. (verdict ≡ None) × (ticket ≡ record { 0 = next }))
+    → IfErr s (λ refusal. verdict ≡ Some refusal)
+    → IfOk s (λ ticket. (verdict ≡ None) × (ticket ≡ record { 0 = next }))
+    → r ≡ s
+placed-result verdict next (Ok t) (Ok u) a b c d = ap (λ (x : Ticket). Ok x) (b.1 ∙ sym d.1)
+placed-result verdict next (Ok t) (Err f) a b c d = let e = sym b.0 ∙ c in absurd (cc (e))
+placed-result verdict next (Err f) (Ok u) a b c d = let e = sym d.0 ∙ a in absurd (cc (e))
+placed-result verdict next (Err f) (Err g) a b c d = ap (λ (x : PlaceRefusal). Err x) (some-is f g (sym a ∙ c))
+
+-- placing a request is placing its command
+is-placed : (old : OpenDriver) (asked : Asked) (d e : Driver) (p q : RecordingPort)
+    → IsCommandPlaced Records old.driver asked old.port d p → IsCommandPlaced Records old.driver asked old.port e q
     → SameCall d e p q
-is-placed old request d e p q a b =
+is-placed old asked d e p q a b =
     let slot : a.0 ≡ b.0 = some-is a.0 b.0 (sym a.1 ∙ b.1) in
     record {
-      driver = a.2 ∙ (ap (λ (n : ℕ). placed old.driver request n) slot ∙ sym b.2);
-      port = all-calls (stores_of old.driver request b.0) old.port p q
-          (subst (λ (n : ℕ). Calls Records old.port (stores_of old.driver request n) p) slot a.3) b.3;
+      driver = a.2 ∙ (ap (λ (n : ℕ). placed_command old.driver asked n) slot ∙ sym b.2);
+      port = all-calls (command_stores old.driver asked b.0) old.port p q
+          (subst (λ (n : ℕ). Calls Records old.port (command_stores old.driver asked n) p) slot a.3) b.3;
     }
 
-placed-result : (old : OpenDriver) (request : Request) (r s : Result Ticket PlaceRefusal)
-    → IfErr r (λ refusal. place_refusal old.driver request ≡ Some refusal)
-    → IfOk r (λ ticket. (place_refusal old.driver request ≡ None) × (ticket ≡ record { 0 = old.driver.next }))
-    → IfErr s (λ refusal. place_refusal old.driver request ≡ Some refusal)
-    → IfOk s (λ ticket. (place_refusal old.driver request ≡ None) × (ticket ≡ record { 0 = old.driver.next }))
-    → r ≡ s
-placed-result old request (Ok t) (Ok u) a b c d = ap (λ (x : Ticket). Ok x) (b.1 ∙ sym d.1)
-placed-result old request (Ok t) (Err f) a b c d = let e = sym b.0 ∙ c in absurd (cc (e))
-placed-result old request (Err f) (Ok u) a b c d = let e = sym d.0 ∙ a in absurd (cc (e))
-placed-result old request (Err f) (Err g) a b c d = ap (λ (x : PlaceRefusal). Err x) (some-is f g (sym a ∙ c))
-
-placed-same : (old new other : OpenDriver) (request : Request) (r : Result Ticket PlaceRefusal)
+placed-same : (old new other : OpenDriver) (asked : Asked) (r : Result Ticket PlaceRefusal)
     → OnErr r ((new.driver ≡ old.driver) × (new.port ≡ old.port))
-    → OnOk r (IsPlaced Records old.driver request old.port new.driver new.port)
+    → OnOk r (IsCommandPlaced Records old.driver asked old.port new.driver new.port)
     → OnErr r ((other.driver ≡ old.driver) × (other.port ≡ old.port))
-    → OnOk r (IsPlaced Records old.driver request old.port other.driver other.port)
+    → OnOk r (IsCommandPlaced Records old.driver asked old.port other.driver other.port)
     → SameCall new.driver other.driver new.port other.port
-placed-same old new other request (Ok t) a b c d =
-    is-placed old request new.driver other.driver new.port other.port b d
-placed-same old new other request (Err f) a b c d =
+placed-same old new other asked (Ok t) a b c d =
+    is-placed old asked new.driver other.driver new.port other.port b d
+placed-same old new other asked (Err f) a b c d =
     record { driver = a.0 ∙ sym c.0; port = a.1 ∙ sym c.1 }
+
+placed-both : (old new other : OpenDriver) (asked : Asked) (r s : Result Ticket PlaceRefusal) → r ≡ s
+    → OnErr r ((new.driver ≡ old.driver) × (new.port ≡ old.port))
+    → OnOk r (IsCommandPlaced Records old.driver asked old.port new.driver new.port)
+    → OnErr s ((other.driver ≡ old.driver) × (other.port ≡ old.port))
+    → OnOk s (IsCommandPlaced Records old.driver asked old.port other.driver other.port)
+    → SameCall new.driver other.driver new.port other.port
+placed-both old new other asked r s e a b c d =
+    placed-same old new other asked s
+    (subst (λ (x : Result Ticket PlaceRefusal). OnErr x ((new.driver ≡ old.driver) × (new.port ≡ old.port))) e a)
+    (subst (λ (x : Result Ticket PlaceRefusal). OnOk x
+    (IsCommandPlaced Records old.driver asked old.port new.driver new.port)) e b)
+    c d
 
 placing : (refusal : Option ℕ) (request : Request) (old : OpenDriver) (one two : Placed) (new other : OpenDriver)
     → Placing refusal old request one new → Placing refusal old request two other → (one ≡ two) × (new ≡ other)
 placing (Some code) request old one two new other p q = refused old new other one two _ p q
 placing None request old one two new other p q =
-    let r = placed-result old request p.result q.result p.refused p.issued q.refused q.issued in
-    let s = placed-same old new other request q.result
-    (subst (λ (x : Result Ticket PlaceRefusal). OnErr x ((new.driver ≡ old.driver) × (new.port ≡ old.port))) r
-    p.unchanged)
-    (subst (λ (x : Result Ticket PlaceRefusal). OnOk x
-    (IsPlaced Records old.driver request old.port new.driver new.port)) r p.placed)
-    q.unchanged q.placed in (
+    let r = placed-result (place_refusal old.driver request) old.driver.next p.result q.result p.refused p.issued
+    q.refused q.issued in
+    let s = placed-both old new other (asked_of request) p.result q.result r p.unchanged p.placed q.unchanged
+    q.placed in (
       p.gives ∙ (ap placed_of r ∙ sym q.gives),
       same new other (record {
         driver = s.driver;
@@ -177,6 +189,26 @@ placing None request old one two new other p q =
         stage = p.stage ∙ sym q.stage;
         capabilities = p.capabilities ∙ sym q.capabilities;
         facts = p.facts ∙ sym q.facts;
+      }),
+    )
+
+commanding : (refusal : Option ℕ) (identifies : Bool) (asked : Asked) (old : OpenDriver) (one two : Placed)
+    (new other : OpenDriver)
+    → Commanding refusal old identifies asked one new → Commanding refusal old identifies asked two other
+    → (one ≡ two) × (new ≡ other)
+commanding (Some code) identifies asked old one two new other p q = refused old new other one two _ p q
+commanding None identifies asked old one two new other p q =
+    let r = placed-result (command_refusal old.driver asked) old.driver.next p.result q.result p.refused p.issued
+    q.refused q.issued in
+    let s = placed-both old new other asked p.result q.result r p.unchanged p.placed q.unchanged q.placed in
+    let outcome : one ≡ two = p.gives ∙ (ap placed_of r ∙ sym q.gives) in (
+      outcome,
+      same new other (record {
+        driver = s.driver;
+        port = s.port;
+        stage = p.stage ∙ sym q.stage;
+        capabilities = p.capabilities ∙ sym q.capabilities;
+        facts = p.facts ∙ (ap (λ (x : Placed). with_command old.facts identifies x) outcome ∙ sym q.facts);
       }),
     )
 
@@ -433,6 +465,8 @@ polling None old before one two new other buffer bytes distinct data_there p q =
 pub calls_are_determined : CallsAreDetermined
 calls_are_determined = record {
   placing = λ refusal request old one two new other p q. placing refusal request old one two new other p q;
+  commanding = λ refusal identifies asked old one two new other p q.
+      commanding refusal identifies asked old one two new other p q;
   asking = λ nsid old one two new other p q. asking (nat_lt 64 nsid) nsid old one two new other p q;
   polling = λ old before one two new other buffer bytes distinct data_there p q.
       polling (blocked_by old) old before one two new other buffer bytes distinct data_there p q;

@@ -23,6 +23,7 @@ use Rattle.std.specs.Prelude.{is_none, if◌then◌else◌}
 use Rattle.nvme_driver.specs.declared.lane.Lane.{Lane}
 use Rattle.nvme_driver.specs.declared.request.Request.{Request}
 use Rattle.nvme_driver.specs.declared.request.Request.TheVariants.{Identify}
+use Rattle.nvme_driver.specs.Requests.{Asked}
 use Rattle.nvme_host.specs.declared.completions.CompletionData.{CompletionData}
 use Rattle.nvme_host.specs.declared.open_driver.OpenDriver.{OpenDriver}
 use Rattle.nvme_host.specs.declared.outcome.Outcome.{Outcome}
@@ -31,6 +32,7 @@ use Rattle.nvme_host.specs.declared.stage.Stage.{Stage}
 use Rattle.nvme_host.specs.declared.stage.Stage.TheVariants as at
 use Rattle.nvme_host.specs.Calls.{
   Placing,
+  Commanding,
   AskingIf,
   PollingUnless,
   RingingUnless,
@@ -58,6 +60,7 @@ use Rattle.nvme_host.specs.Runs.{
   Use,
   Places,
   Identifies,
+  Commands,
   Asks,
   Polls,
   Rings,
@@ -113,6 +116,13 @@ placing : (o : Option ℕ) (old new : OpenDriver) (request : Request) (placed : 
     → Stays new x
 placing None old new request placed x is r silent p are = absurd (cc (r.is))
 placing (Some code) old new request placed x is r silent p are =
+    unchanged old new x is p.1 (are ∙ (ap given_by p.0 ∙ silent))
+
+commanding : (o : Option ℕ) (old new : OpenDriver) (identifies : Bool) (asked : Asked) (placed : Placed) (x : Tickets)
+    → old.stage ≡ at.Expired → Refuses o → IsRefusal o → Commanding o old identifies asked placed new
+    → x ≡ given_by placed → Stays new x
+commanding None old new identifies asked placed x is r silent p are = absurd (cc (r.is))
+commanding (Some code) old new identifies asked placed x is r silent p are =
     unchanged old new x is p.1 (are ∙ (ap given_by p.0 ∙ silent))
 
 first-refuses : (a b : Option ℕ) → Refuses a → Refuses (first_of a b)
@@ -195,6 +205,8 @@ step (Places nsid command span request) old x new no_reset is u =
     (first-silent (stopped_by old) _ r (stopped-refuses _ _)) u.1 u.2
 step (Identifies cns nsid) old x new no_reset is u =
     placing (stopped_by old) old new (Identify cns nsid) u.0 x is (stopped old is) (stopped-refuses _ _) u.1 u.2
+step (Commands identifies asked) old x new no_reset is u =
+    commanding (stopped_by old) old new identifies asked u.0 x is (stopped old is) (stopped-refuses _ _) u.1 u.2
 step (Asks nsid) old x new no_reset is u = asking (nat_lt 64 nsid) old new nsid u.0 x is u.1 u.2
 step Polls old x new no_reset is u = record {
   stage = polling (blocked_by old) old new u.0 u.2 u.1 u.3 ∙ is;

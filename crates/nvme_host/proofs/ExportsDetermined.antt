@@ -6,6 +6,7 @@ use Rattle.std.proofs.Common.{
   ◌+◌,
   ◌≤◌,
   ◌<◌,
+  Bool,
   List,
   length,
   Option,
@@ -20,6 +21,7 @@ use Rattle.std.proofs.Common.{
 use Rattle.std.proofs.lemmas.Bool.{cases_lt}
 use Rattle.nvme_spec.specs.Memory.{window_size, zeros}
 use Rattle.nvme_driver.specs.declared.request.Request.{Request}
+use Rattle.nvme_driver.specs.Requests.{Asked}
 use Rattle.nvme_host.specs.declared.devices.Limits.{Limits}
 use Rattle.nvme_host.specs.declared.outcome.Outcome.{Outcome}
 use Rattle.nvme_host.specs.declared.outcome.Placed.{Placed}
@@ -37,6 +39,7 @@ use Rattle.nvme_host.specs.Completions.{Loads, StoringData, lane_of}
 use Rattle.nvme_host.specs.Determined.{IsDetermined}
 use Rattle.nvme_host.specs.Exports.{
   Places,
+  Sends,
   Asks,
   Does,
   BringsUp,
@@ -106,6 +109,17 @@ placing refusal request (Some old) one two None other p q = absurd p
 placing refusal request (Some old) one two (Some new) None p q = absurd q
 placing refusal request (Some old) one two (Some new) (Some other) p q =
     opened one two new other (calls_are_determined.placing (refusal old) request old one two new other p q)
+
+sending : (refusal : OpenDriver → Option ℕ) (identifies : Bool) (asked : OpenDriver → Asked) (old : Option Inside)
+    (one two : Placed) (new other : Option Inside)
+    → Sends refusal identifies asked old one new → Sends refusal identifies asked old two other
+    → (one ≡ two) × (new ≡ other)
+sending refusal identifies asked None one two new other p q = closed one two _ new other p q
+sending refusal identifies asked (Some old) one two None other p q = absurd p
+sending refusal identifies asked (Some old) one two (Some new) None p q = absurd q
+sending refusal identifies asked (Some old) one two (Some new) (Some other) p q =
+    opened one two new other
+    (calls_are_determined.commanding (refusal old) identifies (asked old) old one two new other p q)
 
 asking : (nsid : ℕ) (old : Option Inside) (one two : Placed) (new other : Option Inside)
     → Asks nsid old one new → Asks nsid old two other → (one ≡ two) × (new ≡ other)
@@ -178,6 +192,8 @@ exports_are_determined = record {
   opening = opening;
   polling = polling;
   placing = λ refusal request old one two new other p q. placing refusal request old one two new other p q;
+  sending = λ refusal identifies asked old one two new other p q.
+      sending refusal identifies asked old one two new other p q;
   asking = λ nsid old one two new other p q. asking nsid old one two new other p q;
   ringing = λ old one two new other p q. doing Ringing calls_are_determined.ringing old one two new other p q;
   resetting = λ old one two new other p q. doing Resetting calls_are_determined.resetting old one two new other p q;

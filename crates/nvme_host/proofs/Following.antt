@@ -46,7 +46,9 @@ use Rattle.nvme_driver.specs.declared.slots.Waiting.{Waiting}
 use Rattle.nvme_driver.specs.declared.ticket.Ticket.{Ticket}
 use Rattle.nvme_driver.specs.Calls.{Writes, Calls, Awaits}
 use Rattle.nvme_driver.specs.Layout.{tail_doorbell}
-use Rattle.nvme_driver.specs.Drivers.{Driver, IsPlaced, with_ends, put_ends, ends, is_up, is_down, lane_of, tail_of}
+use Rattle.nvme_driver.specs.Drivers.{Driver, IsPlaced, with_ends, put_ends, ends, is_up, is_down, tail_of}
+use Rattle.nvme_driver.specs.HostCommands.{IsCommandPlaced}
+use Rattle.nvme_driver.specs.Requests.{Asked, asked_of}
 use Rattle.nvme_driver.specs.Polls.{polled, found, found_poll, answered, answered_poll, without_calls}
 use Rattle.nvme_driver.specs.Rises.{
   Rises,
@@ -72,6 +74,7 @@ use Rattle.nvme_host.specs.declared.recording_port.RecordingPort.{RecordingPort}
 use Rattle.nvme_host.specs.Doorbells.{initial_doorbells, head_of_lane}
 use Rattle.nvme_host.specs.Calls.{
   Placing,
+  Commanding,
   AskingIf,
   PollingUnless,
   RingingUnless,
@@ -93,6 +96,7 @@ use Rattle.nvme_host.specs.Runs.{
   Use,
   Places,
   Identifies,
+  Commands,
   Asks,
   Polls,
   Rings,
@@ -162,15 +166,15 @@ put_ends_same : (lane : Lane) (d : Driver) (more : ℕ) (slots : List (Option Wa
 put_ends_same Admin d more slots = record { admin = refl; io = refl }
 put_ends_same Io d more slots = record { admin = refl; io = refl }
 
-is_placed : (old new : OpenDriver) (request : Request)
-    → IsPlaced Records old.driver request old.port new.driver new.port
+is_command_placed : (old new : OpenDriver) (asked : Asked)
+    → IsCommandPlaced Records old.driver asked old.port new.driver new.port
     → FollowsIn old → FollowsIn new
-is_placed old new request p f =
+is_command_placed old new asked p f =
     let calls = p.3 in
     let doorbells : new.port.doorbells ≡ old.port.doorbells =
     port_bells calls.2.2.0 new.port calls.2.2.2 ∙ (calls.2.2.1.doorbells ∙ (calls.2.1.doorbells ∙ calls.1.doorbells)) in
     let same : SameEnds old.driver new.driver =
-    subst (λ (d : Driver). SameEnds old.driver d) (sym p.2) (put_ends_same (lane_of request) old.driver _ _) in
+    subst (λ (d : Driver). SameEnds old.driver d) (sym p.2) (put_ends_same asked.command.lane old.driver _ _) in
     carried old.driver new.driver old.port.doorbells new.port.doorbells same
     (same_heads old.port.doorbells new.port.doorbells doorbells) f
 
@@ -178,13 +182,25 @@ placed : (old new : OpenDriver) (request : Request) (result : Result Ticket Plac
     → OnErr result ((new.driver ≡ old.driver) × (new.port ≡ old.port))
     → OnOk result (IsPlaced Records old.driver request old.port new.driver new.port)
     → FollowsIn old → FollowsIn new
-placed old new request (Ok ticket) same is f = is_placed old new request is f
+placed old new request (Ok ticket) same is f = is_command_placed old new (asked_of request) is f
 placed old new request (Err fault) same is f = kept old new same.0 (port_bells old.port new.port same.1) f
 
 placing : (refusal : Option ℕ) (old new : OpenDriver) (request : Request) (outcome : Placed)
     → Placing refusal old request outcome new → FollowsIn old → FollowsIn new
 placing (Some code) old new request outcome p f = unchanged old new p.1 f
 placing None old new request outcome p f = placed old new request p.result p.unchanged p.placed f
+
+placed_command : (old new : OpenDriver) (asked : Asked) (result : Result Ticket PlaceRefusal)
+    → OnErr result ((new.driver ≡ old.driver) × (new.port ≡ old.port))
+    → OnOk result (IsCommandPlaced Records old.driver asked old.port new.driver new.port)
+    → FollowsIn old → FollowsIn new
+placed_command old new asked (Ok ticket) same is f = is_command_placed old new asked is f
+placed_command old new asked (Err fault) same is f = kept old new same.0 (port_bells old.port new.port same.1) f
+
+commanding : (refusal : Option ℕ) (old new : OpenDriver) (identifies : Bool) (asked : Asked) (outcome : Placed)
+    → Commanding refusal old identifies asked outcome new → FollowsIn old → FollowsIn new
+commanding (Some code) old new identifies asked outcome p f = unchanged old new p.1 f
+commanding None old new identifies asked outcome p f = placed_command old new asked p.result p.unchanged p.placed f
 
 asking : (b : Bool) (old new : OpenDriver) (nsid : ℕ) (outcome : Placed) → AskingIf b old nsid outcome new
     → FollowsIn old
@@ -449,6 +465,8 @@ follows (Places nsid command span request) old tickets new u f =
     placing (request_refusal old nsid command span) old new request u.0 u.1 f
 follows (Identifies cns nsid) old tickets new u f =
     placing (stopped_by old) old new (Identify cns nsid) u.0 u.1 f
+follows (Commands identifies asked) old tickets new u f =
+    commanding (stopped_by old) old new identifies asked u.0 u.1 f
 follows (Asks nsid) old tickets new u f = asking (nat_lt 64 nsid) old new nsid u.0 u.1 f
 follows Polls old tickets new u f = polling (blocked_by old) old new u.0 u.2 u.1 u.3 f
 follows Rings old tickets new u f = ringing (stopped_by old) old new u.0.0 u.0.1 f

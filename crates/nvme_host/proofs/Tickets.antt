@@ -24,11 +24,13 @@ use Rattle.std.proofs.Common.{
   ◌∙◌,
   arith,
 }
-use Rattle.std.specs.Prelude.{if◌then◌else◌}
+use Rattle.std.specs.Prelude.{◌&&◌, not, if◌then◌else◌}
 use Rattle.std.proofs.lemmas.Bool.{eq-eqb}
 use Rattle.nvme_device.specs.declared.status.Awaited.{Awaited}
 use Rattle.nvme_device.specs.declared.capabilities.Capabilities.{Capabilities}
+use Rattle.nvme_spec.specs.declared.command.Command.{Command}
 use Rattle.nvme_device.specs.declared.admission.Admission.{Admission}
+use Rattle.nvme_device.specs.declared.admission.Span.{Span}
 use Rattle.nvme_device.specs.declared.admission.Admission.TheVariants as admission
 use Rattle.nvme_device.specs.declared.controller.ControllerFault.{ControllerFault}
 use Rattle.nvme_device.specs.declared.controller.ControllerFault.TheVariants as controller
@@ -38,6 +40,7 @@ use Rattle.nvme_driver.specs.declared.lane.Lane.{Lane}
 use Rattle.nvme_driver.specs.declared.request.Request.{Request}
 use Rattle.nvme_driver.specs.declared.request.Request.TheVariants.{Identify}
 use Rattle.nvme_driver.specs.declared.slots.Waiting.{Waiting}
+use Rattle.nvme_driver.specs.Requests.{Asked}
 use Rattle.nvme_driver.specs.declared.ticket.Ticket.{Ticket}
 use Rattle.nvme_driver.specs.Drivers.{Driver}
 use Rattle.nvme_driver.specs.Polls.{aborted_at, aborted_ticket}
@@ -51,6 +54,7 @@ use Rattle.nvme_host.specs.declared.completions.CompletionData.{CompletionData}
 use Rattle.nvme_host.specs.Outcomes.{refused, with_code}
 use Rattle.nvme_host.specs.Calls.{
   Placing,
+  Commanding,
   AskingIf,
   PollingUnless,
   RingingUnless,
@@ -63,7 +67,15 @@ use Rattle.nvme_host.specs.Calls.{
   CheckingStatusBy,
 }
 use Rattle.nvme_host.specs.Devices.{controller_code, namespace_code, admission_code}
-use Rattle.nvme_host.specs.Refusals.{blocked_by, stopped_by, bring_up_refusal, first_of, request_refusal}
+use Rattle.nvme_host.specs.Facts.{admission_on, needs_identifier}
+use Rattle.nvme_host.specs.Refusals.{
+  blocked_by,
+  stopped_by,
+  bring_up_refusal,
+  first_of,
+  identifier_refusal,
+  request_refusal,
+}
 use Rattle.nvme_host.specs.Completions.{StoringCompletion, StoringCompletionUnless, StoringDataUnless}
 use Rattle.nvme_host.specs.declared.stage.Stage.{Stage}
 use Rattle.nvme_host.specs.declared.stage.Stage.TheVariants as at
@@ -72,6 +84,7 @@ use Rattle.nvme_host.specs.Runs.{
   Use,
   Places,
   Identifies,
+  Commands,
   Asks,
   Polls,
   Rings,
@@ -98,7 +111,17 @@ use Rattle.nvme_host.specs.Runs.{
   DeliversGivenTicketsOnce,
 }
 use Rattle.nvme_host.specs.Determined.{RunsHaveDistinctTickets}
-use Rattle.nvme_host.proofs.Counts.{Counts, quiet, stays, unchanged, none-left, placed-by, some-is, by-poll}
+use Rattle.nvme_host.proofs.Counts.{
+  Counts,
+  quiet,
+  stays,
+  unchanged,
+  none-left,
+  placed-by,
+  placed-command-by,
+  some-is,
+  by-poll,
+}
 
 -- the number of a refusal gives no ticket
 abbrev pub IsRefusal : Option ℕ → Type 0
@@ -140,9 +163,21 @@ admission-refuses admission.NotSupported = refl
 admission-refuses admission.TooLong = refl
 admission-refuses admission.PastTheEnd = refl
 
+identifier-refuses : (b : Bool) → IsRefusal (if b then Some 66 else None)
+identifier-refuses true = refl
+identifier-refuses false = tt
+
 first-refuses : (a b : Option ℕ) → IsRefusal a → IsRefusal b → IsRefusal (first_of a b)
 first-refuses None b x y = y
 first-refuses (Some code) b x y = x
+
+request-refuses : (h : OpenDriver) (nsid : ℕ) (command : Command) (span : Span)
+    → IsRefusal (first_of (admission_code (admission_on h.facts nsid command span))
+    (identifier_refusal h.facts command))
+request-refuses h nsid command span =
+    first-refuses (admission_code (admission_on h.facts nsid command span)) (identifier_refusal h.facts command)
+    (admission-refuses (admission_on h.facts nsid command span))
+    (identifier-refuses (needs_identifier command && not h.facts.host_identified))
 
 placing : (t : ℕ) (refusal : Option ℕ) (old new : OpenDriver) (request : Request) (outcome : Placed) (x : Tickets)
     → IsRefusal refusal → Placing refusal old request outcome new → x ≡ given_by outcome
@@ -151,6 +186,15 @@ placing t (Some code) old new request outcome x silent p are =
     unchanged t old new x p.1 (are ∙ (ap given_by p.0 ∙ silent))
 placing t None old new request outcome x silent p are =
     placed-by t old new request p.result x p.unchanged p.issued p.placed (are ∙ ap given_by p.gives)
+
+commanding : (t : ℕ) (refusal : Option ℕ) (old new : OpenDriver) (identifies : Bool) (asked : Asked) (outcome : Placed)
+    (x : Tickets)
+    → IsRefusal refusal → Commanding refusal old identifies asked outcome new → x ≡ given_by outcome
+    → Counts t old.driver new.driver x
+commanding t (Some code) old new identifies asked outcome x silent p are =
+    unchanged t old new x p.1 (are ∙ (ap given_by p.0 ∙ silent))
+commanding t None old new identifies asked outcome x silent p are =
+    placed-command-by t old new asked p.result x p.unchanged p.issued p.placed (are ∙ ap given_by p.gives)
 
 asking : (t : ℕ) (b : Bool) (old new : OpenDriver) (nsid : ℕ) (outcome : Placed) (x : Tickets)
     → AskingIf b old nsid outcome new → x ≡ given_by outcome → Counts t old.driver new.driver x
@@ -251,9 +295,12 @@ step : (t : ℕ) (call : Use) (old : OpenDriver) (x : Tickets) (new : OpenDriver
     → Counts t old.driver new.driver x
 step t (Places nsid command span request) old x new u =
     placing t (request_refusal old nsid command span) old new request u.0 x
-    (first-refuses (stopped_by old) _ (stopped-refuses _ _) (admission-refuses _)) u.1 u.2
+    (first-refuses (stopped_by old) _ (stopped-refuses _ _)
+    (request-refuses old nsid command span)) u.1 u.2
 step t (Identifies cns nsid) old x new u =
     placing t (stopped_by old) old new (Identify cns nsid) u.0 x (stopped-refuses _ _) u.1 u.2
+step t (Commands identifies asked) old x new u =
+    commanding t (stopped_by old) old new identifies asked u.0 x (stopped-refuses _ _) u.1 u.2
 step t (Asks nsid) old x new u = asking t (nat_lt 64 nsid) old new nsid u.0 x u.1 u.2
 step t Polls old x new u = polling t (blocked_by old) (blocked-silent _) old new u.0 u.2 u.1 x u.3 u.4
 step t Rings old x new u = ringing t (stopped_by old) old new u.0.0 x u.0.1 u.1

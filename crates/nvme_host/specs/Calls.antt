@@ -61,6 +61,8 @@ use Rattle.nvme_driver.specs.Drivers.{
   IsPlaced,
   HoldsItsRequest,
 }
+use Rattle.nvme_driver.specs.HostCommands.{command_refusal, IsCommandPlaced, HoldsItsCommand}
+use Rattle.nvme_driver.specs.Requests.{Asked}
 use Rattle.nvme_driver.specs.Polls.{IsPolled, handed_len}
 use Rattle.nvme_driver.specs.Rises.{Rises as RisesOver}
 use Rattle.nvme_host.specs.declared.devices.Limits.{Limits}
@@ -77,7 +79,7 @@ use Rattle.nvme_host.specs.declared.stage.Stage.TheVariants as at
 use Rattle.nvme_host.specs.Outcomes.{with_code, outcome_of, bring_up_outcome, refused, placed_of}
 use Rattle.nvme_host.specs.Devices.{limits_of}
 use Rattle.nvme_host.specs.Refusals.{blocked_by, stopped_by, bring_up_refusal}
-use Rattle.nvme_host.specs.Facts.{no_facts, learned, with_question}
+use Rattle.nvme_host.specs.Facts.{no_facts, learned, with_command, with_question}
 use Rattle.nvme_host.specs.Recording.{
   Records,
   IsSamePort,
@@ -134,6 +136,25 @@ pub record PlacedBy (old : OpenDriver) (request : Request) (outcome : Placed) (n
 abbrev pub Placing : Option ℕ → OpenDriver → Request → Placed → OpenDriver → Type 0
 Placing (Some code) old request outcome new = (outcome ≡ refused code) × (new ≡ old)
 Placing None old request outcome new = PlacedBy old request outcome new
+
+-- A command that is no request is placed by the driver, unless there is a reason against it. `identifies` if it sets
+-- the identifier of this host.
+pub record PlacedCommandBy (old : OpenDriver) (identifies : Bool) (a : Asked) (outcome : Placed)
+    (new : OpenDriver) : Type 0 where
+  pub result : Result Ticket PlaceRefusal
+  pub gives : outcome ≡ placed_of result
+  pub refused : IfErr result (λ refusal. command_refusal old.driver a ≡ Some refusal)
+  pub unchanged : OnErr result ((new.driver ≡ old.driver) × (new.port ≡ old.port))
+  pub issued : IfOk result (λ given. (command_refusal old.driver a ≡ None) × (given ≡ record { 0 = old.driver.next }))
+  pub placed : OnOk result (IsCommandPlaced Records old.driver a old.port new.driver new.port)
+  pub holds : OnOk result (HoldsItsCommand old.driver old.port.window new.port.window a)
+  pub stage : new.stage ≡ old.stage
+  pub capabilities : new.capabilities ≡ old.capabilities
+  pub facts : new.facts ≡ with_command old.facts identifies outcome
+
+abbrev pub Commanding : Option ℕ → OpenDriver → Bool → Asked → Placed → OpenDriver → Type 0
+Commanding (Some code) old identifies a outcome new = (outcome ≡ refused code) × (new ≡ old)
+Commanding None old identifies a outcome new = PlacedCommandBy old identifies a outcome new
 
 -- A question is placed: about the controller, 0, or about a namespace.
 abbrev pub question : ℕ → Request

@@ -1,16 +1,18 @@
 -- Each call of an open driver has one outcome: its relation leaves no field open. That it has one is what the contract
 -- of its function says.
-use Rattle.std.specs.Prelude.{◌≡◌, ℕ, List, length, Option, Some}
+use Rattle.std.specs.Prelude.{◌≡◌, ℕ, Bool, List, length, Option, Some}
 use Rattle.nvme_driver.specs.declared.request.Request.{Request}
 use Rattle.nvme_driver.specs.declared.slots.Waiting.{Waiting}
 use Rattle.nvme_driver.specs.declared.ticket.Ticket.{Ticket}
 use Rattle.nvme_driver.specs.declared.lane.Lane.{Lane}
+use Rattle.nvme_driver.specs.Requests.{Asked}
 use Rattle.nvme_driver.specs.Polls.{aborted_at, handed_len, polled}
 use Rattle.nvme_host.specs.declared.outcome.Outcome.{Outcome}
 use Rattle.nvme_host.specs.declared.open_driver.OpenDriver.{OpenDriver}
 use Rattle.nvme_host.specs.declared.recording_port.Action.{Action}
 use Rattle.nvme_host.specs.Calls.{
   Placing,
+  Commanding,
   Asking,
   Polling,
   Ringing,
@@ -64,6 +66,8 @@ TakingsAreDetermined =
 pub record CallsAreDetermined : Type 0 where
   pub placing : (refusal : Option ℕ) (request : Request)
       → IsDetermined (λ old placed new. Placing refusal old request placed new)
+  pub commanding : (refusal : Option ℕ) (identifies : Bool) (asked : Asked)
+      → IsDetermined (λ old placed new. Commanding refusal old identifies asked placed new)
   pub asking : (nsid : ℕ) → IsDetermined (λ old placed new. Asking old nsid placed new)
   pub polling : PollsAreDetermined
   pub ringing : IsDetermined Ringing

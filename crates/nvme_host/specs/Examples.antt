@@ -1,5 +1,5 @@
 -- Ports, reports and requests of the worked examples.
-use Rattle.std.specs.Prelude.{ℕ, Bool, [], ◌∷◌, replicate, None, Some, Ok}
+use Rattle.std.specs.Prelude.{ℕ, Bool, false, [], ◌∷◌, replicate, None, Some, Ok}
 use Rattle.nvme_driver.specs.declared.lane.Lane.TheVariants.{Io}
 use Rattle.nvme_driver.specs.declared.slots.Waiting.{Waiting}
 use Rattle.nvme_host.specs.declared.doorbells.Doorbells.{Doorbells}
@@ -49,6 +49,8 @@ facts nsid = record {
   controller = Some (Ok (record { cntlid = 0; mdts = 0; oncs = 0; nn = 1; vwc = 1 }));
   namespaces = None ∷ Some (Ok (record { blocks = 100 })) ∷ None ∷ [];
   asked = Some (record { ticket = 9; nsid = nsid });
+  identifying = None;
+  host_identified = false;
 }
 
 -- the answer to question 9, by its length

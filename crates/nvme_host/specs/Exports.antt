@@ -1,9 +1,10 @@
 -- The effect of each export on a handle: if a driver is open, it is the call of that name; otherwise nothing happens.
-use Rattle.std.specs.Prelude.{◌≡◌, ℕ, ◌*◌, ◌/◌, List, Option, Some, None}
+use Rattle.std.specs.Prelude.{◌≡◌, ℕ, ◌*◌, ◌/◌, Bool, List, Option, Some, None}
 use Rattle.nvme_spec.specs.Limits.{block_size}
 use Rattle.nvme_spec.specs.Memory.{zeros}
 use Rattle.nvme_device.specs.declared.admission.Span.{Span}
 use Rattle.nvme_driver.specs.declared.request.Request.{Request}
+use Rattle.nvme_driver.specs.Requests.{Asked}
 use Rattle.nvme_host.specs.declared.devices.Limits.{Limits}
 use Rattle.nvme_host.specs.declared.devices.Controller.{Controller}
 use Rattle.nvme_host.specs.declared.devices.Namespace.{Namespace}
@@ -14,7 +15,7 @@ use Rattle.nvme_host.specs.declared.completions.NextCompletion.{NextCompletion}
 use Rattle.nvme_host.specs.declared.completions.CompletionData.{CompletionData}
 use Rattle.nvme_host.specs.declared.recording_port.Action.{Action}
 use Rattle.nvme_host.specs.Outcomes.{with_code, refused}
-use Rattle.nvme_host.specs.Calls.{IsNew, Polling, Placing, Asking, TakingActions, Judging, BringingUp}
+use Rattle.nvme_host.specs.Calls.{IsNew, Polling, Placing, Commanding, Asking, TakingActions, Judging, BringingUp}
 use Rattle.nvme_host.specs.Devices.{no_controller, controller_of, namespace_of}
 use Rattle.nvme_host.specs.Holding.{Inside}
 use Rattle.nvme_host.specs.Facts.{namespace_facts}
@@ -46,6 +47,13 @@ abbrev pub Places : (OpenDriver → Option ℕ) → Request → Option Inside �
 Places request_refusal request None outcome new = (outcome ≡ refused 16) × (new ≡ None)
 Places request_refusal request (Some old) outcome None = ⊥
 Places request_refusal request (Some old) outcome (Some new) = Placing (request_refusal old) old request outcome new
+
+abbrev pub Sends : (OpenDriver → Option ℕ) → Bool → (OpenDriver → Asked) → Option Inside → Placed → Option Inside
+    → Type 0
+Sends refusal identifies asked None outcome new = (outcome ≡ refused 16) × (new ≡ None)
+Sends refusal identifies asked (Some old) outcome None = ⊥
+Sends refusal identifies asked (Some old) outcome (Some new) =
+    Commanding (refusal old) old identifies (asked old) outcome new
 
 abbrev pub Asks : ℕ → Option Inside → Placed → Option Inside → Type 0
 Asks nsid None outcome new = (outcome ≡ refused 16) × (new ≡ None)
@@ -104,3 +112,7 @@ sending first len = record { slba = first; blocks = len / block_size; bytes = le
 
 abbrev pub zeroing : ℕ → ℕ → Span
 zeroing first count = record { slba = first; blocks = count; bytes = 0 }
+
+-- a Reservation Report of a number of double words
+abbrev pub reporting : ℕ → Span
+reporting dwords = record { slba = 0; blocks = 0; bytes = 4 * dwords }

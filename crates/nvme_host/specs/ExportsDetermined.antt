@@ -1,7 +1,8 @@
 -- Each export has one outcome, whether a driver is open or not; a poll only if no two aborted requests have one ticket,
 -- and if the data of its answer are in the window.
-use Rattle.std.specs.Prelude.{◌≡◌, ℕ, List, Option, IfSome}
+use Rattle.std.specs.Prelude.{◌≡◌, ℕ, Bool, List, Option, IfSome}
 use Rattle.nvme_driver.specs.declared.request.Request.{Request}
+use Rattle.nvme_driver.specs.Requests.{Asked}
 use Rattle.nvme_host.specs.declared.outcome.Outcome.{Outcome}
 use Rattle.nvme_host.specs.declared.open_driver.OpenDriver.{OpenDriver}
 use Rattle.nvme_host.specs.declared.recording_port.Action.{Action}
@@ -20,6 +21,7 @@ use Rattle.nvme_host.specs.Exports.{
   Opens,
   Polls,
   Places,
+  Sends,
   Asks,
   Does,
   BringsUp,
@@ -72,6 +74,8 @@ pub record ExportsAreDetermined : Type 0 where
   pub polling : PollsOfHandlesAreDetermined
   pub placing : (refusal : OpenDriver → Option ℕ) (request : Request)
       → HandleIsDetermined (λ old placed new. Places refusal request old placed new)
+  pub sending : (refusal : OpenDriver → Option ℕ) (identifies : Bool) (asked : OpenDriver → Asked)
+      → HandleIsDetermined (λ old placed new. Sends refusal identifies asked old placed new)
   pub asking : (nsid : ℕ) → HandleIsDetermined (λ old placed new. Asks nsid old placed new)
   pub ringing : HandleIsDetermined (λ old code new. Does Ringing old code new)
   pub resetting : HandleIsDetermined (λ old code new. Does Resetting old code new)

@@ -5,6 +5,7 @@ use Rattle.std.specs.Prelude.{
   ◌==◌,
   nat_le,
   Bool,
+  true,
   false,
   ◌&&◌,
   if◌then◌else◌,
@@ -19,6 +20,11 @@ use Rattle.std.specs.Prelude.{
 }
 use Rattle.std.specs.Option.{option_flatten}
 use Rattle.nvme_spec.specs.declared.command.Command.{Command}
+use Rattle.nvme_spec.specs.declared.command.Command.TheVariants.{
+  ReservationRegister,
+  ReservationAcquire,
+  ReservationRelease,
+}
 use Rattle.nvme_device.specs.declared.admission.Admission.{Admission}
 use Rattle.nvme_device.specs.declared.admission.Span.{Span}
 use Rattle.nvme_device.specs.declared.namespace.NamespaceFacts.{NamespaceFacts}
@@ -36,7 +42,13 @@ abbrev pub highest_nsid : ℕ
 highest_nsid = 64
 
 abbrev pub no_facts : DeviceFacts
-no_facts = record { controller = None; namespaces = replicate 65 None; asked = None }
+no_facts = record {
+  controller = None;
+  namespaces = replicate 65 None;
+  asked = None;
+  identifying = None;
+  host_identified = false;
+}
 
 abbrev pub namespace_facts : DeviceFacts → ℕ → Option (Result NamespaceFacts NamespaceFault)
 namespace_facts facts nsid = option_flatten (slice_get facts.namespaces nsid)
@@ -80,6 +92,32 @@ answered_by facts (Some q) outcome bytes =
     if outcome.len == 4096 then with_answer
     (record facts { asked = None }) q.nsid bytes else record facts { asked = None }
 
-abbrev pub learned : DeviceFacts → Outcome → List ℕ → DeviceFacts
-learned facts outcome bytes =
+abbrev pub learned_of_question : DeviceFacts → Outcome → List ℕ → DeviceFacts
+learned_of_question facts outcome bytes =
     if is_answered facts.asked outcome then answered_by facts facts.asked outcome bytes else facts
+
+-- A command was placed: if it sets the identifier of this host, nothing is known of that any more.
+abbrev pub with_command : DeviceFacts → Bool → Placed → DeviceFacts
+with_command facts identifies outcome =
+    if identifies && (outcome.code == 0)
+    then record facts { identifying = Some outcome.ticket; host_identified = false } else facts
+
+-- the result of a poll is the answer to the last one of these commands, and whether it succeeded
+abbrev pub is_identity_answer : Option ℕ → Outcome → Bool
+is_identity_answer None outcome = false
+is_identity_answer (Some ticket) outcome = (outcome.code == 1) && (outcome.ticket == ticket)
+
+abbrev pub with_identity : DeviceFacts → Outcome → DeviceFacts
+with_identity facts outcome =
+    if is_identity_answer facts.identifying outcome
+    then record facts { identifying = None; host_identified = (outcome.sct == 0) && (outcome.sc == 0) } else facts
+
+abbrev pub learned : DeviceFacts → Outcome → List ℕ → DeviceFacts
+learned facts outcome bytes = with_identity (learned_of_question facts outcome bytes) outcome
+
+-- Register, Acquire and Release need the identifier of this host
+abbrev pub needs_identifier : Command → Bool
+needs_identifier ReservationRegister = true
+needs_identifier ReservationAcquire = true
+needs_identifier ReservationRelease = true
+needs_identifier other = false

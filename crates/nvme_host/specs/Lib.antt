@@ -4,7 +4,9 @@ pub mod Doorbells
 pub mod Calls
 pub mod Determined
 pub mod ExportsDetermined
+pub mod DeviceCommands
 pub mod Devices
+pub mod Events
 pub mod Examples
 pub mod Exports
 pub mod Refusals

@@ -1,5 +1,5 @@
 -- Why a call is not made: actions are pending, the controller does not run, or the device was not asked.
-use Rattle.std.specs.Prelude.{ℕ, if◌then◌else◌, is_none, Option, None, Some}
+use Rattle.std.specs.Prelude.{ℕ, ◌&&◌, not, if◌then◌else◌, is_none, Option, None, Some}
 use Rattle.nvme_spec.specs.declared.command.Command.{Command}
 use Rattle.nvme_device.specs.declared.admission.Span.{Span}
 use Rattle.nvme_host.specs.declared.open_driver.OpenDriver.{OpenDriver}
@@ -16,7 +16,8 @@ use Rattle.nvme_host.specs.declared.stage.Stage.TheVariants.{
   ShutDown,
 }
 use Rattle.nvme_host.specs.Devices.{admission_code}
-use Rattle.nvme_host.specs.Facts.{admission_on}
+use Rattle.nvme_host.specs.declared.facts.DeviceFacts.{DeviceFacts}
+use Rattle.nvme_host.specs.Facts.{admission_on, needs_identifier}
 use Rattle.nvme_host.specs.Recording.{is_pending}
 use Rattle.nvme_host.specs.Stages.{stage_refusal}
 
@@ -31,8 +32,14 @@ abbrev pub first_of : Option ℕ → Option ℕ → Option ℕ
 first_of None later = later
 first_of (Some code) later = Some code
 
+-- 66: the controller does not have the identifier of this host
+abbrev pub identifier_refusal : DeviceFacts → Command → Option ℕ
+identifier_refusal facts command = if needs_identifier command && not facts.host_identified then Some 66 else None
+
 abbrev pub request_refusal : OpenDriver → ℕ → Command → Span → Option ℕ
-request_refusal h nsid command span = first_of (stopped_by h) (admission_code (admission_on h.facts nsid command span))
+request_refusal h nsid command span =
+    first_of (stopped_by h)
+    (first_of (admission_code (admission_on h.facts nsid command span)) (identifier_refusal h.facts command))
 
 -- a bring-up needs a controller that is disabled, or continues with one that became ready
 abbrev pub bring_up_stage_refusal : Stage → Option ℕ

@@ -37,6 +37,8 @@ one_namespace = record {
   controller = Some (Ok (record { cntlid = 0; mdts = 0; oncs = 0; nn = 1; vwc = 1 }));
   namespaces = None ∷ Some (Ok (record { blocks = 100 })) ∷ replicate 63 None;
   asked = None;
+  identifying = None;
+  host_identified = false;
 }
 
 -- a driver that is up, with this next ticket, a request or none in slot 0, and these bytes in its window

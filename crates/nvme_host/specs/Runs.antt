@@ -26,6 +26,7 @@ use Rattle.nvme_driver.specs.declared.request.Request.{Request}
 use Rattle.nvme_driver.specs.declared.request.Request.TheVariants.{Identify}
 use Rattle.nvme_driver.specs.declared.slots.Waiting.{Waiting}
 use Rattle.nvme_driver.specs.Layout.{slot_count}
+use Rattle.nvme_driver.specs.Requests.{Asked}
 use Rattle.nvme_driver.specs.Drivers.{Driver, ends}
 use Rattle.nvme_driver.specs.Polls.{next_entry, waiting_at}
 use Rattle.nvme_driver.specs.Once.{times, borne}
@@ -40,6 +41,7 @@ use Rattle.nvme_host.specs.Doorbells.{head_of_lane}
 use Rattle.nvme_host.specs.Calls.{
   IsNew,
   Placing,
+  Commanding,
   Asking,
   Polling,
   Ringing,
@@ -56,12 +58,12 @@ use Rattle.nvme_host.specs.Completions.{StoringCompletion, StoringData}
 use Rattle.nvme_host.specs.Refusals.{request_refusal, stopped_by}
 
 -- The calls that may change an open driver: a request on a namespace is placed, with its command and its blocks; an
--- Identify is placed; a completion of a lane (queue pair), and bytes, are copied from the device; actions are taken;
--- and
--- so on.
+-- Identify is placed; a command that is no request is placed; a completion of a lane (queue pair), and bytes, are
+-- copied from the device; actions are taken; and so on.
 pub data Use : Type 0 where
   Places : ℕ → Command → Span → Request → Use
   Identifies : ℕ → ℕ → Use
+  Commands : Bool → Asked → Use
   Asks : ℕ → Use
   Polls : Use
   Rings : Use
@@ -112,6 +114,7 @@ delivered_by outcome = record {
 abbrev pub Quietly : Use → OpenDriver → OpenDriver → Type 0
 Quietly (Places nsid command span request) old new = ⊥
 Quietly (Identifies cns nsid) old new = ⊥
+Quietly (Commands identifies asked) old new = ⊥
 Quietly (Asks nsid) old new = ⊥
 Quietly Polls old new = ⊥
 Quietly Rings old new = (code : ℕ) × Ringing old code new
@@ -135,6 +138,8 @@ Used (Places nsid command span request) old tickets new =
     × (tickets ≡ given_by placed)
 Used (Identifies cns nsid) old tickets new =
     (placed : Placed) × Placing (stopped_by old) old (Identify cns nsid) placed new × (tickets ≡ given_by placed)
+Used (Commands identifies asked) old tickets new =
+    (placed : Placed) × Commanding (stopped_by old) old identifies asked placed new × (tickets ≡ given_by placed)
 Used (Asks nsid) old tickets new = (placed : Placed) × Asking old nsid placed new × (tickets ≡ given_by placed)
 Used Polls old tickets new =
     (before : List ℕ) × (outcome : Outcome) × (buffer : List ℕ) × Polling old before outcome new buffer

@@ -91,3 +91,5 @@ pub const PAST_THE_END: u32 = 63;
 pub const NSID_TOO_HIGH: u32 = 64;
 /// The time of a request is over: the controller must be reset first.
 pub const EXPIRED: u32 = 65;
+/// The controller does not have the identifier of this host.
+pub const NO_HOST_IDENTIFIER: u32 = 66;

@@ -1,6 +1,7 @@
 //! Worked examples of the definitions. Each is the contract of an empty function, proved by computing.
 
 mod calls;
+mod commands;
 mod ports;
 
 ghost use Rattle.std.specs.Prelude.{◌≡◌, ◌++◌, [], ◌∷◌, replicate, true, false};

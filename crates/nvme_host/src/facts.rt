@@ -9,6 +9,11 @@ ghost use Rattle.nvme_host.specs.Facts.{
   with_question,
   with_answer,
   learned,
+  learned_of_question,
+  with_command,
+  is_identity_answer,
+  with_identity,
+  needs_identifier as needs,
   admission_on,
 };
 
@@ -35,6 +40,20 @@ pub struct DeviceFacts {
     pub controller: Option<Result<ControllerFacts, ControllerFault>>,
     pub namespaces: [Option<Result<NamespaceFacts, NamespaceFault>>; 65],
     pub asked: Option<Question>,
+    /// The ticket of the last Set Features of the Host Identifier, until it is answered.
+    pub identifying: Option<u64>,
+    /// Whether the controller has the identifier of this host.
+    pub host_identified: bool,
+}
+
+/// Whether a command needs the identifier of this host.
+pub fn needs_identifier(command: Command) -> bool
+    ensures { result ≡ needs command }
+{
+    matches!(
+        command,
+        Command::ReservationRegister | Command::ReservationAcquire | Command::ReservationRelease
+    )
 }
 
 impl DeviceFacts {
@@ -46,6 +65,8 @@ impl DeviceFacts {
             controller: None,
             namespaces: [None; 65],
             asked: None,
+            identifying: None,
+            host_identified: false,
         }
     }
 
@@ -106,10 +127,50 @@ impl DeviceFacts {
         }
     }
 
-    /// Judges the answer to the last question, if this result of a poll is one with its data in `bytes`.
+    /// A command has this result; `identifies` if it sets the identifier of this host.
+    pub(crate) fn record_command(&mut self, placed: &Placed, identifies: bool)
+        ensures { self.new ≡ with_command self.old identifies placed.now }
+    {
+        if identifies && placed.code == codes::OK {
+            self.identifying = Some(placed.ticket);
+            self.host_identified = false;
+        }
+    }
+
+    /// Whether a result of a poll is the answer to the last Set Features of the Host Identifier.
+    fn is_identity_answer(&self, outcome: &Outcome) -> bool
+        ensures { result ≡ is_identity_answer self.now.identifying outcome.now }
+    {
+        match self.identifying {
+            Some(ticket) => outcome.code == codes::DONE && outcome.ticket == ticket,
+            None => false,
+        }
+    }
+
+    /// Learns whether the controller has the identifier of this host.
+    fn learn_identity(&mut self, outcome: &Outcome)
+        ensures { self.new ≡ with_identity self.old outcome.now }
+    {
+        if self.is_identity_answer(outcome) {
+            self.identifying = None;
+            self.host_identified = outcome.sct == 0 && outcome.sc == 0;
+        }
+    }
+
+    /// Learns from this result of a poll, with its data in `bytes`, if it answers the last question or the last Set
+    /// Features of the Host Identifier.
     pub(crate) fn learn(&mut self, outcome: &Outcome, bytes: &[u8])
         requires { 4096 ≤ length bytes.now }
         ensures { self.new ≡ learned self.old outcome.now bytes.now }
+    {
+        self.learn_answer(outcome, bytes);
+        self.learn_identity(outcome);
+    }
+
+    /// Judges the answer to the last question, if this result of a poll is one with its data in `bytes`.
+    fn learn_answer(&mut self, outcome: &Outcome, bytes: &[u8])
+        requires { 4096 ≤ length bytes.now }
+        ensures { self.new ≡ learned_of_question self.old outcome.now bytes.now }
     {
         if !self.is_answered(outcome) {
             return;

@@ -5,9 +5,11 @@
 
 mod bring_up;
 mod codes;
+pub mod commands;
 mod completions;
 mod devices;
 mod doorbells;
+pub mod events;
 mod examples;
 mod facts;
 mod handle;
@@ -19,11 +21,13 @@ mod open_driver;
 mod outcome;
 mod recording_port;
 pub mod requests;
+pub mod reservations;
 mod slot;
 mod stage;
 
 pub use completions::{CompletionData, NextCompletion};
 pub use devices::{Controller, Limits, Namespace};
+pub use events::Event;
 pub use handle::Handle;
 pub use outcome::{Outcome, Placed};
 pub use recording_port::Action;

@@ -1,12 +1,14 @@
 //! What a handle owns: a driver, its port, and what it knows of its device.
 
-ghost use Rattle.std.specs.Prelude.{◌≡◌, ◌≤◌, length};
+ghost use Rattle.std.specs.Prelude.{◌≡◌, ◌<◌, ◌≤◌, length, position, IfSome};
+ghost use Rattle.nvme_driver.specs.Layout.{slot_count};
 ghost use Rattle.nvme_spec.specs.Limits.{most_bytes};
 ghost use Rattle.nvme_driver.specs.declared.request.Request.TheVariants.{Identify};
 ghost use Rattle.nvme_host.specs.Calls.{
   IsNew,
   Polling,
   Placing,
+  Commanding,
   Asking,
   Ringing,
   Resetting,
@@ -16,19 +18,24 @@ ghost use Rattle.nvme_host.specs.Calls.{
   bears_live,
   waits,
 };
-ghost use Rattle.nvme_host.specs.Refusals.{blocked_by, stopped_by, request_refusal};
+ghost use Rattle.nvme_driver.specs.HostCommands.{asked_by_host};
+ghost use Rattle.nvme_host.specs.DeviceCommands.{live_slot};
+ghost use Rattle.nvme_host.specs.Refusals.{blocked_by, stopped_by, identifier_refusal, request_refusal};
 
 use crate::codes;
 use crate::devices::admission_code;
 use crate::doorbells::CC;
-use crate::facts::{DeviceFacts, HIGHEST_NSID};
+use crate::facts::{DeviceFacts, HIGHEST_NSID, needs_identifier};
 use crate::outcome::{Outcome, Placed};
 use crate::recording_port::{Action, RecordingPort};
 use crate::stage::Stage;
 use nvme_device::{Capabilities, Span};
-use nvme_driver::{Driver, Port, Request, Waiting};
+use nvme_driver::{Driver, HostCommand, Port, Request, Waiting};
 use nvme_mem::Window;
 use nvme_spec::Command;
+
+/// The number of requests that can wait for their answers.
+const SLOTS: usize = 24;
 
 /// EN with the entry sizes of the driver, and a normal shutdown in SHN.
 const SHUTTING_DOWN: u32 = 0x0046_4001;
@@ -48,6 +55,13 @@ fn waits(slots: &[Option<Waiting>], ticket: u64) -> bool
     ensures { result ≡ waits ticket slots.now }
 {
     slots.iter().any(|slot| bears_live(slot, ticket))
+}
+
+/// The first slot that holds a request with this ticket that was not aborted.
+fn bearing(slots: &[Option<Waiting>], ticket: u64) -> Option<usize>
+    ensures { result ≡ position (λ x. bears_live ticket x) slots.now }
+{
+    slots.iter().position(|slot| bears_live(slot, ticket))
 }
 
 /// A driver, its port, the stage of its controller, and what it knows of its device.
@@ -82,7 +96,7 @@ impl OpenDriver {
     }
 
     /// Why no request is sent now: actions are pending, or the controller does not run.
-    fn stopped(&self) -> Option<u32>
+    pub(crate) fn stopped(&self) -> Option<u32>
         ensures { result ≡ stopped_by self.now }
     {
         if self.port.is_pending() {
@@ -95,10 +109,23 @@ impl OpenDriver {
     pub(crate) fn request_refusal(&self, nsid: u32, command: Command, span: Span) -> Option<u32>
         ensures { result ≡ request_refusal self.now nsid command span }
     {
-        match self.stopped() {
-            Some(code) => Some(code),
-            None => admission_code(self.facts.admission(nsid, command, span)),
+        if let Some(code) = self.stopped() {
+            return Some(code);
         }
+        if let Some(code) = admission_code(self.facts.admission(nsid, command, span)) {
+            return Some(code);
+        }
+        self.identifier_refusal(command)
+    }
+
+    /// Why a command is not sent before the controller has the identifier of this host.
+    fn identifier_refusal(&self, command: Command) -> Option<u32>
+        ensures { result ≡ identifier_refusal self.now.facts command }
+    {
+        if needs_identifier(command) && !self.facts.host_identified {
+            return Some(codes::NO_HOST_IDENTIFIER);
+        }
+        None
     }
 
     /// Places a request, unless it is refused for this reason.
@@ -109,6 +136,35 @@ impl OpenDriver {
         match refusal {
             Some(code) => Placed::refused(code),
             None => Placed::of(self.driver.place(&mut self.port, request)),
+        }
+    }
+
+    /// Places a command that is no request, unless it is refused for this reason; `identifies` if it sets the
+    /// identifier of this host.
+    pub(crate) fn place_command(
+        &mut self,
+        refusal: Option<u32>,
+        identifies: bool,
+        command: &HostCommand<'_>,
+    ) -> Placed
+        ensures { Commanding refusal self.old identifies (asked_by_host command.now) result self.new }
+    {
+        if let Some(code) = refusal {
+            return Placed::refused(code);
+        }
+        let placed = Placed::of(self.driver.place_command(&mut self.port, command));
+        self.facts.record_command(&placed, identifies);
+        placed
+    }
+
+    /// The slot of the request with this ticket that waits and was not aborted.
+    pub(crate) fn live_slot(&self, ticket: u64) -> Option<usize>
+        ensures slot { result ≡ live_slot ticket self.now.driver.slots }
+        ensures bound { IfSome result (λ slot. slot < slot_count) }
+    {
+        match bearing(self.driver.slots(), ticket) {
+            Some(slot) if slot < SLOTS => Some(slot),
+            _ => None,
         }
     }
 

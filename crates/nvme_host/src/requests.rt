@@ -159,8 +159,9 @@ fn sent(slba: u64, bytes: &[u8]) -> Span
     }
 }
 
+/// Places a request on a namespace.
 #[inline(always)]
-fn place(
+pub fn place(
     alloc: Global,
     host: &mut Handle,
     request: Request<'_>,

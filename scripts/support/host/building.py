@@ -9,7 +9,7 @@ from support.library.building import call, is_newer, proved_archive, whole_objec
 CRATE = "nvme_host"
 # The C that a program compiles with the library: the port, and VFIO.
 SOURCES = ("port.c", "port.h", "snapshot.h", "vfio.c", "vfio.h")
-PROGRAM = ("nvmehost.c", "bench.c", "port.c", "vfio.c")
+PROGRAM = ("nvmehost.c", "session.c", "options.c", "reservations.c", "events.c", "bench.c", "port.c", "vfio.c")
 FLAGS = ["-std=c11", "-D_GNU_SOURCE", "-O2", "-Wall", "-Wextra", "-Werror"]
 PKGCONFIG = """prefix=${{pcfiledir}}/../..
 includedir=${{prefix}}/include

@@ -12,10 +12,13 @@ TYPES = {
     "Placed": ["struct nvmehost_placed"], "Limits": ["struct nvmehost_limits"],
     "NextCompletion": ["struct nvmehost_next_completion"], "CompletionData": ["struct nvmehost_completion_data"],
     "Controller": ["struct nvmehost_controller"], "Namespace": ["struct nvmehost_namespace"],
+    "Event": ["struct nvmehost_event"], "bool": ["bool"],
 }
 STRUCTS = {"Action": "action", "Outcome": "outcome", "Placed": "placed", "Limits": "limits",
            "NextCompletion": "next_completion", "CompletionData": "completion_data", "Controller": "controller",
-           "Namespace": "namespace"}
+           "Namespace": "namespace", "Event": "event"}
+# Fields whose names in C are keywords of Rattle.
+RENAMED = {"event_type": "type"}
 DECLARED = re.compile(r"^((?:struct )?\w+) (nvmehost_\w+)\(([^)]*)\);", re.M)
 
 
@@ -39,7 +42,7 @@ def declarations(header):
 
 def rattle_fields(text, name):
     body = re.search(rf"pub struct {name} \{{(.*?)\n\}}", text, re.S).group(1)
-    return [(field, TYPES[kind][0]) for field, kind in re.findall(r"^\s*pub (\w+): (.+),$", body, re.M)]
+    return [(RENAMED.get(field, field), TYPES[kind][0]) for field, kind in re.findall(r"^\s*pub (\w+): (.+),$", body, re.M)]
 
 
 def c_fields(header, name):
@@ -53,12 +56,18 @@ def numbers(header):
             re.findall(r"^\s*NVMEHOST_(\w+) = (\d+)", without_comments(header), re.M)}
 
 
+def without_kinds(found):
+    """Numbers without the kinds of events, which tests/reservations.c compares."""
+    return {name: number for name, number in found.items() if not name.startswith("EVENT_")}
+
+
 def differences(top, header):
     """The differences between the header and the crate, line by line."""
     files = sorted((top / "crates/nvme_host/src").glob("*.rt"))
     text = "\n".join(it.read_text(encoding="utf-8") for it in files)
-    crate_numbers = {name: int(number) for name, number in NUMBER.findall(text)}
-    pairs = [("exports", exports(text), declarations(header)), ("numbers", crate_numbers, numbers(header))]
+    crate_numbers = without_kinds({name: int(number) for name, number in NUMBER.findall(text)})
+    pairs = [("exports", exports(text), declarations(header)),
+             ("numbers", crate_numbers, without_kinds(numbers(header)))]
     pairs += [(it, rattle_fields(text, it), c_fields(header, STRUCTS[it])) for it in STRUCTS]
     for what, crate, c in pairs:
         if not crate:

@@ -7,42 +7,27 @@ import subprocess
 
 from support import clippy
 from support.host import building, header
+from support.host.commands import ADDRESS, BLOCK_COMMANDS, OPTION_COMMANDS, OUTCOMES
 from support.library.trying import NEEDED, STRICT
 
 TIME = 120
 # The tickets that are issued over a device that writes anything; the completions of a race, its seconds, and the most races.
 TICKETS, COMPLETIONS, SECONDS, RACES = 1000000, 300000, 1, 8
-ADDRESS = "0000:00:04.0"
-# Commands over a controller in memory, one after the other: the words, the length of the input, the status, and the
-# output or the object that it has as JSON, of the bytes that were written.
-COMMANDS = (
-    ([ADDRESS, "write", "1", "10"], 1024, 0, b""),
-    ([ADDRESS, "read", "1", "10", "2"], 0, 0, lambda blocks: blocks),
-    (["--json", ADDRESS, "read", "1", "11", "1"], 0, 0,
-     lambda blocks: {"command": "read", "nsid": 1, "block": 11, "count": 1, "data": blocks[512:].hex()}),
-    ([ADDRESS, "compare", "1", "10"], 1024, 0, b""), ([ADDRESS, "compare", "1", "12"], 512, 3, b""),
-    (["--json", ADDRESS, "compare", "1", "10"], 512, 0,
-     {"command": "compare", "nsid": 1, "block": 10, "count": 1, "equal": True}),
-    (["--json", ADDRESS, "compare", "1", "12"], 512, 3,
-     {"command": "compare", "nsid": 1, "block": 12, "count": 1, "equal": False}),
-    (["--json", ADDRESS, "write", "1", "12"], 512, 0, {"command": "write", "nsid": 1, "block": 12, "count": 1}),
-    (["--json", ADDRESS, "zeroes", "1", "10", "2"], 0, 0, {"command": "zeroes", "nsid": 1, "block": 10, "count": 2}),
-    ([ADDRESS, "read", "1", "11", "1"], 0, 0, bytes(512)), (["--json", ADDRESS, "flush", "1"], 0, 0,
-                                                            {"command": "flush", "nsid": 1}),
-    ([ADDRESS, "read", "2", "0", "1"], 0, 1, b""), ([ADDRESS, "read", "1", "2048", "1"], 0, 1, b""),
-    ([ADDRESS, "write", "1", "0"], 100, 1, b""),
-    ([ADDRESS, "identify"], 0, 0, b"model \nserial TEST\nfirmware \ncntlid 0\nnn 1\nmdts 5\noncs 0009\nvwc 0\n"
-                                  b"namespace 1: 2048 blocks of 512 bytes\n"),
-    (["--json", ADDRESS, "identify"], 0, 0,
-     {"model": "", "serial": "TEST", "firmware": "", "cntlid": 0, "nn": 1, "mdts": 5, "oncs": "0009", "vwc": 0,
-      "namespaces": [{"nsid": 1, "blocks": 2048, "block_size": 512}]}),
-)
 # What bench prints: a line of the requests, and one of their latencies.
 BENCH = re.compile(r"read: (\d+) requests in \d+\.\d s, IOPS \d+, \d+\.\d MiB/s\n"
                    r"latency in microseconds: least [\d.]+, mean [\d.]+, p50 [\d.]+, p90 [\d.]+, p99 [\d.]+, p99\.9 [\d.]+, "
                    r"p99\.99 [\d.]+, most [\d.]+\n")
+VARIABLE = re.compile(r"[A-Z_]+=")
 LATENCIES = ("least", "p50", "p90", "p99", "p99.9", "p99.99", "most")
 SANITIZERS = ["-fsanitize=address,undefined", "-fno-sanitize-recover=all"]
+
+
+def parsed(text):
+    """The object that a line of JSON has, or the text if it is none."""
+    try:
+        return json.loads(text)
+    except ValueError:
+        return text
 
 
 class Trial:
@@ -57,9 +42,9 @@ class Trial:
         self.failed += bool(problem)
         print(f"host: {what}: FAILED\n{problem}" if problem else f"host: {what}: passed", flush=True)
 
-    def run(self, words, env=None):
+    def run(self, words, env=None, time=TIME):
         """Runs a command: its status, and all that it wrote."""
-        ran = subprocess.run([str(it) for it in words], cwd=self.room, stdin=subprocess.DEVNULL, timeout=TIME, env=env,
+        ran = subprocess.run([str(it) for it in words], cwd=self.room, stdin=subprocess.DEVNULL, timeout=time, env=env,
                              stdout=subprocess.PIPE, stderr=subprocess.STDOUT, text=True, errors="replace")
         return ran.returncode, ran.stdout
 
@@ -86,9 +71,9 @@ class Trial:
                                  "-o", "header.o"])
         self.check("the header in C++", status and text)
 
-    def honest(self, what, flags):
-        program = self.room / "honest"
-        problem = self.compiled(program, ("tests/honest.c", "tests/device.c", "port.c"), flags)
+    def honest(self, name, what, flags):
+        program = self.room / name
+        problem = self.compiled(program, (f"tests/{name}.c", "tests/device.c", "port.c"), flags)
         if not problem:
             status, text = self.run([program])
             problem = (status or text) and f"status {status}\n{text}"
@@ -99,7 +84,7 @@ class Trial:
         program, sources = self.room / "hostile", ("tests/hostile.c", "tests/device.c", "port.c")
         problem = self.compiled(program, sources)
         if not problem:
-            status, text = self.run([program, str(TICKETS), "1"])
+            status, text = self.run([program, str(TICKETS), "1"], time=5 * TIME)
             print(f"host: {text.strip()}", flush=True)
             problem = status and text
         self.check("a device that writes anything", problem)
@@ -138,6 +123,14 @@ class Trial:
                 ([address, "bench", "read", "1", "257", "4", "1"], 2, "usage: "),
                 ([address, "bench", "read", "1", "8", "25", "1"], 2, "usage: "),
                 ([address, "bench", "read", "1", "8", "4", "0"], 2, "usage: "),
+                (["--timeout", address, "identify"], 2, "usage: "), (["--timeout", "0", address, "events"], 2, "usage: "),
+                ([address, "events", "1"], 2, "usage: "), ([address, "resv-report"], 2, "usage: "),
+                ([address, "resv-report", "1", "--crkey", "1"], 2, "usage: "),
+                ([address, "resv-report", "1", "--host-identifier", "12"], 2,
+                 "nvmehost: resv-report needs --host-identifier with 32 hexadecimal digits\n"),
+                ([address, "resv-release", "1", "--rrela", "8"], 2, "usage: "),
+                ([address, "resv-register", "1", "--nrkey", "1"], 2,
+                 "nvmehost: resv-register needs --host-identifier with 32 hexadecimal digits\n"),
                 (["nonsense", "identify"], 2, "is no PCI address"),
                 ([address, "identify"], 1, f"nvmehost: {address}: there is no such PCI device; lspci -D lists them\n"),
                 (["--help"], 0, "usage: ")):
@@ -162,20 +155,34 @@ class Trial:
     def commands(self):
         """The program over a controller in memory: what it prints, as text and as JSON, and its status."""
         program = self.room / "memory-nvmehost"
-        problem = self.compiled(program, ("nvmehost.c", "bench.c", "port.c", "tests/memory_vfio.c", "tests/device.c"))
+        parts = [it for it in building.PROGRAM if it != "vfio.c"]
+        problem = self.compiled(program, (*parts, "tests/memory_vfio.c", "tests/device.c"))
         if problem:
             self.check("the program over a controller in memory", problem)
             return
         self.bench(program)
         blocks = bytes(range(256)) * 4
-        for words, given, wanted, said in COMMANDS:
+        for words, given, wanted, said in BLOCK_COMMANDS:
             ran = subprocess.run([str(program), *words], cwd=self.room, input=blocks[:given], capture_output=True,
                                  timeout=TIME)
-            printed = json.loads(ran.stdout) if words[0] == "--json" else ran.stdout
+            printed = parsed(ran.stdout) if words[0] == "--json" else ran.stdout
             expected = said(blocks) if callable(said) else said
             problem = (ran.returncode, printed) != (wanted, expected) and f"status {ran.returncode}, {printed}"
             self.check(f"nvmehost {' '.join(words)}", problem)
+        self.options(program)
 
+    def options(self, program):
+        """Commands with options, and how the program reports a request whose time is over."""
+        for words, wanted, said, *complaint in (*OPTION_COMMANDS, *OUTCOMES):
+            variables = dict(it.split("=") for it in words if VARIABLE.match(it))
+            given = [it for it in words if not VARIABLE.match(it)]
+            ran = subprocess.run([str(program), *given], cwd=self.room, stdin=subprocess.DEVNULL, capture_output=True,
+                                 timeout=TIME, text=True, env={**os.environ, **variables})
+            printed = parsed(ran.stdout) if isinstance(said, dict) else ran.stdout
+            expected = complaint[0] if complaint else ""
+            is_right = (ran.returncode, printed, ran.stderr) == (wanted, said, expected)
+            problem = not is_right and f"status {ran.returncode}, {printed}{ran.stderr}"
+            self.check(f"nvmehost {' '.join(words)}", problem)
 
     def bench(self, program):
         """What bench prints of requests to a controller in memory, and that its Writes reach all of the namespace."""
@@ -207,9 +214,11 @@ def run(top, room):
     """Tests what is under the folder `installed` of a room; the status."""
     trial = Trial(top, room)
     trial.interface()
-    trial.honest("controllers in memory", [])
-    if trial.sanitizes():
-        trial.honest("controllers in memory under the sanitizers", SANITIZERS)
+    is_sanitizing = trial.sanitizes()
+    for name, what in (("honest", "controllers in memory"), ("reservations", "reservations, events and Abort")):
+        trial.honest(name, what, [])
+        if is_sanitizing:
+            trial.honest(name, f"{what} under the sanitizers", SANITIZERS)
     trial.hostile()
     trial.race()
     trial.program()

@@ -111,7 +111,7 @@ pub struct Controller {
 
 /// The proved driver of one controller. [`crate::Port`] does what its calls ask for.
 pub struct Driver {
-    handle: raw::Handle,
+    pub(crate) handle: raw::Handle,
 }
 
 fn judged(code: u32) -> Result<(), Fault> {
@@ -122,7 +122,7 @@ fn judged(code: u32) -> Result<(), Fault> {
     }
 }
 
-fn placed(placed: raw::Placed) -> Result<Ticket, Fault> {
+pub(crate) fn placed(placed: raw::Placed) -> Result<Ticket, Fault> {
     judged(placed.code).map(|()| Ticket(placed.ticket))
 }
 

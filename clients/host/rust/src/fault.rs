@@ -15,6 +15,10 @@ pub struct Status {
 impl Status {
     /// Successful Completion.
     pub const SUCCESS: Status = Status { sct: 0, sc: 0 };
+    /// Command Abort Requested.
+    pub const ABORT_REQUESTED: Status = Status { sct: 0, sc: 7 };
+    /// Reservation Conflict.
+    pub const RESERVATION_CONFLICT: Status = Status { sct: 0, sc: 0x83 };
     /// Compare Failure.
     pub const COMPARE_FAILURE: Status = Status { sct: 2, sc: 0x85 };
 }
@@ -100,6 +104,7 @@ faults! {
     PastTheEnd 63 "blocks after the last one of the namespace (NSZE)"
     NsidTooHigh 64 "namespaces above 64 are not supported"
     Expired 65 "the time of a request is over: reset the controller first"
+    NoHostIdentifier 66 "the controller does not have the identifier of this host"
 }
 
 impl Error for Fault {}

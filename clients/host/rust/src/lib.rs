@@ -50,14 +50,18 @@
 #![allow(clippy::doc_markdown)]
 
 mod driver;
+mod events;
 mod fault;
 mod mapped;
 mod numbers;
 mod port;
 #[allow(unsafe_code)]
 mod raw;
+mod reservations;
 
 pub use driver::{Action, BringUp, Controller, Driver, Limits, NextCompletion, Outcome, Ticket, BUFFER, WINDOW};
+pub use events::{Event, EventKind};
 pub use fault::{Fault, Status};
 pub use mapped::Mapped;
 pub use port::{Device, Port};
+pub use reservations::{AcquireAction, Persistence, RegisterAction, ReleaseAction, ReservationType};

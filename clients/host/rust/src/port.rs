@@ -192,6 +192,7 @@ impl<D: Device> Port<D> {
         for action in self.driver.actions() {
             match action {
                 Action::Write { offset, value } => self.device.write32(offset, value),
+                Action::Store { length: 0, .. } => {}
                 Action::Store { address, length } => {
                     let bytes = self.copy.get_mut(..length).ok_or(Fault::Outside)?;
                     self.driver.load(address, bytes)?;

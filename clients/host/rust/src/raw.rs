@@ -80,6 +80,15 @@ pub struct Namespace {
     pub code: u32,
 }
 
+#[repr(C)]
+#[derive(Clone, Copy, Debug, Default)]
+pub struct Event {
+    pub kind: u32,
+    pub r#type: u8,
+    pub info: u8,
+    pub log_page: u8,
+}
+
 /// `struct nvmehost`.
 #[repr(C)]
 pub struct Handle {
@@ -91,7 +100,9 @@ pub struct Handle {
 unsafe impl Send for Handle {}
 
 mod foreign {
-    use super::{Action, CompletionData, Controller, Handle, Limits, Namespace, NextCompletion, Outcome, Placed};
+    use super::{
+        Action, CompletionData, Controller, Event, Handle, Limits, Namespace, NextCompletion, Outcome, Placed,
+    };
 
     extern "C" {
         pub fn nvmehost_open(host: &mut Handle, first_ticket: u64) -> u32;
@@ -111,6 +122,23 @@ mod foreign {
         pub fn nvmehost_compare(host: &mut Handle, nsid: u32, slba: u64, bytes: *const u8, len: usize) -> Placed;
         pub fn nvmehost_write_zeroes(host: &mut Handle, nsid: u32, slba: u64, blocks: u32) -> Placed;
         pub fn nvmehost_flush(host: &mut Handle, nsid: u32) -> Placed;
+        pub fn nvmehost_set_host_identifier(host: &mut Handle, identifier: &[u8; 16]) -> Placed;
+        pub fn nvmehost_register(
+            host: &mut Handle,
+            nsid: u32,
+            action: u8,
+            iekey: bool,
+            cptpl: u8,
+            crkey: u64,
+            nrkey: u64,
+        ) -> Placed;
+        pub fn nvmehost_acquire(host: &mut Handle, nsid: u32, action: u8, rtype: u8, crkey: u64, prkey: u64) -> Placed;
+        pub fn nvmehost_release(host: &mut Handle, nsid: u32, action: u8, rtype: u8, crkey: u64) -> Placed;
+        pub fn nvmehost_report(host: &mut Handle, nsid: u32, dwords: u32) -> Placed;
+        pub fn nvmehost_await_event(host: &mut Handle) -> Placed;
+        pub fn nvmehost_event(dw0: u32) -> Event;
+        pub fn nvmehost_log(host: &mut Handle, nsid: u32, lid: u8, retain: bool, dwords: u32) -> Placed;
+        pub fn nvmehost_abort(host: &mut Handle, ticket: u64) -> Placed;
         pub fn nvmehost_ring(host: &mut Handle) -> u32;
         pub fn nvmehost_poll(host: &mut Handle, buffer: *mut u8, len: usize) -> Outcome;
         pub fn nvmehost_controller(host: &mut Handle) -> Controller;
@@ -126,6 +154,11 @@ mod foreign {
 pub fn health(csts: u32) -> u32 {
     // SAFETY: it takes a number alone.
     unsafe { foreign::nvmehost_health(csts) }
+}
+
+pub fn event(dw0: u32) -> Event {
+    // SAFETY: it takes a number alone.
+    unsafe { foreign::nvmehost_event(dw0) }
 }
 
 // Each call keeps what the first lines of this file say.
@@ -177,6 +210,31 @@ impl Handle {
     }
     pub fn flush(&mut self, nsid: u32) -> Placed {
         unsafe { foreign::nvmehost_flush(self, nsid) }
+    }
+    pub fn set_host_identifier(&mut self, identifier: &[u8; 16]) -> Placed {
+        unsafe { foreign::nvmehost_set_host_identifier(self, identifier) }
+    }
+    pub fn register(&mut self, nsid: u32, action: u8, key: Option<u64>, cptpl: u8, nrkey: u64) -> Placed {
+        let (iekey, crkey) = (key.is_none(), key.unwrap_or(0));
+        unsafe { foreign::nvmehost_register(self, nsid, action, iekey, cptpl, crkey, nrkey) }
+    }
+    pub fn acquire(&mut self, nsid: u32, action: u8, rtype: u8, crkey: u64, prkey: u64) -> Placed {
+        unsafe { foreign::nvmehost_acquire(self, nsid, action, rtype, crkey, prkey) }
+    }
+    pub fn release(&mut self, nsid: u32, action: u8, rtype: u8, crkey: u64) -> Placed {
+        unsafe { foreign::nvmehost_release(self, nsid, action, rtype, crkey) }
+    }
+    pub fn report(&mut self, nsid: u32, dwords: u32) -> Placed {
+        unsafe { foreign::nvmehost_report(self, nsid, dwords) }
+    }
+    pub fn await_event(&mut self) -> Placed {
+        unsafe { foreign::nvmehost_await_event(self) }
+    }
+    pub fn log(&mut self, nsid: u32, lid: u8, retain: bool, dwords: u32) -> Placed {
+        unsafe { foreign::nvmehost_log(self, nsid, lid, retain, dwords) }
+    }
+    pub fn abort(&mut self, ticket: u64) -> Placed {
+        unsafe { foreign::nvmehost_abort(self, ticket) }
     }
     pub fn ring(&mut self) -> u32 {
         unsafe { foreign::nvmehost_ring(self) }

@@ -1,4 +1,5 @@
-//! A controller in memory: Identify, the creation of one queue pair, and commands on one namespace, as the standard asks.
+//! A controller in memory: Identify, the creation of one queue pair, the Host Identifier, events, Abort of one that is
+//! awaited, and commands on one namespace, with the reservations of one host, as the standard asks.
 
 use nvmehost::{Device, WINDOW};
 
@@ -17,6 +18,8 @@ const SUCCESS: u32 = 0;
 const INVALID_FIELD: u32 = 2;
 const OUT_OF_RANGE: u32 = 0x80;
 const COMPARE_FAILURE: u32 = 0x285;
+const ABORT_REQUESTED: u32 = 7;
+const CONFLICT: u32 = 0x83;
 
 /// The controller, and what differs from a good one.
 pub struct Controller {
@@ -26,6 +29,13 @@ pub struct Controller {
     head: [usize; 2],
     tail: [usize; 2],
     phase: [bool; 2],
+    host: Option<[u8; 16]>,
+    /// The registered key, the type of the reservation, and whether both outlast power.
+    key: Option<u64>,
+    rtype: u8,
+    ptpls: bool,
+    /// The identifier of the request that awaits an event.
+    awaiting: Option<u32>,
     /// It fetches no command.
     pub is_silent: bool,
     /// Its registers read as ones.
@@ -46,6 +56,11 @@ impl Controller {
             head: [0; 2],
             tail: [0; 2],
             phase: [true; 2],
+            host: None,
+            key: None,
+            rtype: 0,
+            ptpls: false,
+            awaiting: None,
             is_silent: false,
             is_removed: false,
             lbads: 9,
@@ -70,6 +85,7 @@ impl Controller {
         let shutdown = if Self::word(&self.registers, CC) >> 14 & 3 == 1 { 8 } else { 0 };
         if Self::word(&self.registers, CSTS) & 1 != enabled {
             (self.head, self.tail, self.phase) = ([0; 2], [0; 2], [true; 2]);
+            (self.host, self.awaiting) = (None, None);
             (0..2).for_each(|queue| self.set_register(DOORBELLS + 8 * queue, 0));
         }
         self.set_register(CSTS, enabled | shutdown);
@@ -87,30 +103,107 @@ impl Controller {
         let at = 2 * PAGE * queue + 64 * self.head[queue];
         let entry = self.memory[at..at + 64].to_vec();
         self.head[queue] = (self.head[queue] + 1) % ENTRIES;
-        let status = if queue == 0 { self.admin(&entry) } else { self.on_blocks(&entry) };
         let cid = u32::from(entry[2]) | u32::from(entry[3]) << 8;
+        if (queue, entry[0]) == (0, 0x0c) {
+            self.awaiting = Some(cid);
+            return;
+        }
+        let mut dw0 = 0;
+        let status = match (queue, entry[0]) {
+            (0, 8) => {
+                dw0 = self.abort(Self::word(&entry, 40));
+                SUCCESS
+            }
+            (0, _) => self.admin(&entry),
+            (_, 0x0d | 0x0e | 0x11 | 0x15) => self.on_reservation(&entry),
+            _ => self.on_blocks(&entry),
+        };
+        self.post(queue, cid, status, dw0);
+    }
+
+    fn post(&mut self, queue: usize, cid: u32, status: u32, dw0: u32) {
         let head = self.head[queue] as u32 | (queue as u32) << 16;
         let to = PAGE + 2 * PAGE * queue + 16 * self.tail[queue];
-        for (i, word) in [0, 0, head, cid | u32::from(self.phase[queue]) << 16 | status << 17].iter().enumerate() {
+        for (i, word) in [dw0, 0, head, cid | u32::from(self.phase[queue]) << 16 | status << 17].iter().enumerate() {
             self.memory[to + 4 * i..to + 4 * i + 4].copy_from_slice(&word.to_le_bytes());
         }
         self.tail[queue] = (self.tail[queue] + 1) % COMPLETIONS;
         self.phase[queue] ^= self.tail[queue] == 0;
     }
 
+    /// There is an event, with this double word 0 of the answer.
+    #[allow(dead_code)]
+    pub fn raise(&mut self, dw0: u32) {
+        let cid = self.awaiting.take().unwrap();
+        self.post(0, cid, SUCCESS, dw0);
+    }
+
+    /// Double word 0 of the answer to an Abort, after the answer to what it aborts.
+    fn abort(&mut self, cdw10: u32) -> u32 {
+        match self.awaiting {
+            Some(cid) if cdw10 == cid << 16 => {
+                self.awaiting = None;
+                self.post(0, cid, ABORT_REQUESTED, 0);
+                0
+            }
+            _ => 1,
+        }
+    }
+
     fn admin(&mut self, entry: &[u8]) -> u32 {
-        if entry[0] != 6 {
-            return SUCCESS;
+        let (mut bytes, to) = (vec![0; PAGE], Self::qword(entry, 24) as usize);
+        match entry[0] {
+            9 => {
+                if (Self::word(entry, 40), Self::word(entry, 44)) != (0x81, 1) {
+                    return INVALID_FIELD;
+                }
+                self.host = self.memory[to..to + 16].try_into().ok();
+            }
+            // The log page has its own identifier in each byte.
+            2 => {
+                let length = 4 * (Self::word(entry, 40) as usize / 0x10000 + 1);
+                self.memory[to..to + length].fill(entry[40]);
+            }
+            6 => {
+                if Self::word(entry, 40) == 1 {
+                    (bytes[77], bytes[111], bytes[512], bytes[513], bytes[516], bytes[520]) =
+                        (5, 1, 0x66, 0x44, 1, 0x29);
+                } else if Self::word(entry, 4) == 1 {
+                    bytes[..8].copy_from_slice(&BLOCKS.to_le_bytes());
+                    bytes[130] = self.lbads;
+                }
+                self.memory[to..to + PAGE].copy_from_slice(&bytes);
+            }
+            _ => {}
         }
-        let mut bytes = vec![0; PAGE];
-        if Self::word(entry, 40) == 1 {
-            (bytes[77], bytes[111], bytes[512], bytes[513], bytes[516], bytes[520]) = (5, 1, 0x66, 0x44, 1, 9);
-        } else if Self::word(entry, 4) == 1 {
-            bytes[..8].copy_from_slice(&BLOCKS.to_le_bytes());
-            bytes[130] = self.lbads;
-        }
+        SUCCESS
+    }
+
+    /// Register, Acquire and Release by the current key; Preempt is like Acquire.
+    fn on_reservation(&mut self, entry: &[u8]) -> u32 {
         let to = Self::qword(entry, 24) as usize;
-        self.memory[to..to + PAGE].copy_from_slice(&bytes);
+        let (cdw10, keys) = (Self::word(entry, 40), [Self::qword(&self.memory, to), Self::qword(&self.memory, to + 8)]);
+        let (action, is_current) = (cdw10 & 7, cdw10 & 8 != 0 || self.key == Some(keys[0]));
+        if entry[0] == 0x0d && cdw10 >> 30 != 0 {
+            self.ptpls = cdw10 >> 30 == 3;
+        }
+        match entry[0] {
+            0x0e => {
+                let mut bytes = [0; 128];
+                (bytes[4], bytes[5], bytes[9]) = (self.rtype, u8::from(self.key.is_some()), u8::from(self.ptpls));
+                bytes[72..80].copy_from_slice(&self.key.unwrap_or_default().to_le_bytes());
+                bytes[80..96].copy_from_slice(&self.host.unwrap_or_default());
+                self.memory[to..to + 128].copy_from_slice(&bytes);
+            }
+            0x0d if action == 0 && self.key.is_none() => self.key = Some(keys[1]),
+            _ if !is_current || (entry[0] == 0x0d && action == 0) => return CONFLICT,
+            0x0d => self.key = (action == 2).then_some(keys[1]),
+            0x11 => self.rtype = entry[41],
+            _ => {
+                self.rtype = 0;
+                self.key = self.key.filter(|_| action == 0);
+            }
+        }
         SUCCESS
     }
 
