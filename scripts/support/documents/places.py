@@ -15,7 +15,7 @@ SOUGHT = re.compile(r"[Ss]earch for `(\w+)`")
 HEADING = re.compile(r"^Adding ")
 IMPORT = re.compile(r"^(?:ghost )?(?:pub )?use [^{\n]*(?:\{[^}]*\})?.*$", re.M)
 # Files that speak of a member by choice: examples, laws, tests and measurements.
-BY_CHOICE = re.compile(r"/(?:examples|laws|tests)(?:/|\.rt$)|_examples\.rt$|crates/nvme_bench/")
+BY_CHOICE = re.compile(r"/(?:examples|laws|tests)(?:/|\.rt$)|_examples\.rt$|crates/(?:nvme_bench|definition_examples)/")
 
 
 def files_with(top: Path, word: str) -> Iterator[Path]:

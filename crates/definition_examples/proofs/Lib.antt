@@ -1,0 +1,7 @@
+mod SpecBrought
+mod SpecCached
+mod SpecCalls
+mod SpecLent
+mod SpecMemory
+mod SpecQueues
+mod TextLiterals
