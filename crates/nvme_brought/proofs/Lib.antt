@@ -1,2 +1,4 @@
 pub mod Overlay
+pub mod InRoom
+pub mod Puts
 pub mod CallLaws

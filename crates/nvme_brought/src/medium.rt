@@ -1,6 +1,21 @@
 //! A medium of brought blocks.
 
-ghost use Rattle.std.specs.Prelude.{◌≡◌, ◌+◌, ◌*◌, ◌<◌, ◌≤◌, ◌^◌, length, IfOk, IfErr, OnOk, OnErr};
+ghost use Rattle.std.specs.Prelude.{
+  ◌≡◌,
+  ◌+◌,
+  ◌*◌,
+  ◌/◌,
+  ◌%◌,
+  ◌<◌,
+  ◌≤◌,
+  ◌^◌,
+  length,
+  true,
+  IfOk,
+  IfErr,
+  OnOk,
+  OnErr,
+};
 
 use crate::{Disk, Room};
 use nvme_medium::{Medium, MediumFault};
@@ -19,8 +34,11 @@ pub struct BroughtMedium {
 }
 
 impl BroughtMedium {
+    ghost use Rattle.nvme_spec.specs.Blocks.{CountsFaults, StopsWriting};
     ghost use Rattle.nvme_spec.specs.Bytes.{with_bytes};
-    ghost use Rattle.nvme_brought.specs.Brought.{content_of, with_room, HasNothing, Fails};
+    ghost use Rattle.nvme_spec.specs.MediumCalls.{MakesInOrder, writes_from};
+    ghost use Rattle.nvme_medium.specs.Reading.{ReadsBlocks};
+    ghost use Rattle.nvme_brought.specs.Brought.{content_of, with_room, HasNothing, Fails, brought_step};
 
     /// A medium over a disk, without a block at hand.
     pub fn of(disk: Disk) -> BroughtMedium
@@ -71,6 +89,42 @@ impl BroughtMedium {
         room
     }
 
+    /// Reads blocks from `first` onto all of `target`, one after the other, up to the first that is not at hand.
+    fn read_each(&mut self, first: u64, target: &mut [u8]) -> Result<(), MediumFault>
+        requires whole { length target.old % 512 ≡ 0 }
+        requires within { 512 * first + length target.old ≤ 512 * self.old.disk.blocks }
+        ensures reads { ReadsBlocks brought_step true (content_of self.old) first (length target.old / 512) target.old
+            target.new self.old result self.new }
+        ensures kept { content_of self.new ≡ content_of self.old }
+        ensures size { self.new.disk.blocks ≡ self.old.disk.blocks }
+        ensures count { CountsFaults self.old.failures self.new.failures result }
+    {
+        for j in 0..target.len() / 512 {
+            self.read_onto(first + j as u64, &mut target[512 * j..512 * j + 512])?;
+        }
+        Ok(())
+    }
+
+    /// Writes one or more blocks from `first`, one after the other, up to the first that has no place in the room.
+    fn write_each(&mut self, first: u64, bytes: &[u8]) -> Result<(), MediumFault>
+        requires whole { length bytes.now % 512 ≡ 0 }
+        requires within { 512 * first + length bytes.now ≤ 512 * self.old.disk.blocks }
+        ensures written { OnOk result
+            (content_of self.new ≡ with_bytes (content_of self.old) (512 * first) bytes.now) }
+        ensures fault { OnErr result
+            (StopsWriting first bytes.now (content_of self.old) (content_of self.new)) }
+        ensures calls { MakesInOrder brought_step (writes_from first bytes.now) (length bytes.now / 512) self.old
+            result self.new }
+        ensures size { self.new.disk.blocks ≡ self.old.disk.blocks }
+        ensures count { CountsFaults self.old.failures self.new.failures result }
+    {
+        for j in 0..bytes.len() / 512 {
+            let block = bytes[512 * j..512 * j + 512].as_array::<512>().unwrap();
+            self.write(first + j as u64, block)?;
+        }
+        Ok(())
+    }
+
     /// Counts a failure.
     fn fail(&mut self) -> MediumFault
         ensures { Fails self.old self.new }
@@ -81,7 +135,6 @@ impl BroughtMedium {
 }
 
 impl Medium for BroughtMedium {
-    ghost use Rattle.std.specs.Prelude.{true};
     ghost use Rattle.nvme_brought.specs.Brought.{content_of, brought_step};
     ghost use Rattle.nvme_brought.specs.Whole.{content_is_whole};
 
@@ -111,11 +164,35 @@ impl Medium for BroughtMedium {
         }
     }
 
+    fn read_onto(&mut self, i: u64, target: &mut [u8]) -> Result<(), MediumFault> {
+        let Some(nth) = self.room.place_of(i) else {
+            return Err(self.fail());
+        };
+        target.copy_from_slice(self.room.block(nth));
+        Ok(())
+    }
+
+    fn read_blocks(&mut self, first: u64, target: &mut [u8]) -> Result<(), MediumFault> {
+        let Some(nth) = self.room.place_of_all(first, target.len() as u64 / 512) else {
+            return self.read_each(first, target);
+        };
+        target.copy_from_slice(self.room.adjacent_bytes(nth, target.len()));
+        Ok(())
+    }
+
     fn write(&mut self, i: u64, block: &[u8; 512]) -> Result<(), MediumFault> {
         let Some(nth) = self.room.place_for(i) else {
             return Err(self.fail());
         };
         self.room.put(nth, block);
+        Ok(())
+    }
+
+    fn write_blocks(&mut self, first: u64, bytes: &[u8]) -> Result<(), MediumFault> {
+        let Some(nth) = self.room.place_for_all(first, bytes.len() as u64 / 512) else {
+            return self.write_each(first, bytes);
+        };
+        self.room.put_adjacent(nth, bytes);
         Ok(())
     }
 

@@ -1,8 +1,8 @@
 //! The room for the blocks of one command.
 
-ghost use Rattle.std.specs.Prelude.{◌≡◌, ◌+◌, ◌*◌, ◌/◌, ◌<◌, ◌≤◌, false, length, max, min, IfSome};
+ghost use Rattle.std.specs.Prelude.{◌≡◌, ◌+◌, ◌-◌, ◌*◌, ◌/◌, ◌<◌, ◌≤◌, false, length, max, min, IfSome};
 ghost use Rattle.std.specs.Vec.{vec_len, vec_ptr};
-ghost use Rattle.nvme_spec.specs.Blocks.{block_at};
+ghost use Rattle.nvme_spec.specs.Blocks.{block_at, blocks_from};
 ghost use Rattle.nvme_spec.specs.Bytes.{with_bytes};
 ghost use Rattle.nvme_brought.specs.Places as places;
 
@@ -81,6 +81,15 @@ impl Room {
         place_in(self.first, self.at_hand, i)
     }
 
+    /// The place of block `i` in the room, if it and the next ones, `count` in all, are at hand.
+    pub(crate) fn place_of_all(&self, i: u64, count: u64) -> Option<u64>
+        ensures place { result ≡ places.place_in self.now.first (self.now.at_hand + 1 - count) i }
+        ensures within { IfSome result (λ nth. nth + count ≤ self.now.at_hand) }
+        ensures is { IfSome result (λ nth. i ≡ self.now.first + nth) }
+    {
+        place_in(self.first, (self.at_hand + 1).saturating_sub(count), i)
+    }
+
     /// The place of block `i` in the room if it can be written: it is at hand, or the next one.
     pub(crate) fn place_for(&self, i: u64) -> Option<u64>
         ensures place { result ≡ place_for self.now i }
@@ -96,6 +105,19 @@ impl Room {
         }
     }
 
+    /// The place of block `i` in the room, if it and the next ones, `count` in all, can be written one after the other.
+    pub(crate) fn place_for_all(&self, i: u64, count: u64) -> Option<u64>
+        ensures place { result ≡ places.place_in self.now.first
+            (min (self.now.at_hand + 1) (length (room_bytes self.now) / 512 + 1 - count)) i }
+        ensures within { IfSome result (λ nth. 512 * (nth + count) ≤ length (room_bytes self.now)) }
+        ensures next { IfSome result (λ nth. nth ≤ self.now.at_hand) }
+        ensures is { IfSome result (λ nth. i ≡ self.now.first + nth) }
+    {
+        let blocks = self.buffer.len() as u64 / 512;
+        let places = (self.at_hand + 1).min((blocks + 1).saturating_sub(count));
+        place_in(self.first, places, i)
+    }
+
     /// A block of the room.
     pub(crate) fn block(&self, nth: u64) -> &[u8]
         requires { nth < self.now.at_hand }
@@ -104,6 +126,15 @@ impl Room {
     {
         let at = 512 * nth as usize;
         &self.buffer[at..at + 512]
+    }
+
+    /// `len` bytes of blocks of the room, from this one.
+    pub(crate) fn adjacent_bytes(&self, nth: u64, len: usize) -> &[u8]
+        requires { 512 * nth + len ≤ 512 * self.now.at_hand }
+        ensures { result.now ≡ blocks_from (room_bytes self.now) nth len }
+    {
+        let at = 512 * nth as usize;
+        &self.buffer[at..at + len]
     }
 
     /// Writes a block of the room, which is then at hand.
@@ -120,6 +151,22 @@ impl Room {
         let at = 512 * nth as usize;
         self.buffer[at..at + 512].copy_from_slice(block);
         self.at_hand = self.at_hand.max(nth + 1);
+    }
+
+    /// Writes bytes of adjacent blocks of the room, from this one. These blocks are then at hand.
+    pub(crate) fn put_adjacent(&mut self, nth: u64, bytes: &[u8])
+        requires inside { 512 * nth + length bytes.now ≤ length (room_bytes self.old) }
+        requires next { nth ≤ self.old.at_hand }
+        ensures bytes { room_bytes self.new ≡ with_bytes (room_bytes self.old) (512 * nth) bytes.now }
+        ensures at_hand { self.new.at_hand ≡ max self.old.at_hand (nth + length bytes.now / 512) }
+        ensures first { self.new.first ≡ self.old.first }
+        ensures flushes { self.new.flushes ≡ self.old.flushes }
+        ensures address { vec_ptr self.new.buffer ≡ vec_ptr self.old.buffer }
+        ensures len { vec_len self.new.buffer ≡ vec_len self.old.buffer }
+    {
+        let at = 512 * nth as usize;
+        self.buffer[at..at + bytes.len()].copy_from_slice(bytes);
+        self.at_hand = self.at_hand.max(nth + bytes.len() as u64 / 512);
     }
 }
 

@@ -12,8 +12,8 @@ returns-clause-ok c told =
     let long : length c.args.block.now ≡ 512 = search rules in
     ap (λ n. with_bytes m.disk.content.bytes (512 * n) (bytes_at_hand new)) c.put.ensures.first
     ∙ put-there m.disk.content.bytes m.room.buffer.items new.buffer.items c.args.block.now m.room.first m.room.at_hand
-    nth new.at_hand c.in-Some.ensures.next c.put.ensures.at_hand c.put.ensures.bytes long m.room.fits
-    c.in-Some.ensures.below (omega (arith, m.within, m.disk.whole))
+    nth 1 new.at_hand c.in-Some.ensures.next c.put.ensures.at_hand c.put.ensures.bytes long
+    m.room.fits (omega (arith, c.in-Some.ensures.below)) (omega (arith, m.within, m.disk.whole))
     (omega (arith, c.in-Some.ensures.is, c.requires, m.disk.whole))
     ∙ ap (λ i. with_bytes (content_of m) (512 * i) c.args.block.now) (sym c.in-Some.ensures.is)
 
