@@ -66,7 +66,7 @@ use Rattle.nvme_spec.specs.MediumCalls.{MediumAnswer, MediumCall, EndsAt, course
 use Rattle.nvme_spec.specs.World.{World, Namespace, is_attached, namespace_of}
 use Rattle.nvme_spec.proofs.Passing.{HasPassed, has-passed, not_false, some_of}
 use Rattle.nvme_machine.specs.declared.event.Event.{Event}
-use Rattle.nvme_machine.specs.declared.event.Event.TheVariants.{Store, Write32, Read32, Fetch, Execute, PowerCycle}
+use Rattle.nvme_machine.specs.declared.event.Event.TheVariants.{Execute, PowerCycle}
 use Rattle.nvme_machine.specs.declared.fetched.FetchedCommand.{FetchedCommand}
 use Rattle.nvme_machine.specs.declared.seen.Seen.{Seen}
 use Rattle.nvme_machine.specs.CommandExecutions.{CommandExecution}
@@ -300,15 +300,10 @@ of-at None tells s k i seen new calls at h = all-of-none (IsCallOf s k i) calls 
 of-at (Some c) tells s k i seen new calls at h = of-one (slice_get c.fetched i) tells s k c i seen new calls at refl h
 
 pub calls_are_allowed : CallsAreAllowed
-calls_are_allowed tells old new (Store k address bytes) seen calls h =
-    all-of-none (MayCall old (Store k address bytes)) calls h.1
-calls_are_allowed tells old new (Write32 k offset v) seen calls h =
-    all-of-none (MayCall old (Write32 k offset v)) calls h.1
-calls_are_allowed tells old new (Read32 k offset) seen calls h = all-of-none (MayCall old (Read32 k offset)) calls h.1
-calls_are_allowed tells old new (Fetch k q) seen calls h = all-of-none (MayCall old (Fetch k q)) calls h.1
 calls_are_allowed tells old new (Execute k i) seen calls h =
     of-at (controller_at old k) tells old k i seen new calls refl h
 calls_are_allowed tells old new PowerCycle seen calls h = all-of-none (MayCall old PowerCycle) calls h.2
+calls_are_allowed tells old new event seen calls h = all-of-none (MayCall old event) calls h.1
 
 -- A run.
 

@@ -31,11 +31,10 @@ use Rattle.nvme_wire.specs.Submission.{opcode}
 use Rattle.nvme_spec.specs.declared.command.Command.TheVariants.{Flush}
 use Rattle.nvme_spec.specs.declared.outcome.Outcome.{Outcome}
 use Rattle.nvme_spec.specs.declared.queues.Queues.{Queues}
-use Rattle.nvme_spec.specs.AdminEffects.{admin_execution}
+use Rattle.nvme_spec.specs.Blocks.{Device}
 use Rattle.nvme_spec.specs.AdminRules.{admin_judgement}
 use Rattle.nvme_spec.specs.Commands.{opcode_of}
 use Rattle.nvme_spec.specs.Execution.{Scene}
-use Rattle.nvme_spec.specs.FaultFree.{fault_free_execution}
 use Rattle.nvme_spec.specs.FaultFreeCalls.{content_step}
 use Rattle.nvme_spec.specs.IoData.{io_judgement}
 use Rattle.nvme_spec.specs.Layout.{IsLaidOut}
@@ -49,18 +48,12 @@ use Rattle.nvme_spec.proofs.MediumCalls.{calls-joined}
 use Rattle.nvme_spec.proofs.PassingCalls.{content-alone, calls-split}
 use Rattle.nvme_spec.proofs.StatusLaws.{of-each}
 use Rattle.nvme_machine.specs.declared.event.Event.{Event}
-use Rattle.nvme_machine.specs.declared.event.Event.TheVariants.{Store, Write32, Read32, Fetch, Execute, PowerCycle}
+use Rattle.nvme_machine.specs.declared.event.Event.TheVariants.{Execute, PowerCycle}
 use Rattle.nvme_machine.specs.declared.fetched.FetchedCommand.{FetchedCommand}
 use Rattle.nvme_machine.specs.declared.seen.Executed.TheVariants.{Posted}
 use Rattle.nvme_machine.specs.declared.seen.Seen.{Seen}
 use Rattle.nvme_machine.specs.declared.seen.Seen.TheVariants.{Executed}
-use Rattle.nvme_machine.specs.CommandExecutions.{
-  CommandExecution,
-  CommandComesTo,
-  CommandComesToAs,
-  admin_command_execution,
-  judgement,
-}
+use Rattle.nvme_machine.specs.CommandExecutions.{CommandExecution, CommandComesTo, CommandComesToAs, judgement}
 use Rattle.nvme_machine.specs.CallLaws.{
   StepsHaveCalls,
   RunsHaveCalls,
@@ -73,31 +66,14 @@ use Rattle.nvme_machine.specs.CallLaws.{
   FlushedIsOneFlush,
 }
 use Rattle.nvme_machine.specs.Calling.{AreCallsAs, AreCallsOfExecution}
-use Rattle.nvme_machine.specs.Controllers.{Controller, QueuePair, Reaction, queues_of, open_pair}
+use Rattle.nvme_machine.specs.Controllers.{Controller, QueuePair, queues_of, open_pair}
 use Rattle.nvme_machine.specs.EventCalls.{CallingOver, CallingOne, CallingAt, AreCallsOfStep, AreCallsOfRun}
-use Rattle.nvme_machine.specs.FaultFree.{
-  fault_free_command_execution,
-  fault_free_step,
-  io_command_execution,
-  reacting,
-  executing,
-  executing_one,
-  executing_over,
-}
+use Rattle.nvme_machine.specs.FaultFree.{fault_free_step}
 use Rattle.nvme_machine.specs.FaultFreeCalls.{calls_as, calls_over, calls_one, calls_at, event_calls, fault_free_calls}
-use Rattle.nvme_machine.specs.Subsystems.{
-  Subsystem,
-  ExecutesOver,
-  ExecutesOne,
-  ExecutesAt,
-  controller_at,
-  with_controller,
-  scene_of,
-  after_execution,
-  after_power_cycle,
-}
+use Rattle.nvme_machine.specs.Secrecy.{over}
+use Rattle.nvme_machine.specs.Subsystems.{Subsystem, ExecutesOver, ExecutesOne, ExecutesAt, controller_at, scene_of}
 use Rattle.nvme_machine.proofs.Denials.{denied_changes_its_entry_alone}
-use Rattle.nvme_machine.proofs.Determined.{step-counts, failures_never_fall, step-alone, answers, steps}
+use Rattle.nvme_machine.proofs.Determined.{step-counts, failures_never_fall, step-alone, step-made, steps}
 use Rattle.nvme_machine.proofs.EventCalls.{calls_are_of_a_step, calls_are_of_a_run}
 use Rattle.nvme_machine.proofs.Layouts.{layout_stays}
 
@@ -131,12 +107,9 @@ at-some None tells old new k i seen h = ([], (h.0, h.1, refl))
 at-some (Some c) tells old new k i seen h = one-some (slice_get c.fetched i) tells old new k c i seen h
 
 pub steps_have_calls : StepsHaveCalls
-steps_have_calls tells old new (Store k address bytes) seen h = ([], (h, refl))
-steps_have_calls tells old new (Write32 k offset v) seen h = ([], (h, refl))
-steps_have_calls tells old new (Read32 k offset) seen h = ([], (h, refl))
-steps_have_calls tells old new (Fetch k q) seen h = ([], (h, refl))
 steps_have_calls tells old new (Execute k i) seen h = at-some (controller_at old k) tells old new k i seen h
 steps_have_calls tells old new PowerCycle seen h = ([], (h.0, h.1, refl))
+steps_have_calls tells old new event seen h = ([], (h, refl))
 
 pub runs_have_calls : RunsHaveCalls
 runs_have_calls tells old new [] [] h = ([], (h, refl))
@@ -147,58 +120,59 @@ runs_have_calls tells old new (event ∷ events) (seen ∷ later) h =
     let behind = runs_have_calls tells h.0 new events later h.2 in
     (here.0 ++ behind.0, (h.0, here.0, behind.0, here.1, behind.1, refl))
 
--- Two lists of successful calls of one step, over media of the same content, are equal.
+-- Over a medium that reveals its content a step without a fault has only the calls that the functions compute.
 
-two-as : (admin : Bool) (k : ℕ) (t : FetchedCommand)
-    (s : Scene) (a b : CommandExecution) (calls these : List MediumCall) (content left right : List ℕ)
-    → AreCallsAs admin k t s a calls → AreCallsAs admin k t s b these
-    → Calls content_step content calls left → Calls content_step content these right → these ≡ calls
-two-as true k t s a b calls these content left right h g made also = g ∙ sym h
-two-as false k t s a b calls these content left right h g made also =
-    let over : Scene =
-    record { world = s.world; window = s.window; device = record { content = content; failures = 0 } } in
-    spec.passing_calls_are_unique k t.entry t.marked over b.outcome.status b.left.window these right g also
-    ∙ sym (spec.passing_calls_are_unique k t.entry t.marked over a.outcome.status a.left.window calls left h made)
+as-alone : (admin : Bool) (k : ℕ) (t : FetchedCommand) (s : Scene) (d : Device) (a : CommandExecution)
+    (calls : List MediumCall) (left : List ℕ) → AreCallsAs admin k t s a calls
+    → Calls content_step d.content calls left → calls ≡ calls_as admin k t (record s { device = d })
+as-alone true k t s d a calls left h made = h
+as-alone false k t s d a calls left h made =
+    let there : Scene = record s { device = d } in
+    spec.passing_calls_are_unique k t.entry t.marked there a.outcome.status a.left.window calls left h made
 
-two-over : (o : Option QueuePair) (tells : Bool) (old new other : Subsystem) (k : ℕ) (c : Controller) (i : ℕ)
-    (t : FetchedCommand) (seen others : Seen) (calls these : List MediumCall) (content left right : List ℕ)
-    → CallingOver o tells old k c i t seen new calls → CallingOver o tells old k c i t others other these
-    → Calls content_step content calls left → Calls content_step content these right → these ≡ calls
+over-alone : (o : Option QueuePair) (tells : Bool) (old new : Subsystem) (d : Device) (k : ℕ) (c : Controller) (i : ℕ)
+    (t : FetchedCommand) (seen : Seen) (calls : List MediumCall) (left : List ℕ)
+    → CallingOver o tells old k c i t seen new calls → Calls content_step d.content calls left
+    → calls ≡ calls_over o k t (scene_of (over d old) c)
 unfolding AreCallsOfExecution
-two-over None tells old new other k c i t seen others calls these content left right h g made also = g.2 ∙ sym h.2
-two-over (Some p) tells old new other k c i t seen others calls these content left right h g made also =
-    two-as (t.queue == 0) k t (scene_of old c) h.completes.execution g.completes.execution calls these content left
-    right h.are g.are made also
+over-alone None tells old new d k c i t seen calls left h made = h.2
+over-alone (Some p) tells old new d k c i t seen calls left h made =
+    as-alone (t.queue == 0) k t (scene_of old c) d h.completes.execution calls left h.are made
 
-two-one : (o : Option FetchedCommand) (tells : Bool) (old new other : Subsystem) (k : ℕ) (c : Controller) (i : ℕ)
-    (seen others : Seen) (calls these : List MediumCall) (content left right : List ℕ)
-    → CallingOne o tells old k c i seen new calls → CallingOne o tells old k c i others other these
-    → Calls content_step content calls left → Calls content_step content these right → these ≡ calls
-two-one None tells old new other k c i seen others calls these content left right h g made also = g.2 ∙ sym h.2
-two-one (Some t) tells old new other k c i seen others calls these content left right h g made also =
-    two-over (open_pair c t) tells old new other k c i t seen others calls these content left right h g made also
+one-alone : (o : Option FetchedCommand) (tells : Bool) (old new : Subsystem) (d : Device) (k : ℕ) (c : Controller)
+    (i : ℕ) (seen : Seen) (calls : List MediumCall) (left : List ℕ)
+    → CallingOne o tells old k c i seen new calls → Calls content_step d.content calls left
+    → calls ≡ calls_one o (over d old) k c
+one-alone None tells old new d k c i seen calls left h made = h.2
+one-alone (Some t) tells old new d k c i seen calls left h made =
+    over-alone (open_pair c t) tells old new d k c i t seen calls left h made
 
-two-at : (o : Option Controller) (tells : Bool) (old new other : Subsystem) (k i : ℕ) (seen others : Seen)
-    (calls these : List MediumCall) (content left right : List ℕ)
-    → CallingAt o tells old k i seen new calls → CallingAt o tells old k i others other these
-    → Calls content_step content calls left → Calls content_step content these right → these ≡ calls
-two-at None tells old new other k i seen others calls these content left right h g made also = g.2 ∙ sym h.2
-two-at (Some c) tells old new other k i seen others calls these content left right h g made also =
-    two-one (slice_get c.fetched i) tells old new other k c i seen others calls these content left right h g made also
+at-alone : (o : Option Controller) (tells : Bool) (old new : Subsystem) (d : Device) (k i : ℕ) (seen : Seen)
+    (calls : List MediumCall) (left : List ℕ)
+    → CallingAt o tells old k i seen new calls → Calls content_step d.content calls left
+    → calls ≡ calls_at o (over d old) k i
+at-alone None tells old new d k i seen calls left h made = h.2
+at-alone (Some c) tells old new d k i seen calls left h made =
+    one-alone (slice_get c.fetched i) tells old new d k c i seen calls left h made
+
+calls-alone : (tells : Bool) (old new : Subsystem) (d : Device) (event : Event) (seen : Seen)
+    (calls : List MediumCall) (left : List ℕ) → AreCallsOfStep tells old event seen new calls
+    → Calls content_step d.content calls left → calls ≡ event_calls (over d old) event
+unfolding controller_at
+calls-alone tells old new d (Execute k i) seen calls left h made =
+    at-alone (controller_at old k) tells old new d k i seen calls left h made
+calls-alone tells old new d PowerCycle seen calls left h made = h.2
+calls-alone tells old new d event seen calls left h made = h.1
 
 pub step_calls_are_unique : StepCallsAreUnique
-step_calls_are_unique tells old new other (Store k address bytes) seen others calls these content left right h g made
-    also = g.1 ∙ sym h.1
-step_calls_are_unique tells old new other (Write32 k offset v) seen others calls these content left right h g made
-    also = g.1 ∙ sym h.1
-step_calls_are_unique tells old new other (Read32 k offset) seen others calls these content left right h g made
-    also = g.1 ∙ sym h.1
-step_calls_are_unique tells old new other (Fetch k q) seen others calls these content left right h g made
-    also = g.1 ∙ sym h.1
-step_calls_are_unique tells old new other (Execute k i) seen others calls these content left right h g made also =
-    two-at (controller_at old k) tells old new other k i seen others calls these content left right h g made also
-step_calls_are_unique tells old new other PowerCycle seen others calls these content left right h g made
-    also = g.2 ∙ sym h.2
+step_calls_are_unique tells old new other event seen others calls these content left right h g made also =
+    let d : Device = record { content = content; failures = 0 } in
+    calls-alone tells old other d event others these right g also
+    ∙ sym (calls-alone tells old new d event seen calls left h made)
+
+pub step_calls_are_computed : StepCallsAreComputed
+step_calls_are_computed tells old new event seen calls left h made =
+    calls-alone tells old new old.device event seen calls left h made
 
 pub run_calls_are_unique : RunCallsAreUnique
 run_calls_are_unique old new other [] [] [] calls these content left right h g made also f e below = g.1 ∙ sym h.1
@@ -236,137 +210,12 @@ run_calls_are_unique old new other (event ∷ events) (x ∷ seen) (y ∷ others
     (subst (λ n. n < 2 ^ 64 - 1) (sym p) below) in
     made-of ∙ (ap (λ cs. cs ++ later) first ∙ (ap (λ cs. here ++ cs) rest ∙ sym joined))
 
--- Over the content of the subsystem they are those that the function computes.
-
-as-alone : (admin : Bool) (k : ℕ) (t : FetchedCommand) (s : Scene) (a : CommandExecution) (calls : List MediumCall)
-    (left : List ℕ) → AreCallsAs admin k t s a calls
-    → Calls content_step s.device.content calls left → calls ≡ calls_as admin k t s
-as-alone true k t s a calls left h made = h
-as-alone false k t s a calls left h made =
-    spec.passing_calls_are_unique k t.entry t.marked s a.outcome.status a.left.window calls left h made
-
-over-alone : (o : Option QueuePair) (tells : Bool) (old new : Subsystem) (k : ℕ) (c : Controller) (i : ℕ)
-    (t : FetchedCommand) (seen : Seen) (calls : List MediumCall) (left : List ℕ)
-    → CallingOver o tells old k c i t seen new calls → Calls content_step old.device.content calls left
-    → calls ≡ calls_over o k t (scene_of old c)
-unfolding AreCallsOfExecution
-over-alone None tells old new k c i t seen calls left h made = h.2
-over-alone (Some p) tells old new k c i t seen calls left h made =
-    as-alone (t.queue == 0) k t (scene_of old c) h.completes.execution calls left h.are made
-
-one-alone : (o : Option FetchedCommand) (tells : Bool) (old new : Subsystem) (k : ℕ) (c : Controller) (i : ℕ)
-    (seen : Seen) (calls : List MediumCall) (left : List ℕ)
-    → CallingOne o tells old k c i seen new calls → Calls content_step old.device.content calls left
-    → calls ≡ calls_one o old k c
-one-alone None tells old new k c i seen calls left h made = h.2
-one-alone (Some t) tells old new k c i seen calls left h made =
-    over-alone (open_pair c t) tells old new k c i t seen calls left h made
-
-at-alone : (o : Option Controller) (tells : Bool) (old new : Subsystem) (k i : ℕ) (seen : Seen)
-    (calls : List MediumCall) (left : List ℕ)
-    → CallingAt o tells old k i seen new calls → Calls content_step old.device.content calls left
-    → calls ≡ calls_at o old k i
-at-alone None tells old new k i seen calls left h made = h.2
-at-alone (Some c) tells old new k i seen calls left h made =
-    one-alone (slice_get c.fetched i) tells old new k c i seen calls left h made
-
-pub step_calls_are_computed : StepCallsAreComputed
-step_calls_are_computed tells old new (Store k address bytes) seen calls left h made = h.1
-step_calls_are_computed tells old new (Write32 k offset v) seen calls left h made = h.1
-step_calls_are_computed tells old new (Read32 k offset) seen calls left h made = h.1
-step_calls_are_computed tells old new (Fetch k q) seen calls left h made = h.1
-step_calls_are_computed tells old new (Execute k i) seen calls left h made =
-    at-alone (controller_at old k) tells old new k i seen calls left h made
-step_calls_are_computed tells old new PowerCycle seen calls left h made = h.2
-
 -- And they exist: those of the step without a fault, which leave its content.
-
--- calls of a step, and the content that they leave
-abbrev AreMade : Subsystem → List MediumCall → Subsystem → Type 0
-AreMade s calls new = Calls content_step s.device.content calls new.device.content
-
--- calls of an answer, and the content that they leave
-record Serve (admin : Bool) (k : ℕ) (t : FetchedCommand) (s : Scene) (a : CommandExecution)
-    (calls : List MediumCall) : Type 0 where
-  are : AreCallsAs admin k t s a calls
-  made : Calls content_step s.device.content calls a.left.device.content
-
-as-serve : (admin : Bool) (queues : Queues) (k : ℕ) (t : FetchedCommand) (s : Scene)
-    → IsLaidOut s.world s.device.content
-    → Serve admin k t s (if admin then admin_command_execution s (admin_execution s.world queues k t.entry s.window)
-    else io_command_execution (fault_free_execution k t.entry t.marked s)) (calls_as admin k t s)
-as-serve true queues k t s laid = record { are = refl; made = refl }
-as-serve false queues k t s laid = let both = spec.passing_calls_exist k t.entry t.marked s laid in
-    record { are = both.0; made = both.1 }
-
-answer-serves : (queues : Queues) (k : ℕ) (t : FetchedCommand) (s : Scene) → IsLaidOut s.world s.device.content
-    → Serve (t.queue == 0) k t s (fault_free_command_execution queues k t s) (calls_as (t.queue == 0) k t s)
-unfolding fault_free_command_execution
-answer-serves queues k t s laid = as-serve (t.queue == 0) queues k t s laid
-
-over-made : (o : Option QueuePair) (s : Subsystem) (k : ℕ) (c : Controller) (i : ℕ) (t : FetchedCommand)
-    → IsLaidOut s.world s.device.content
-    → CallingOver o true s k c i t (executing_over o s k c i t).seen (executing_over o s k c i t).left
-    (calls_over o k t (scene_of s c)) × AreMade s (calls_over o k t (scene_of s c)) (executing_over o s k c i t).left
-unfolding AreCallsOfExecution after_execution
-over-made None s k c i t laid = ((refl, refl, refl), refl)
-over-made (Some p) s k c i t laid =
-    let serve = answer-serves (queues_of c) k t (scene_of s c) laid in (
-      record {
-        completes = record {
-          execution = fault_free_command_execution (queues_of c) k t (scene_of s c);
-          comes_to = answers (queues_of c) k t (scene_of s c) laid;
-          gives = refl;
-          leaves = refl;
-        };
-        are = serve.are;
-      },
-      serve.made,
-    )
-
-one-made : (o : Option FetchedCommand) (s : Subsystem) (k : ℕ) (c : Controller) (i : ℕ)
-    → IsLaidOut s.world s.device.content
-    → CallingOne o true s k c i (executing_one o s k c i).seen (executing_one o s k c i).left (calls_one o s k c)
-    × AreMade s (calls_one o s k c) (executing_one o s k c i).left
-one-made None s k c i laid = ((refl, refl, refl), refl)
-one-made (Some t) s k c i laid = over-made (open_pair c t) s k c i t laid
-
-at-made : (o : Option Controller) (s : Subsystem) (k i : ℕ) → IsLaidOut s.world s.device.content
-    → CallingAt o true s k i (executing o s k i).seen (executing o s k i).left (calls_at o s k i)
-    × AreMade s (calls_at o s k i) (executing o s k i).left
-at-made None s k i laid = ((refl, refl, refl), refl)
-at-made (Some c) s k i laid = one-made (slice_get c.fetched i) s k c i laid
-
--- a reaction keeps the content
-reacts-kept : (o : Option Controller) (s : Subsystem) (k : ℕ) (f : Controller → Reaction)
-    → (reacting o s k f).left.device.content ≡ s.device.content
-unfolding with_controller
-reacts-kept None s k f = refl
-reacts-kept (Some c) s k f = refl
-
--- so does a power cycle
-cycled-kept : (s : Subsystem) → (after_power_cycle s).device.content ≡ s.device.content
-unfolding after_power_cycle
-cycled-kept s = refl
-
-step-made : (s : Subsystem) (event : Event) → IsLaidOut s.world s.device.content
-    → AreCallsOfStep true s event (fault_free_step s event).seen (fault_free_step s event).left (event_calls s event)
-    × AreMade s (event_calls s event) (fault_free_step s event).left
-step-made s (Store k address bytes) laid =
-    ((steps s (Store k address bytes) laid, refl), reacts-kept (controller_at s k) s k _)
-step-made s (Write32 k offset v) laid =
-    ((steps s (Write32 k offset v) laid, refl), reacts-kept (controller_at s k) s k _)
-step-made s (Read32 k offset) laid = ((steps s (Read32 k offset) laid, refl), reacts-kept (controller_at s k) s k _)
-step-made s (Fetch k q) laid = ((steps s (Fetch k q) laid, refl), reacts-kept (controller_at s k) s k _)
-step-made s (Execute k i) laid = at-made (controller_at s k) s k i laid
-step-made s PowerCycle laid = ((refl, refl, refl), cycled-kept s)
 
 still-laid : (s : Subsystem) (event : Event) → IsLaidOut s.world s.device.content
     → IsLaidOut (fault_free_step s event).left.world (fault_free_step s event).left.device.content
 still-laid s event laid =
-    let one = (step-made s event laid).0 in
-    layout_stays s (fault_free_step s event).left event (fault_free_step s event).seen laid (calls_are_of_a_step true s
-    (fault_free_step s event).left event (fault_free_step s event).seen (event_calls s event) one)
+    layout_stays s (fault_free_step s event).left event (fault_free_step s event).seen laid (steps s event laid)
 
 pub run_calls_exist : RunCallsExist
 run_calls_exist old [] laid = ((refl, refl), refl)
@@ -376,7 +225,7 @@ run_calls_exist old (event ∷ events) laid =
     let rest = run_calls_exist mid events (still-laid old event laid) in (
       (mid, event_calls old event, fault_free_calls mid events, one.0, rest.0, refl),
       calls-joined content_step (event_calls old event)
-          (fault_free_calls mid events) old.device.content mid.device.content _ one.1 rest.1,
+          (fault_free_calls mid events) old.device.content mid.device.content _ one.1.made rest.1,
     )
 
 pub run_calls_are_computed : RunCallsAreComputed
@@ -401,7 +250,7 @@ run_calls_are_computed old new (event ∷ events) (x ∷ later) calls left laid 
     subst (λ cs. Calls content_step old.device.content cs s.mid) one s.first in
     let same : mid.device.content ≡ s.mid =
     ap (λ (m : Subsystem). m.device.content) is ∙ content-alone (event_calls old event) old.device.content s.mid
-    (fault_free_step old event).left.device.content first (step-made old event laid).1 in
+    (fault_free_step old event).left.device.content first (step-made old event laid).1.made in
     let rest = run_calls_are_computed mid new events later behind left
     (subst (λ (m : Subsystem). IsLaidOut m.world m.device.content) (sym is) (still-laid old event laid)) run
     (subst (λ c. Calls content_step c behind left) (sym same) s.rest) (f ∙ sym p)

@@ -10,6 +10,7 @@ use Rattle.std.proofs.Common.{
   Bool,
   true,
   false,
+  List,
   [],
   ◌∷◌,
   Option,
@@ -24,13 +25,17 @@ use Rattle.std.proofs.Common.{
 }
 use Rattle.std.specs.Prelude.{if◌then◌else◌, slice_get}
 use Rattle.nvme_spec.specs.declared.queues.Queues.{Queues}
+use Rattle.nvme_spec.specs.Blocks.{Device}
 use Rattle.nvme_spec.specs.Execution.{Scene}
 use Rattle.nvme_spec.specs.FaultFree.{fault_free_execution}
+use Rattle.nvme_spec.specs.FaultFreeCalls.{content_step}
 use Rattle.nvme_spec.specs.Layout.{IsLaidOut}
+use Rattle.nvme_spec.specs.MediumCalls.{MediumCall, Calls}
 use Rattle.nvme_spec.specs.AdminEffects.{admin_execution}
+use Rattle.nvme_spec.proofs.CallLaws as calls
 use Rattle.nvme_spec.proofs.FaultFree as spec
 use Rattle.nvme_machine.specs.declared.event.Event.{Event}
-use Rattle.nvme_machine.specs.declared.event.Event.TheVariants.{Store, Write32, Read32, Fetch, Execute, PowerCycle}
+use Rattle.nvme_machine.specs.declared.event.Event.TheVariants.{Execute, PowerCycle}
 use Rattle.nvme_machine.specs.declared.fetched.FetchedCommand.{FetchedCommand}
 use Rattle.nvme_machine.specs.declared.seen.Executed.TheVariants.{Posted}
 use Rattle.nvme_machine.specs.declared.seen.Seen.{Seen}
@@ -50,6 +55,7 @@ use Rattle.nvme_machine.specs.Subsystems.{
   ExecutesOne,
   ExecutesOver,
   controller_at,
+  controller_of,
   with_controller,
   scene_of,
   after_execution,
@@ -67,9 +73,13 @@ use Rattle.nvme_machine.specs.FaultFree.{
   executing_one,
   executing_over,
 }
+use Rattle.nvme_machine.specs.Calling.{AreCallsAs, AreCallsOfExecution}
+use Rattle.nvme_machine.specs.EventCalls.{CallingOver, CallingOne, CallingAt, AreCallsOfStep}
+use Rattle.nvme_machine.specs.FaultFreeCalls.{calls_as, calls_over, calls_one, calls_at, event_calls}
 use Rattle.nvme_machine.specs.Runs.{FailuresNeverFall, RunExists, RunIsUnique}
 use Rattle.nvme_machine.proofs.Denials.{same-answer}
-use Rattle.nvme_machine.proofs.Layouts.{layout_stays}
+use Rattle.nvme_machine.proofs.EventCalls.{calls_are_of_a_step}
+use Rattle.nvme_machine.proofs.Layouts.{Leaves, AsItWas, AfterExecution, PowerLost, leaves, layout_stays}
 
 -- The failure count never falls.
 
@@ -80,53 +90,25 @@ answer-counts true tells queues k t s a h = let e = ap (λ (x : CommandExecution
     omega (arith, e)
 answer-counts false tells queues k t s a h = spec.failures_never_fall tells k t.entry t.marked s a.left a.outcome h.1
 
-whole-counts : (old new : Subsystem) → new ≡ old → old.device.failures ≤ new.device.failures
-whole-counts old new e = let f = ap (λ (s : Subsystem). s.device.failures) e in omega (arith, f)
-
-over-counts : (o : Option QueuePair) (tells : Bool) (old new : Subsystem) (k : ℕ) (c : Controller) (i : ℕ)
-    (t : FetchedCommand) (seen : Seen)
-    → ExecutesOver o tells old k c i t seen new → old.device.failures ≤ new.device.failures
-unfolding CommandComesTo after_execution
-over-counts None tells old new k c i t seen h = whole-counts old new h.1
-over-counts (Some p) tells old new k c i t seen h =
-    let e = ap (λ (s : Subsystem). s.device.failures) h.leaves in
-    let less = answer-counts (t.queue == 0) tells (queues_of c) k t (scene_of old c) h.execution h.comes_to in
+counts-left : (tells : Bool) (old new : Subsystem) (event : Event)
+    → Leaves tells old new event → old.device.failures ≤ new.device.failures
+unfolding CommandComesTo
+counts-left tells old new event (AsItWas world device) =
+    let e = ap (λ (d : Device). d.failures) device in omega (arith, e)
+counts-left tells old new event (AfterExecution k i is c t a at found answers world device) =
+    let e = ap (λ (d : Device). d.failures) device in
+    let less = answer-counts (t.queue == 0) tells (queues_of c) k t (scene_of old c) a answers in
     omega (arith, e, less)
-
-one-counts : (o : Option FetchedCommand) (tells : Bool) (old new : Subsystem) (k : ℕ) (c : Controller)
-    (i : ℕ) (seen : Seen)
-    → ExecutesOne o tells old k c i seen new → old.device.failures ≤ new.device.failures
-one-counts None tells old new k c i seen h = whole-counts old new h.1
-one-counts (Some t) tells old new k c i seen h = over-counts (open_pair c t) tells old new k c i t seen h
-
-executes-counts : (o : Option Controller) (tells : Bool) (old new : Subsystem) (k i : ℕ) (seen : Seen)
-    → ExecutesAt o tells old k i seen new
-    → old.device.failures ≤ new.device.failures
-executes-counts None tells old new k i seen h = whole-counts old new h.1
-executes-counts (Some c) tells old new k i seen h = one-counts (slice_get c.fetched i) tells old new k c i seen h
-
-reacts-counts : (o : Option Controller) (old new : Subsystem) (k : ℕ) (f : Controller → Reaction) (seen : Seen)
-    → ReactsAs o old k f seen new
-    → old.device.failures ≤ new.device.failures
-unfolding with_controller
-reacts-counts None old new k f seen h = whole-counts old new h.1
-reacts-counts (Some c) old new k f seen h = let e = ap (λ (s : Subsystem). s.device.failures) h.1 in omega (arith, e)
-
-cycle-counts : (old new : Subsystem) → new ≡ after_power_cycle old → old.device.failures ≤ new.device.failures
-unfolding after_power_cycle
-cycle-counts old new h = let e = ap (λ (s : Subsystem). s.device.failures) h in omega (arith, e)
+counts-left tells old new event (PowerLost is world device) =
+    let e = ap (λ (d : Device). d.failures) device in omega (arith, e)
 
 pub step-counts : (tells : Bool) (old new : Subsystem) (event : Event) (seen : Seen)
     → Step tells old event seen new → old.device.failures ≤ new.device.failures
-step-counts tells old new (Store k address bytes) seen h = reacts-counts (controller_at old k) old new k _ seen h
-step-counts tells old new (Write32 k offset v) seen h = reacts-counts (controller_at old k) old new k _ seen h
-step-counts tells old new (Read32 k offset) seen h = reacts-counts (controller_at old k) old new k _ seen h
-step-counts tells old new (Fetch k q) seen h = reacts-counts (controller_at old k) old new k _ seen h
-step-counts tells old new (Execute k i) seen h = executes-counts (controller_at old k) tells old new k i seen h
-step-counts tells old new PowerCycle seen h = cycle-counts old new h.1
+step-counts tells old new event seen h = counts-left tells old new event (leaves tells old new event seen h)
 
 pub failures_never_fall : FailuresNeverFall
-failures_never_fall tells old new [] [] run = whole-counts old new run
+failures_never_fall tells old new [] [] run =
+    let e = ap (λ (s : Subsystem). s.device.failures) run in omega (arith, e)
 failures_never_fall tells old new [] (x ∷ later) run = absurd run
 failures_never_fall tells old new (event ∷ events) [] run = absurd run
 failures_never_fall tells old new (event ∷ events) (x ∷ later) run =
@@ -192,12 +174,10 @@ reacts-alone (Some c) old new k f seen h = h
 pub step-alone : (old new : Subsystem) (event : Event) (seen : Seen) → Step true old event seen new
     → new.device.failures ≡ old.device.failures → old.device.failures < 2 ^ 64 - 1
     → Is seen new (fault_free_step old event)
-step-alone old new (Store k address bytes) seen h f below = reacts-alone (controller_at old k) old new k _ seen h
-step-alone old new (Write32 k offset v) seen h f below = reacts-alone (controller_at old k) old new k _ seen h
-step-alone old new (Read32 k offset) seen h f below = reacts-alone (controller_at old k) old new k _ seen h
-step-alone old new (Fetch k q) seen h f below = reacts-alone (controller_at old k) old new k _ seen h
 step-alone old new (Execute k i) seen h f below = executes-alone (controller_at old k) old new k i seen h f below
 step-alone old new PowerCycle seen h f below = h
+step-alone old new event seen h f below =
+    reacts-alone (controller_at old (controller_of event)) old new (controller_of event) _ seen h
 
 pub run_is_unique : RunIsUnique
 run_is_unique old new [] [] run f below = (refl, run)
@@ -228,32 +208,6 @@ pub answers : (queues : Queues) (k : ℕ) (t : FetchedCommand) (s : Scene) → I
 unfolding CommandComesTo fault_free_command_execution
 answers queues k t s laid = answers-as (t.queue == 0) queues k t s laid
 
-over : (o : Option QueuePair) (s : Subsystem) (k : ℕ) (c : Controller) (i : ℕ) (t : FetchedCommand)
-    → IsLaidOut s.world s.device.content
-    → ExecutesOver o true s k c i t (executing_over o s k c i t).seen (executing_over o s k c i t).left
-over None s k c i t laid = (refl, refl)
-over (Some p) s k c i t laid = record {
-  execution = fault_free_command_execution (queues_of c) k t (scene_of s c);
-  comes_to = answers (queues_of c) k t (scene_of s c) laid;
-  gives = refl;
-  leaves = refl;
-}
-
-one : (o : Option FetchedCommand) (s : Subsystem) (k : ℕ) (c : Controller) (i : ℕ) → IsLaidOut s.world s.device.content
-    → ExecutesOne o true s k c i (executing_one o s k c i).seen (executing_one o s k c i).left
-one None s k c i laid = (refl, refl)
-one (Some t) s k c i laid = over (open_pair c t) s k c i t laid
-
-executes : (o : Option Controller) (s : Subsystem) (k i : ℕ) → IsLaidOut s.world s.device.content
-    → ExecutesAt o true s k i (executing o s k i).seen (executing o s k i).left
-executes None s k i laid = (refl, refl)
-executes (Some c) s k i laid = one (slice_get c.fetched i) s k c i laid
-
-reacts : (o : Option Controller) (s : Subsystem) (k : ℕ) (f : Controller → Reaction)
-    → ReactsAs o s k f (reacting o s k f).seen (reacting o s k f).left
-reacts None s k f = (refl, refl)
-reacts (Some c) s k f = (refl, refl)
-
 -- no failure is counted
 
 calm-as : (admin : Bool) (queues : Queues) (k : ℕ) (t : FetchedCommand) (s : Scene)
@@ -267,48 +221,84 @@ pub calm-answer : (queues : Queues) (k : ℕ) (t : FetchedCommand) (s : Scene)
 unfolding fault_free_command_execution
 calm-answer queues k t s = calm-as (t.queue == 0) queues k t s
 
-calm-over : (o : Option QueuePair) (s : Subsystem) (k : ℕ) (c : Controller) (i : ℕ) (t : FetchedCommand)
-    → (executing_over o s k c i t).left.device.failures ≡ s.device.failures
-unfolding after_execution
-calm-over None s k c i t = refl
-calm-over (Some p) s k c i t = calm-answer (queues_of c) k t (scene_of s c)
+-- calls of an answer, and the content that they leave
+record Serve (admin : Bool) (k : ℕ) (t : FetchedCommand) (s : Scene) (a : CommandExecution)
+    (calls : List MediumCall) : Type 0 where
+  are : AreCallsAs admin k t s a calls
+  made : Calls content_step s.device.content calls a.left.device.content
 
-calm-one : (o : Option FetchedCommand) (s : Subsystem) (k : ℕ) (c : Controller) (i : ℕ)
-    → (executing_one o s k c i).left.device.failures ≡ s.device.failures
-calm-one None s k c i = refl
-calm-one (Some t) s k c i = calm-over (open_pair c t) s k c i t
+as-serve : (admin : Bool) (queues : Queues) (k : ℕ) (t : FetchedCommand) (s : Scene)
+    → IsLaidOut s.world s.device.content
+    → Serve admin k t s (if admin then admin_command_execution s (admin_execution s.world queues k t.entry s.window)
+    else io_command_execution (fault_free_execution k t.entry t.marked s)) (calls_as admin k t s)
+as-serve true queues k t s laid = record { are = refl; made = refl }
+as-serve false queues k t s laid = let both = calls.passing_calls_exist k t.entry t.marked s laid in
+    record { are = both.0; made = both.1 }
 
-calm-executes : (o : Option Controller) (s : Subsystem) (k i : ℕ)
-    → (executing o s k i).left.device.failures ≡ s.device.failures
-calm-executes None s k i = refl
-calm-executes (Some c) s k i = calm-one (slice_get c.fetched i) s k c i
+answer-serves : (queues : Queues) (k : ℕ) (t : FetchedCommand) (s : Scene) → IsLaidOut s.world s.device.content
+    → Serve (t.queue == 0) k t s (fault_free_command_execution queues k t s) (calls_as (t.queue == 0) k t s)
+unfolding fault_free_command_execution
+answer-serves queues k t s laid = as-serve (t.queue == 0) queues k t s laid
 
-calm-reacts : (o : Option Controller) (s : Subsystem) (k : ℕ) (f : Controller → Reaction)
-    → (reacting o s k f).left.device.failures ≡ s.device.failures
+-- calls of a step, and the content that they leave; no failure is counted
+pub record AreMade (s : Subsystem) (calls : List MediumCall) (new : Subsystem) : Type 0 where
+  pub made : Calls content_step s.device.content calls new.device.content
+  pub calm : new.device.failures ≡ s.device.failures
+
+over-made : (o : Option QueuePair) (s : Subsystem) (k : ℕ) (c : Controller) (i : ℕ) (t : FetchedCommand)
+    → IsLaidOut s.world s.device.content
+    → CallingOver o true s k c i t (executing_over o s k c i t).seen (executing_over o s k c i t).left
+    (calls_over o k t (scene_of s c)) × AreMade s (calls_over o k t (scene_of s c)) (executing_over o s k c i t).left
+unfolding AreCallsOfExecution after_execution
+over-made None s k c i t laid = ((refl, refl, refl), record { made = refl; calm = refl })
+over-made (Some p) s k c i t laid =
+    let serve = answer-serves (queues_of c) k t (scene_of s c) laid in (
+      record {
+        completes = record {
+          execution = fault_free_command_execution (queues_of c) k t (scene_of s c);
+          comes_to = answers (queues_of c) k t (scene_of s c) laid;
+          gives = refl;
+          leaves = refl;
+        };
+        are = serve.are;
+      },
+      record { made = serve.made; calm = calm-answer (queues_of c) k t (scene_of s c) },
+    )
+
+one-made : (o : Option FetchedCommand) (s : Subsystem) (k : ℕ) (c : Controller) (i : ℕ)
+    → IsLaidOut s.world s.device.content
+    → CallingOne o true s k c i (executing_one o s k c i).seen (executing_one o s k c i).left (calls_one o s k c)
+    × AreMade s (calls_one o s k c) (executing_one o s k c i).left
+one-made None s k c i laid = ((refl, refl, refl), record { made = refl; calm = refl })
+one-made (Some t) s k c i laid = over-made (open_pair c t) s k c i t laid
+
+at-made : (o : Option Controller) (s : Subsystem) (k i : ℕ) → IsLaidOut s.world s.device.content
+    → CallingAt o true s k i (executing o s k i).seen (executing o s k i).left (calls_at o s k i)
+    × AreMade s (calls_at o s k i) (executing o s k i).left
+at-made None s k i laid = ((refl, refl, refl), record { made = refl; calm = refl })
+at-made (Some c) s k i laid = one-made (slice_get c.fetched i) s k c i laid
+
+reacts-made : (o : Option Controller) (s : Subsystem) (k : ℕ) (f : Controller → Reaction)
+    → (ReactsAs o s k f (reacting o s k f).seen (reacting o s k f).left × ◌≡◌ {A = List MediumCall} [] [])
+    × AreMade s [] (reacting o s k f).left
 unfolding with_controller
-calm-reacts None s k f = refl
-calm-reacts (Some c) s k f = refl
+reacts-made None s k f = (((refl, refl), refl), record { made = refl; calm = refl })
+reacts-made (Some c) s k f = (((refl, refl), refl), record { made = refl; calm = refl })
 
-calm-cycle : (s : Subsystem) → (after_power_cycle s).device.failures ≡ s.device.failures
+cycle-made : (s : Subsystem) → AreMade s [] (after_power_cycle s)
 unfolding after_power_cycle
-calm-cycle s = refl
+cycle-made s = record { made = refl; calm = refl }
 
-step-calm : (s : Subsystem) (event : Event) → (fault_free_step s event).left.device.failures ≡ s.device.failures
-step-calm s (Store k address bytes) = calm-reacts (controller_at s k) s k _
-step-calm s (Write32 k offset v) = calm-reacts (controller_at s k) s k _
-step-calm s (Read32 k offset) = calm-reacts (controller_at s k) s k _
-step-calm s (Fetch k q) = calm-reacts (controller_at s k) s k _
-step-calm s (Execute k i) = calm-executes (controller_at s k) s k i
-step-calm s PowerCycle = calm-cycle s
+pub step-made : (s : Subsystem) (event : Event) → IsLaidOut s.world s.device.content
+    → AreCallsOfStep true s event (fault_free_step s event).seen (fault_free_step s event).left (event_calls s event)
+    × AreMade s (event_calls s event) (fault_free_step s event).left
+step-made s (Execute k i) laid = at-made (controller_at s k) s k i laid
+step-made s PowerCycle laid = ((refl, refl, refl), cycle-made s)
+step-made s event laid = reacts-made (controller_at s (controller_of event)) s (controller_of event) _
 
 pub steps : (s : Subsystem) (event : Event) → IsLaidOut s.world s.device.content
     → Step true s event (fault_free_step s event).seen (fault_free_step s event).left
-steps s (Store k address bytes) laid = reacts (controller_at s k) s k _
-steps s (Write32 k offset v) laid = reacts (controller_at s k) s k _
-steps s (Read32 k offset) laid = reacts (controller_at s k) s k _
-steps s (Fetch k q) laid = reacts (controller_at s k) s k _
-steps s (Execute k i) laid = executes (controller_at s k) s k i laid
-steps s PowerCycle laid = (refl, refl)
+steps s event laid = calls_are_of_a_step true s _ event _ (event_calls s event) (step-made s event laid).0
 
 pub run_exists : RunExists
 run_exists old [] laid = (refl, refl)
@@ -316,4 +306,4 @@ run_exists old (event ∷ events) laid =
     let one = steps old event laid in
     let rest = run_exists (fault_free_step old event).left events
     (layout_stays old (fault_free_step old event).left event (fault_free_step old event).seen laid one) in
-    (((fault_free_step old event).left, one, rest.0), rest.1 ∙ step-calm old event)
+    (((fault_free_step old event).left, one, rest.0), rest.1 ∙ (step-made old event laid).1.calm)

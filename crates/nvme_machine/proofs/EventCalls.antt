@@ -2,7 +2,7 @@
 use Rattle.std.proofs.Common.{ℕ, Bool, List, [], ◌∷◌, Option, None, Some}
 use Rattle.std.specs.Prelude.{slice_get}
 use Rattle.nvme_spec.specs.MediumCalls.{MediumCall}
-use Rattle.nvme_machine.specs.declared.event.Event.TheVariants.{Store, Write32, Read32, Fetch, Execute, PowerCycle}
+use Rattle.nvme_machine.specs.declared.event.Event.TheVariants.{Execute, PowerCycle}
 use Rattle.nvme_machine.specs.declared.fetched.FetchedCommand.{FetchedCommand}
 use Rattle.nvme_machine.specs.declared.seen.Seen.{Seen}
 use Rattle.nvme_machine.specs.Controllers.{Controller, QueuePair, open_pair}
@@ -28,13 +28,10 @@ of-at None tells old k i seen new calls h = (h.0, h.1)
 of-at (Some c) tells old k i seen new calls h = of-one (slice_get c.fetched i) tells old k c i seen new calls h
 
 pub calls_are_of_a_step : CallsAreOfAStep
-calls_are_of_a_step tells old new (Store k address bytes) seen calls h = h.0
-calls_are_of_a_step tells old new (Write32 k offset v) seen calls h = h.0
-calls_are_of_a_step tells old new (Read32 k offset) seen calls h = h.0
-calls_are_of_a_step tells old new (Fetch k q) seen calls h = h.0
 calls_are_of_a_step tells old new (Execute k i) seen calls h =
     of-at (controller_at old k) tells old k i seen new calls h
 calls_are_of_a_step tells old new PowerCycle seen calls h = (h.0, h.1)
+calls_are_of_a_step tells old new event seen calls h = h.0
 
 pub calls_are_of_a_run : CallsAreOfARun
 calls_are_of_a_run tells old new [] [] calls h = h.0

@@ -25,21 +25,18 @@ use Rattle.nvme_spec.specs.declared.outcome.Marks.{Marks}
 use Rattle.nvme_spec.specs.Blocks.{Device}
 use Rattle.nvme_spec.specs.World.{World}
 use Rattle.nvme_machine.specs.declared.event.Event.{Event}
-use Rattle.nvme_machine.specs.declared.event.Event.TheVariants.{Store, Write32, Read32, Fetch, Execute, PowerCycle}
+use Rattle.nvme_machine.specs.declared.event.Event.TheVariants.{Store, Write32, Fetch}
 use Rattle.nvme_machine.specs.declared.fetched.FetchedCommand.{FetchedCommand}
 use Rattle.nvme_machine.specs.declared.seen.Seen.{Seen}
 use Rattle.nvme_machine.specs.Controllers.{
   Controller,
   QueuePair,
-  Reaction,
   power_cycled,
   queues_of,
   open_pair,
   with_marks,
   after_store,
   after_write32,
-  wrote,
-  has_read,
   after_fetch,
 }
 use Rattle.nvme_machine.specs.CommandExecutions.{CommandExecution, CommandComesTo}
@@ -47,21 +44,17 @@ use Rattle.nvme_machine.specs.Subsystems.{
   Subsystem,
   Step,
   Run,
-  ReactsAs,
-  Completes,
-  ExecutesAt,
-  ExecutesOne,
-  ExecutesOver,
   controller_at,
+  controller_of,
   with_controller,
   after_completion,
   after_execution,
-  after_power_cycle,
   numbered,
   replaced,
   marked_from,
 }
 use Rattle.nvme_machine.proofs.Others.{marks-numbered, cycled-at}
+use Rattle.nvme_machine.proofs.StepCases.{StepCase, Unchanged, Reacted, Completed, PowerCycled, reaction_of, step-case}
 
 -- what every action on a controller keeps
 pub record Keeps (P : Controller → Type 0) : Type 0 where
@@ -111,72 +104,40 @@ all-marked P keeps w m cs all k d h = elim (marks-numbered w m cs k) [
   | inr x ↦ is-marked P keeps m.nsid (numbered cs k) d (all k) (sym x.marked ∙ h)
 ]
 
-reacts : (P : Controller → Type 0) (o : Option Controller) (old new : Subsystem) (k : ℕ) (f : Controller → Reaction)
-    (seen : Seen) → controller_at old k ≡ o → ReactsAs o old k f seen new
-    → ((c : Controller) → P c → P (f c).controller) → Everywhere P old → Everywhere P new
-unfolding with_controller controller_at
-reacts P None old new k f seen at h keeps all = subst (Everywhere P) (sym h.1) all
-reacts P (Some c) old new k f seen at h keeps all =
-    subst (Everywhere P) (sym h.1) (all-replaced P old.controllers k (f c).controller all (keeps c (all k c at)))
-
-completes : (P : Controller → Type 0) → Keeps P → (tells : Bool) (old new : Subsystem) (k : ℕ) (c : Controller) (i : ℕ)
-    (t : FetchedCommand) (p : QueuePair) (seen : Seen) → controller_at old k ≡ Some c
-    → open_pair c t ≡ Some p → Completes tells old k c i t p seen new → Everywhere P old → Everywhere P new
-unfolding after_execution controller_at
-completes P keeps tells old new k c i t p seen at room h all =
-    let a : CommandExecution = h.execution in
-    subst (Everywhere P) (sym h.leaves)
-    (all-marked P keeps a.left.world a.outcome.marks (replaced old.controllers k (after_completion i t p a c))
-    (all-replaced P old.controllers k (after_completion i t p a c) all
-    (keeps.finish tells old.world old.device k i c t p a room h.comes_to (all k c at))))
-
-over : (P : Controller → Type 0) → Keeps P → (o : Option QueuePair) (tells : Bool) (old new : Subsystem) (k : ℕ)
-    (c : Controller) (i : ℕ) (t : FetchedCommand) (seen : Seen) → controller_at old k ≡ Some c
-    → open_pair c t ≡ o → ExecutesOver o tells old k c i t seen new → Everywhere P old → Everywhere P new
-over P keeps None tells old new k c i t seen at room h all = subst (Everywhere P) (sym h.1) all
-over P keeps (Some p) tells old new k c i t seen at room h all =
-    completes P keeps tells old new k c i t p seen at room h all
-
-one : (P : Controller → Type 0) → Keeps P
-    → (o : Option FetchedCommand) (tells : Bool) (old new : Subsystem) (k : ℕ) (c : Controller) (i : ℕ) (seen : Seen)
-    → controller_at old k ≡ Some c
-    → ExecutesOne o tells old k c i seen new → Everywhere P old → Everywhere P new
-one P keeps None tells old new k c i seen at h all = subst (Everywhere P) (sym h.1) all
-one P keeps (Some t) tells old new k c i seen at h all =
-    over P keeps (open_pair c t) tells old new k c i t seen at refl h all
-
-executes : (P : Controller → Type 0)
-    → Keeps P → (o : Option Controller) (tells : Bool) (old new : Subsystem) (k i : ℕ) (seen : Seen)
-    → controller_at old k ≡ o → ExecutesAt o tells old k i seen new
-    → Everywhere P old → Everywhere P new
-executes P keeps None tells old new k i seen at h all = subst (Everywhere P) (sym h.1) all
-executes P keeps (Some c) tells old new k i seen at h all =
-    one P keeps (slice_get c.fetched i) tells old new k c i seen at h all
-
 is-cycled : (P : Controller → Type 0) → Keeps P → (o : Option Controller) (d : Controller)
     → ((c : Controller) → o ≡ Some c → P c) → option_map power_cycled o ≡ Some d → P d
 is-cycled P keeps None d all h = absurd (none-some _ h)
 is-cycled P keeps (Some c) d all h = subst P (same_Some _ _ h) (keeps.cycle c (all c refl))
 
-cycles : (P : Controller → Type 0) → Keeps P → (old new : Subsystem) → new ≡ after_power_cycle old → Everywhere P old
-    → Everywhere P new
-cycles P keeps old new h all k d at =
-    is-cycled P keeps (controller_at old k) d (all k) (sym (cycled-at old new k h) ∙ at)
+reaction-keeps : (P : Controller → Type 0) → Keeps P → (event : Event) (c : Controller)
+    → P c → P (reaction_of event c).controller
+reaction-keeps P keeps (Store k address bytes) = keeps.store address bytes.now
+reaction-keeps P keeps (Write32 k offset v) = keeps.write offset v
+reaction-keeps P keeps (Fetch k q) = keeps.fetch q
+reaction-keeps P keeps event = λ c p. p
+
+case-keeps : (P : Controller → Type 0) → Keeps P
+    → (tells : Bool) (old new : Subsystem) (event : Event) (seen : Seen)
+    → StepCase tells old new event seen → Everywhere P old → Everywhere P new
+unfolding with_controller controller_at after_execution
+case-keeps P keeps tells old new event seen (Unchanged same) all = subst (Everywhere P) (sym same) all
+case-keeps P keeps tells old new event seen (Reacted c at is) all = subst (Everywhere P) (sym is)
+    (all-replaced P old.controllers (controller_of event) (reaction_of event c).controller all
+    (reaction-keeps P keeps event c (all (controller_of event) c at)))
+case-keeps P keeps tells old new event seen (Completed k i is c t p at found room h) all =
+    let a : CommandExecution = h.execution in
+    subst (Everywhere P) (sym h.leaves)
+    (all-marked P keeps a.left.world a.outcome.marks (replaced old.controllers k (after_completion i t p a c))
+    (all-replaced P old.controllers k (after_completion i t p a c) all
+    (keeps.finish tells old.world old.device k i c t p a room h.comes_to (all k c at))))
+case-keeps P keeps tells old new event seen (PowerCycled is same) all = λ k d at.
+    is-cycled P keeps (controller_at old k) d (all k) (sym (cycled-at old new k same) ∙ at)
 
 pub step-keeps : (P : Controller → Type 0)
     → Keeps P → (tells : Bool) (old new : Subsystem) (event : Event) (seen : Seen)
     → Step tells old event seen new → Everywhere P old → Everywhere P new
-step-keeps P keeps tells old new (Store k address bytes) seen h all = reacts P (controller_at old k) old new k
-    (after_store address bytes.now) seen refl h (keeps.store address bytes.now) all
-step-keeps P keeps tells old new (Write32 k offset v) seen h all =
-    reacts P (controller_at old k) old new k (wrote offset v) seen refl h (keeps.write offset v) all
-step-keeps P keeps tells old new (Read32 k offset) seen h all =
-    reacts P (controller_at old k) old new k (has_read offset) seen refl h (λ c p. p) all
-step-keeps P keeps tells old new (Fetch k q) seen h all =
-    reacts P (controller_at old k) old new k (after_fetch q) seen refl h (keeps.fetch q) all
-step-keeps P keeps tells old new (Execute k i) seen h all =
-    executes P keeps (controller_at old k) tells old new k i seen refl h all
-step-keeps P keeps tells old new PowerCycle seen h all = cycles P keeps old new h.1 all
+step-keeps P keeps tells old new event seen h all =
+    case-keeps P keeps tells old new event seen (step-case tells old new event seen h) all
 
 pub run-keeps : (P : Controller → Type 0)
     → Keeps P → (tells : Bool) (old new : Subsystem) (events : List Event) (seen : List Seen)

@@ -49,7 +49,7 @@ use Rattle.nvme_spec.specs.MediumCalls.{MediumAnswer, MediumCall, Reads, Writes,
 use Rattle.nvme_spec.specs.Statuses as status
 use Rattle.nvme_spec.specs.World.{World, Namespace, namespace_of}
 use Rattle.nvme_machine.specs.declared.event.Event.{Event}
-use Rattle.nvme_machine.specs.declared.event.Event.TheVariants.{Store, Write32, Read32, Fetch, Execute, PowerCycle}
+use Rattle.nvme_machine.specs.declared.event.Event.TheVariants.{Execute}
 use Rattle.nvme_machine.specs.declared.fetched.FetchedCommand.{FetchedCommand}
 use Rattle.nvme_machine.specs.declared.seen.Executed.TheVariants.{Posted}
 use Rattle.nvme_machine.specs.declared.seen.Seen.TheVariants.{Executed}
@@ -153,11 +153,7 @@ elsewhere s (Execute k i) n x own is fenced (Writes b bytes answer) (m, w) =
           (own n m x y (λ same. eqb-false m n there (sym same)) is (known-extent s.world m block.space block.there))
           (omega (arith, place)) (omega (arith, place, inside))
     ]
-elsewhere s (Store k address bytes) n x own is fenced call may = absurd may
-elsewhere s (Write32 k offset v) n x own is fenced call may = absurd may
-elsewhere s (Read32 k offset) n x own is fenced call may = absurd may
-elsewhere s (Fetch k q) n x own is fenced call may = absurd may
-elsewhere s PowerCycle n x own is fenced call may = absurd may
+elsewhere s event n x own is fenced call may = absurd may
 
 pub fenced_hosts_write_no_block : FencedHostsWriteNoBlock
 fenced_hosts_write_no_block tells old new [] [] calls n x own is run fenced = all-of-none (KeepsOff x) calls run.1

@@ -11,9 +11,9 @@ use Rattle.nvme_spec.specs.World.{World, Namespace, host_of, namespace_of}
 use Rattle.nvme_spec.specs.IoRules.{permits_group}
 use Rattle.nvme_spec.specs.Layout.{reservation_of, may_write, may_read}
 use Rattle.nvme_machine.specs.declared.event.Event.{Event}
-use Rattle.nvme_machine.specs.declared.event.Event.TheVariants.{Store, Write32, Read32, Fetch, Execute, PowerCycle}
+use Rattle.nvme_machine.specs.declared.event.Event.TheVariants.{PowerCycle}
 use Rattle.nvme_machine.specs.declared.seen.Seen.{Seen}
-use Rattle.nvme_machine.specs.Subsystems.{Subsystem, OfItsController, Step}
+use Rattle.nvme_machine.specs.Subsystems.{Subsystem, OfItsController, Step, controller_of}
 use Rattle.nvme_machine.specs.Fencing.{namespace_bytes, LeavesReservation, PermissionsStay, FencingHolds}
 use Rattle.nvme_machine.proofs.Layouts.{
   step-extents,
@@ -70,12 +70,8 @@ reading-stays tells old new event seen n step quiet k =
 -- a property of the controllers of events in one world is one in the next
 of-one : (P Q : ℕ → Type 0) → ((k : ℕ) → P k → Q k) → (event : Event)
     → OfItsController P event → OfItsController Q event
-of-one P Q f (Store k address bytes) h = f k h
-of-one P Q f (Write32 k offset v) h = f k h
-of-one P Q f (Read32 k offset) h = f k h
-of-one P Q f (Fetch k q) h = f k h
-of-one P Q f (Execute k i) h = f k h
 of-one P Q f PowerCycle h = tt
+of-one P Q f event h = f (controller_of event) h
 
 pub of-each : (P Q : ℕ → Type 0) → ((k : ℕ) → P k → Q k) → (events : List Event)
     → AllByRecursion (OfItsController P) events → AllByRecursion (OfItsController Q) events

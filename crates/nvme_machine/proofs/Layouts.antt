@@ -38,18 +38,14 @@ use Rattle.nvme_spec.specs.ExecutionLaws.{IsAllowed}
 use Rattle.nvme_spec.proofs.Fencing as spec
 use Rattle.nvme_spec.proofs.Power.{cycle_keeps_places, cycled-reservation-at}
 use Rattle.nvme_machine.specs.declared.event.Event.{Event}
-use Rattle.nvme_machine.specs.declared.event.Event.TheVariants.{Store, Write32, Read32, Fetch, Execute, PowerCycle}
+use Rattle.nvme_machine.specs.declared.event.Event.TheVariants.{Execute, PowerCycle}
 use Rattle.nvme_machine.specs.declared.fetched.FetchedCommand.{FetchedCommand}
 use Rattle.nvme_machine.specs.declared.seen.Seen.{Seen}
-use Rattle.nvme_machine.specs.Controllers.{Controller, QueuePair, Reaction, names, queues_of, open_pair}
+use Rattle.nvme_machine.specs.Controllers.{Controller, names, queues_of}
 use Rattle.nvme_machine.specs.CommandExecutions.{CommandExecution, CommandComesTo, CommandComesToAs}
 use Rattle.nvme_machine.specs.Subsystems.{
   Subsystem,
   Step,
-  ReactsAs,
-  ExecutesAt,
-  ExecutesOne,
-  ExecutesOver,
   OfItsController,
   controller_at,
   with_controller,
@@ -69,6 +65,7 @@ use Rattle.nvme_machine.specs.Fencing.{
   FencedEventsWriteNothing,
 }
 use Rattle.nvme_machine.proofs.AdminWorlds.{HasSameExtents, same-extents, admin-keeps}
+use Rattle.nvme_machine.proofs.StepCases.{StepCase, Unchanged, Reacted, Completed, PowerCycled, step-case}
 
 -- What an answer leaves.
 
@@ -146,48 +143,22 @@ pub data Leaves (tells : Bool) (old new : Subsystem) (event : Event) : Type 0 wh
   PowerLost : event ≡ PowerCycle → new.world ≡ cycled_world old.world → new.device ≡ old.device
       → Leaves tells old new event
 
-whole : (tells : Bool) (old new : Subsystem) (event : Event) → new ≡ old → Leaves tells old new event
-whole tells old new event e = AsItWas (ap (λ (s : Subsystem). s.world) e) (ap (λ (s : Subsystem). s.device) e)
-
-reacts : (o : Option Controller) (tells : Bool) (old new : Subsystem) (event : Event) (k : ℕ)
-    (f : Controller → Reaction) (seen : Seen) → ReactsAs o old k f seen new → Leaves tells old new event
-unfolding with_controller
-reacts None tells old new event k f seen h = whole tells old new event h.1
-reacts (Some c) tells old new event k f seen h =
-    AsItWas (ap (λ (s : Subsystem). s.world) h.1) (ap (λ (s : Subsystem). s.device) h.1)
-
-over : (o : Option QueuePair) (tells : Bool) (old new : Subsystem) (k : ℕ) (c : Controller) (i : ℕ) (t : FetchedCommand)
-    (seen : Seen) → controller_at old k ≡ Some c → slice_get c.fetched i ≡ Some t
-    → ExecutesOver o tells old k c i t seen new → Leaves tells old new (Execute k i)
-unfolding after_execution
-over None tells old new k c i t seen at found h = whole tells old new (Execute k i) h.1
-over (Some p) tells old new k c i t seen at found h =
-    AfterExecution k i refl c t h.execution at found h.comes_to (ap (λ (s : Subsystem). s.world) h.leaves)
+left-by : (tells : Bool) (old new : Subsystem) (event : Event) (seen : Seen)
+    → StepCase tells old new event seen → Leaves tells old new event
+unfolding with_controller after_execution after_power_cycle
+left-by tells old new event seen (Unchanged e) =
+    AsItWas (ap (λ (s : Subsystem). s.world) e) (ap (λ (s : Subsystem). s.device) e)
+left-by tells old new event seen (Reacted c at e) =
+    AsItWas (ap (λ (s : Subsystem). s.world) e) (ap (λ (s : Subsystem). s.device) e)
+left-by tells old new event seen (Completed k i is c t p at found room h) =
+    AfterExecution k i is c t h.execution at found h.comes_to (ap (λ (s : Subsystem). s.world) h.leaves)
     (ap (λ (s : Subsystem). s.device) h.leaves)
-
-one : (o : Option FetchedCommand) (tells : Bool) (old new : Subsystem) (k : ℕ) (c : Controller) (i : ℕ) (seen : Seen)
-    → controller_at old k ≡ Some c → slice_get c.fetched i ≡ o
-    → ExecutesOne o tells old k c i seen new → Leaves tells old new (Execute k i)
-one None tells old new k c i seen at found h = whole tells old new (Execute k i) h.1
-one (Some t) tells old new k c i seen at found h = over (open_pair c t) tells old new k c i t seen at found h
-
-executes : (o : Option Controller) (tells : Bool) (old new : Subsystem) (k i : ℕ) (seen : Seen)
-    → controller_at old k ≡ o → ExecutesAt o tells old k i seen new → Leaves tells old new (Execute k i)
-executes None tells old new k i seen at h = whole tells old new (Execute k i) h.1
-executes (Some c) tells old new k i seen at h = one (slice_get c.fetched i) tells old new k c i seen at refl h
-
-cycles : (tells : Bool) (old new : Subsystem) → new ≡ after_power_cycle old → Leaves tells old new PowerCycle
-unfolding after_power_cycle
-cycles tells old new h = PowerLost refl (ap (λ (s : Subsystem). s.world) h) (ap (λ (s : Subsystem). s.device) h)
+left-by tells old new event seen (PowerCycled is e) =
+    PowerLost is (ap (λ (s : Subsystem). s.world) e) (ap (λ (s : Subsystem). s.device) e)
 
 pub leaves : (tells : Bool) (old new : Subsystem) (event : Event) (seen : Seen)
     → Step tells old event seen new → Leaves tells old new event
-leaves tells old new (Store k address bytes) seen h = reacts (controller_at old k) tells old new _ k _ seen h
-leaves tells old new (Write32 k offset v) seen h = reacts (controller_at old k) tells old new _ k _ seen h
-leaves tells old new (Read32 k offset) seen h = reacts (controller_at old k) tells old new _ k _ seen h
-leaves tells old new (Fetch k q) seen h = reacts (controller_at old k) tells old new _ k _ seen h
-leaves tells old new (Execute k i) seen h = executes (controller_at old k) tells old new k i seen refl h
-leaves tells old new PowerCycle seen h = cycles tells old new h.1
+leaves tells old new event seen h = left-by tells old new event seen (step-case tells old new event seen h)
 
 cycled-extents : (w : World) → HasSameExtents w (cycled_world w)
 cycled-extents w =

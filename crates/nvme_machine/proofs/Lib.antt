@@ -1,5 +1,6 @@
 pub mod Denials
 pub mod AdminWorlds
+pub mod StepCases
 pub mod Layouts
 pub mod Determined
 pub mod Fencing

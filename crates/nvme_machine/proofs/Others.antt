@@ -9,6 +9,7 @@ use Rattle.std.proofs.Common.{
   zero,
   suc,
   ◌+◌,
+  ◌==◌,
   Bool,
   true,
   false,
@@ -16,7 +17,6 @@ use Rattle.std.proofs.Common.{
   [],
   ◌∷◌,
   Option,
-  None,
   Some,
   refl,
   sym,
@@ -28,23 +28,28 @@ use Rattle.std.proofs.Common.{
 use Rattle.std.specs.Prelude.{if◌then◌else◌, slice_get, slice_set, option_map, map}
 use Rattle.nvme_spec.specs.declared.outcome.Marks.{Marks}
 use Rattle.nvme_spec.specs.World.{World, host_of}
-use Rattle.std.proofs.lemmas.Option.{slice_get-map}
+use Rattle.std.proofs.lemmas.Bool.{eqb-true, eqb-false, cases_Bool}
+use Rattle.std.proofs.lemmas.Option.{slice_get-map, same_Some}
 use Rattle.nvme_machine.specs.declared.event.Event.{Event}
-use Rattle.nvme_machine.specs.declared.event.Event.TheVariants.{Store, Write32, Read32, Fetch, Execute, PowerCycle}
+use Rattle.nvme_machine.specs.declared.event.Event.TheVariants.{Execute, PowerCycle}
 use Rattle.nvme_machine.specs.declared.fetched.FetchedCommand.{FetchedCommand}
 use Rattle.nvme_machine.specs.declared.seen.Seen.{Seen}
-use Rattle.nvme_machine.specs.Controllers.{Controller, QueuePair, Reaction, power_cycled, with_marks, open_pair}
-use Rattle.nvme_machine.specs.CommandExecutions.{CommandExecution}
+use Rattle.nvme_machine.specs.Controllers.{
+  Controller,
+  QueuePair,
+  Reaction,
+  queues_of,
+  power_cycled,
+  with_marks,
+  open_pair,
+}
+use Rattle.nvme_machine.specs.CommandExecutions.{CommandExecution, CommandComesTo}
 use Rattle.nvme_machine.specs.Subsystems.{
   Subsystem,
   Step,
-  ReactsAs,
-  Completes,
-  ExecutesAt,
-  ExecutesOne,
-  ExecutesOver,
   controller_at,
   controller_of,
+  scene_of,
   with_controller,
   after_completion,
   after_execution,
@@ -55,6 +60,7 @@ use Rattle.nvme_machine.specs.Subsystems.{
   is_host_among,
 }
 use Rattle.nvme_machine.specs.Runs.{IsMarkedBy, OthersChangeInMarksAlone}
+use Rattle.nvme_machine.proofs.StepCases.{StepCase, Unchanged, Reacted, Completed, PowerCycled, reaction_of, step-case}
 
 -- controller k after marking
 pub record IsMarked (w : World) (m : Marks) (k : ℕ) (old new : Option Controller) : Type 0 where
@@ -98,22 +104,22 @@ replaced-other cs zero other c h = refl
 replaced-other cs (suc k) zero c h = refl
 replaced-other cs (suc k) (suc i) c h = set-other cs i k c (λ e. h (ap suc e))
 
--- what an event keeps of another controller
-abbrev Keeps : Subsystem → Subsystem → Seen → ℕ → Type 0
-Keeps old new seen other =
-    (controller_at new other ≡ controller_at old other)
-    ⊎ IsMarkedBy new.world seen other (controller_at old other) (controller_at new other)
+set-same : (cs : List Controller) (i : ℕ) (c d : Controller)
+    → slice_get cs i ≡ Some c → slice_get (slice_set cs i d) i ≡ Some d
+set-same [] i c d h = absurd (cc)
+set-same (x ∷ cs) zero c d h = refl
+set-same (x ∷ cs) (suc i) c d h = set-same cs i c d h
 
-stays : (old new : Subsystem) (seen : Seen) (other : ℕ) → new ≡ old → Keeps old new seen other
-stays old new seen other e = inl (ap (λ s. controller_at s other) e)
+pub replaced-same : (cs : List Controller) (k : ℕ) (c d : Controller)
+    → numbered cs k ≡ Some c → numbered (replaced cs k d) k ≡ Some d
+replaced-same cs zero c d h = absurd (cc)
+replaced-same cs (suc i) c d h = set-same cs i c d h
 
-reacts : (o : Option Controller) (old new : Subsystem) (k : ℕ) (f : Controller → Reaction) (seen : Seen)
-    → ReactsAs o old k f seen new → (other : ℕ) → other ≢ k → Keeps old new seen other
-unfolding with_controller controller_at
-reacts None old new k f seen h other apart = stays old new seen other h.1
-reacts (Some c) old new k f seen h other apart =
-    inl (ap (λ s. controller_at s other) h.1
-    ∙ (let a : Reaction = f c in replaced-other old.controllers k other a.controller apart))
+pub same_place : (i m : ℕ) → (i ≡ m) ⊎ (i ≢ m)
+same_place i m = elim (cases_Bool (i == m)) [
+  | inl e ↦ inl (eqb-true i m e)
+  | inr e ↦ inr (eqb-false i m e)
+]
 
 -- the k-th controller after an execution
 pub executed-at : (old new : Subsystem) (k : ℕ) (c : Controller) (i : ℕ) (t : FetchedCommand) (p : QueuePair)
@@ -122,65 +128,6 @@ pub executed-at : (old new : Subsystem) (k : ℕ) (c : Controller) (i : ℕ) (t 
     (marked_from a.left.world a.outcome.marks 1 (replaced old.controllers k (after_completion i t p a c))) other
 unfolding after_execution controller_at
 executed-at old new k c i t p a other e = ap (λ s. controller_at s other) e
-
-completes : (tells : Bool) (old new : Subsystem) (k : ℕ) (c : Controller) (i : ℕ) (t : FetchedCommand) (p : QueuePair)
-    (seen : Seen) → Completes tells old k c i t p seen new → (other : ℕ) → other ≢ k
-    → Keeps old new seen other
-unfolding after_execution controller_at
-completes tells old new k c i t p seen h other apart =
-    let a : CommandExecution = h.execution in
-    let new_at = executed-at old new k c i t p a other h.leaves in
-    let same = replaced-other old.controllers k other (after_completion i t p a c) apart in
-    let world : a.left.world ≡ new.world = sym (ap (λ (s : Subsystem). s.world) h.leaves) in
-    elim (marks-numbered a.left.world a.outcome.marks (replaced old.controllers k (after_completion i t p a c)) other) [
-      | inl kept ↦ inl (new_at ∙ kept ∙ same)
-      | inr m ↦ inr (record {
-        outcome = a.outcome;
-        gives = h.gives;
-        removed = ap (λ w. is_host_among a.outcome.marks.hosts.items (host_of w other)) (sym world) ∙ m.removed;
-        marked = new_at ∙ m.marked ∙ ap (option_map (with_marks a.outcome.marks.nsid)) same;
-      })
-    ]
-
-over : (o : Option QueuePair) (tells : Bool) (old new : Subsystem) (k : ℕ) (c : Controller) (i : ℕ) (t : FetchedCommand)
-    (seen : Seen) → ExecutesOver o tells old k c i t seen new → (other : ℕ) → other ≢ k
-    → Keeps old new seen other
-over None tells old new k c i t seen h other apart = stays old new seen other h.1
-over (Some p) tells old new k c i t seen h other apart = completes tells old new k c i t p seen h other apart
-
-one : (o : Option FetchedCommand) (tells : Bool) (old new : Subsystem) (k : ℕ) (c : Controller) (i : ℕ) (seen : Seen)
-    → ExecutesOne o tells old k c i seen new → (other : ℕ) → other ≢ k → Keeps old new seen other
-one None tells old new k c i seen h other apart = stays old new seen other h.1
-one (Some t) tells old new k c i seen h other apart = over (open_pair c t) tells old new k c i t seen h other apart
-
-executes : (o : Option Controller) (tells : Bool) (old new : Subsystem) (k i : ℕ) (seen : Seen)
-    → ExecutesAt o tells old k i seen new → (other : ℕ) → other ≢ k → Keeps old new seen other
-executes None tells old new k i seen h other apart = stays old new seen other h.1
-executes (Some c) tells old new k i seen h other apart =
-    one (slice_get c.fetched i) tells old new k c i seen h other apart
-
--- an event is one of a controller
-abbrev pub NamesOne : Event → Type 0
-NamesOne (Store k address bytes) = Unit {0}
-NamesOne (Write32 k offset v) = Unit {0}
-NamesOne (Read32 k offset) = Unit {0}
-NamesOne (Fetch k q) = Unit {0}
-NamesOne (Execute k i) = Unit {0}
-NamesOne PowerCycle = ⊥
-
-pub others-keep : (tells : Bool) (old new : Subsystem) (event : Event) (seen : Seen) → Step tells old event seen new
-    → NamesOne event → (other : ℕ) → other ≢ controller_of event → Keeps old new seen other
-others-keep tells old new (Store k address bytes) seen step one other apart =
-    reacts (controller_at old k) old new k _ seen step other apart
-others-keep tells old new (Write32 k offset v) seen step one other apart =
-    reacts (controller_at old k) old new k _ seen step other apart
-others-keep tells old new (Read32 k offset) seen step one other apart =
-    reacts (controller_at old k) old new k _ seen step other apart
-others-keep tells old new (Fetch k q) seen step one other apart =
-    reacts (controller_at old k) old new k _ seen step other apart
-others-keep tells old new (Execute k i) seen step one other apart =
-    executes (controller_at old k) tells old new k i seen step other apart
-others-keep tells old new PowerCycle seen step one other apart = absurd one
 
 -- the k-th controller after a power cycle
 cycled-numbered : (cs : List Controller) (k : ℕ)
@@ -193,21 +140,110 @@ pub cycled-at : (old new : Subsystem) (k : ℕ)
 unfolding after_power_cycle controller_at
 cycled-at old new k e = ap (λ s. controller_at s k) e ∙ cycled-numbered old.controllers k
 
--- with a power cycle as a third case
-or-cycled : {A B C : Type 0} → A ⊎ B → A ⊎ B ⊎ C
-or-cycled (inl same) = inl same
-or-cycled (inr marked) = inr (inl marked)
+-- what may change of another controller than that of the event
+abbrev Changes : Subsystem → Subsystem → Event → Seen → ℕ → Type 0
+Changes old new event seen other =
+    (controller_at new other ≡ controller_at old other)
+    ⊎ IsMarkedBy new.world seen other (controller_at old other) (controller_at new other)
+    ⊎ ((event ≡ PowerCycle) × (controller_at new other ≡ option_map power_cycled (controller_at old other)))
+
+changes : (tells : Bool) (old new : Subsystem) (event : Event) (seen : Seen) → StepCase tells old new event seen
+    → (other : ℕ) → other ≢ controller_of event → Changes old new event seen other
+unfolding with_controller after_execution controller_at
+changes tells old new event seen (Unchanged e) other apart = inl (ap (λ s. controller_at s other) e)
+changes tells old new event seen (Reacted c at e) other apart =
+    inl (ap (λ s. controller_at s other) e
+    ∙ (let a : Reaction = reaction_of event c in
+    replaced-other old.controllers (controller_of event) other a.controller apart))
+changes tells old new event seen (Completed k i is c t p at found room h) other apart =
+    let a : CommandExecution = h.execution in
+    let end : Controller = after_completion i t p a c in
+    let new_at = executed-at old new k c i t p a other h.leaves in
+    let same = replaced-other old.controllers k other end (subst (λ e. other ≢ controller_of e) is apart) in
+    let world : a.left.world ≡ new.world = sym (ap (λ (s : Subsystem). s.world) h.leaves) in
+    elim (marks-numbered a.left.world a.outcome.marks (replaced old.controllers k end) other) [
+      | inl kept ↦ inl (new_at ∙ kept ∙ same)
+      | inr m ↦ inr (inl (record {
+        outcome = a.outcome;
+        gives = h.gives;
+        removed = ap (λ w. is_host_among a.outcome.marks.hosts.items (host_of w other)) (sym world) ∙ m.removed;
+        marked = new_at ∙ m.marked ∙ ap (option_map (with_marks a.outcome.marks.nsid)) same;
+      }))
+    ]
+changes tells old new event seen (PowerCycled is e) other apart = inr (inr (is, cycled-at old new other e))
 
 pub others_change_in_marks_alone : OthersChangeInMarksAlone
-others_change_in_marks_alone tells old new (Store k address bytes) seen step other apart =
-    or-cycled (others-keep tells old new (Store k address bytes) seen step tt other apart)
-others_change_in_marks_alone tells old new (Write32 k offset v) seen step other apart =
-    or-cycled (others-keep tells old new (Write32 k offset v) seen step tt other apart)
-others_change_in_marks_alone tells old new (Read32 k offset) seen step other apart =
-    or-cycled (others-keep tells old new (Read32 k offset) seen step tt other apart)
-others_change_in_marks_alone tells old new (Fetch k q) seen step other apart =
-    or-cycled (others-keep tells old new (Fetch k q) seen step tt other apart)
-others_change_in_marks_alone tells old new (Execute k i) seen step other apart =
-    or-cycled (others-keep tells old new (Execute k i) seen step tt other apart)
-others_change_in_marks_alone tells old new PowerCycle seen step other apart =
-    inr (inr (refl, cycled-at old new other step.1))
+others_change_in_marks_alone tells old new event seen step other apart =
+    changes tells old new event seen (step-case tells old new event seen step) other apart
+
+-- A property of a controller, over a step. Marks keep it, and each other event of the controller keeps it too, unless
+-- there is an exception E.
+pub record Survives (Q : Controller → Type 0) (E : Type 0) (tells : Bool) (old : Subsystem) (event : Event) (j : ℕ)
+    (c : Controller) : Type 0 where
+  pub marks : (n : ℕ) → (d : Controller) → Q d → Q (with_marks n d)
+  pub stays : Q c
+  pub reacts : controller_of event ≡ j → Q (reaction_of event c).controller ⊎ E
+  pub finishes : (k i : ℕ) → (t : FetchedCommand) → (p : QueuePair) → (a : CommandExecution) → event ≡ Execute k i
+      → k ≡ j → slice_get c.fetched i ≡ Some t → open_pair c t ≡ Some p
+      → CommandComesTo tells (queues_of c) k t (scene_of old c) a → Q (after_completion i t p a c) ⊎ E
+  pub cycles : event ≡ PowerCycle → Q (power_cycled c) ⊎ E
+
+abbrev pub Has : (Controller → Type 0) → Option Controller → Type 0
+Has Q o = (d : Controller) × (o ≡ Some d) × Q d
+
+pub at-marked : (Q : Controller → Type 0) → ((n : ℕ) → (d : Controller) → Q d → Q (with_marks n d))
+    → (w : World) (m : Marks) (cs : List Controller) (j : ℕ)
+    → Has Q (numbered cs j) → Has Q (numbered (marked_from w m 1 cs) j)
+at-marked Q marks w m cs j s = elim (marks-numbered w m cs j) [
+  | inl same ↦ (s.0, same ∙ s.1, s.2)
+  | inr x ↦ (with_marks m.nsid s.0, x.marked ∙ ap (option_map (with_marks m.nsid)) s.1, marks m.nsid s.0 s.2)
+]
+
+at-replaced : (Q : Controller → Type 0) (E : Type 0) (cs : List Controller) (k j : ℕ) (b x c : Controller)
+    → numbered cs k ≡ Some b → numbered cs j ≡ Some c → (k ≡ j → c ≡ b → Q x ⊎ E) → Q c
+    → Has Q (numbered (replaced cs k x) j) ⊎ E
+at-replaced Q E cs k j b x c there at own kept = elim (same_place k j) [
+  | inl same ↦ elim (own same (same_Some _ _ (sym at ∙ ap (numbered cs) (sym same) ∙ there))) [
+    | inl q ↦ inl (x, subst (λ n. numbered (replaced cs n x) j ≡ Some x) (sym same) (replaced-same cs j c x at), q)
+    | inr e ↦ inr e
+  ]
+  | inr other ↦ inl (c, replaced-other cs k j x (λ e. other (sym e)) ∙ at, kept)
+]
+
+survives-by : (Q : Controller → Type 0) (E : Type 0) (tells : Bool) (old new : Subsystem) (event : Event) (seen : Seen)
+    → StepCase tells old new event seen → (j : ℕ) (c : Controller) → controller_at old j ≡ Some c
+    → Survives Q E tells old event j c → Has Q (controller_at new j) ⊎ E
+unfolding with_controller controller_at
+survives-by Q E tells old new event seen (Unchanged e) j c at s =
+    inl (c, ap (λ x. controller_at x j) e ∙ at, s.stays)
+survives-by Q E tells old new event seen (Reacted b there e) j c at s =
+    let own : controller_of event ≡ j → c ≡ b → Q (reaction_of event b).controller ⊎ E =
+    λ same is. (let x : Survives Q E tells old event j b = subst (Survives Q E tells old event j) is s in
+    x.reacts same) in
+    elim (at-replaced Q E old.controllers (controller_of event) j b (reaction_of event b).controller c there at own
+    s.stays) [
+      | inl r ↦ inl (r.0, ap (λ x. controller_at x j) e ∙ r.1, r.2)
+      | inr taken ↦ inr taken
+    ]
+survives-by Q E tells old new event seen (Completed k i is b t p there found room h) j c at s =
+    let a : CommandExecution = h.execution in
+    let end : Controller = after_completion i t p a b in
+    let own : k ≡ j → c ≡ b → Q end ⊎ E =
+    λ same here. (let x : Survives Q E tells old event j b = subst (Survives Q E tells old event j) here s in
+    x.finishes k i t p a is same found room h.comes_to) in
+    elim (at-replaced Q E old.controllers k j b end c there at own s.stays) [
+      | inl r ↦ (let m =
+          at-marked Q s.marks a.left.world a.outcome.marks (replaced old.controllers k end) j (r.0, r.1, r.2) in
+          inl (m.0, executed-at old new k b i t p a j h.leaves ∙ m.1, m.2))
+      | inr taken ↦ inr taken
+    ]
+survives-by Q E tells old new event seen (PowerCycled is e) j c at s = elim (s.cycles is) [
+  | inl q ↦ inl (power_cycled c, cycled-at old new j e ∙ ap (option_map power_cycled) at, q)
+  | inr taken ↦ inr taken
+]
+
+pub survives : (Q : Controller → Type 0) (E : Type 0) (tells : Bool) (old new : Subsystem) (event : Event) (seen : Seen)
+    → Step tells old event seen new → (j : ℕ) (c : Controller) → controller_at old j ≡ Some c
+    → Survives Q E tells old event j c → Has Q (controller_at new j) ⊎ E
+survives Q E tells old new event seen step j c at s =
+    survives-by Q E tells old new event seen (step-case tells old new event seen step) j c at s

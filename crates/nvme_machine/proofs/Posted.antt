@@ -65,17 +65,15 @@ use Rattle.nvme_spec.specs.IoData.{io_verdict}
 use Rattle.nvme_spec.specs.Execution.{Scene, ExecutesBy}
 use Rattle.nvme_spec.proofs.Passing.{has-passed}
 use Rattle.nvme_machine.specs.declared.event.Event.{Event}
-use Rattle.nvme_machine.specs.declared.event.Event.TheVariants.{Store, Write32, Read32, Fetch, Execute, PowerCycle}
+use Rattle.nvme_machine.specs.declared.event.Event.TheVariants.{Store, Write32, Fetch, Execute}
 use Rattle.nvme_machine.specs.declared.fetched.FetchedCommand.{FetchedCommand}
 use Rattle.nvme_machine.specs.declared.seen.Executed.TheVariants.{Posted}
-use Rattle.nvme_machine.specs.declared.seen.Seen.{Seen}
 use Rattle.nvme_machine.specs.declared.seen.Seen.TheVariants.{Stored, Outside, Executed}
 use Rattle.nvme_machine.specs.Controllers.{
   Controller,
   SubmissionQueue,
   CompletionQueue,
   QueuePair,
-  Reaction,
   queues_of,
   completion_at,
   open_pair,
@@ -87,8 +85,6 @@ use Rattle.nvme_machine.specs.Controllers.{
   taking_effect,
   after_store,
   after_write32,
-  wrote,
-  has_read,
   after_fetch,
   after_posting,
   after_queue_change,
@@ -98,18 +94,11 @@ use Rattle.nvme_machine.specs.Controllers.{
 use Rattle.nvme_machine.specs.CommandExecutions.{CommandExecution, CommandComesTo, CommandComesToAs}
 use Rattle.nvme_machine.specs.Subsystems.{
   Subsystem,
-  Step,
-  ReactsAs,
-  ExecutesAt,
-  ExecutesOne,
-  ExecutesOver,
   controller_at,
   controller_of,
-  with_controller,
   scene_of,
   after_completion,
   after_execution,
-  numbered,
   replaced,
 }
 use Rattle.nvme_machine.specs.Preempted.{change_of}
@@ -123,14 +112,14 @@ use Rattle.nvme_machine.specs.Posted.{
   Overlaps,
   is_touched,
   addresses_of,
-  TakesByExecution,
   TakesByWrite,
+  TakesEntry,
   UnreadStands,
   UnreadStandsOverRuns,
 }
 use Rattle.nvme_machine.proofs.Denials.{completion}
 use Rattle.nvme_machine.proofs.Everywhere.{step-keeps}
-use Rattle.nvme_machine.proofs.Others.{marks-numbered, executed-at, NamesOne, others-keep}
+use Rattle.nvme_machine.proofs.Others.{executed-at, at-marked, replaced-same, same_place, survives}
 use Rattle.nvme_machine.proofs.Windows.{
   keeps_its_window,
   answer-window,
@@ -150,7 +139,7 @@ use Rattle.nvme_machine.proofs.Slots.{
   stored-apart,
   stored-there,
 }
-use Rattle.nvme_machine.proofs.Staying.{replaced-same, same_place}
+use Rattle.nvme_machine.proofs.StepCases.{reaction_of}
 use Rattle.nvme_machine.proofs.Wirings.{set-other, is-there, unused-at}
 
 -- it is in the window of controller j
@@ -208,13 +197,8 @@ fetches : (q : ℕ) (c : Controller) (e : PostedEntry) → StandsUnread e c → 
 unfolding after_fetch
 fetches q c e u = fetch-it q c (fetchable c q) e u
 
-marked-too : (n : ℕ) (o p : Option Controller) (e : PostedEntry) → p ≡ option_map (with_marks n) o
-    → Stands e o → Stands e p
-marked-too n o p e marked s =
-    (with_marks n s.0, marked ∙ ap (option_map (with_marks n)) s.1, over-window e s.0 (with_marks n s.0) refl refl s.2)
-
-unmoved : (o p : Option Controller) (e : PostedEntry) → p ≡ o → Stands e o → Stands e p
-unmoved o p e same s = (s.0, same ∙ s.1, s.2)
+marked-too : (e : PostedEntry) (n : ℕ) (c : Controller) → StandsUnread e c → StandsUnread e (with_marks n c)
+marked-too e n c u = over-window e c (with_marks n c) refl refl u
 
 -- Register writes.
 
@@ -496,102 +480,46 @@ at-new : (old new : Subsystem) (k : ℕ) (c : Controller) (i : ℕ) (t : Fetched
 unfolding controller_at
 at-new old new k c i t p a e leaves at u =
     let end : Controller = after_completion i t p a c in
-    let new_at = executed-at old new k c i t p a k leaves in
-    let stood : Stands e (numbered (replaced old.controllers k end) k) =
+    let m = at-marked (StandsUnread e) (marked-too e) a.left.world a.outcome.marks (replaced old.controllers k end) k
     (end, replaced-same old.controllers k c end at, u) in
-    elim (marks-numbered a.left.world a.outcome.marks (replaced old.controllers k end) k) [
-      | inl kept ↦ unmoved _ _ e (new_at ∙ kept) stood
-      | inr marked ↦ marked-too a.outcome.marks.nsid _ _ e (new_at ∙ marked.marked) stood
+    (m.0, executed-at old new k c i t p a k leaves ∙ m.1, m.2)
+
+reacted : (s : Subsystem) (event : Event) (j : ℕ) (c : Controller) (e : PostedEntry) → HasItsWindow c
+    → StandsUnread e c → controller_of event ≡ j
+    → StandsUnread e (reaction_of event c).controller ⊎ TakesEntry s j c e event
+reacted s (Store k address bytes) j c e placed u same = elim (store-it address bytes.now c e placed u) [
+  | inl stands ↦ inl stands
+  | inr over ↦ inr (same, over)
+]
+reacted s (Write32 k offset v) j c e placed u same = elim (write-it offset v c e u) [
+  | inl stands ↦ inl stands
+  | inr taken ↦ inr (same, taken)
+]
+reacted s (Fetch k q) j c e placed u same = inl (fetches q c e u)
+reacted s event j c e placed u same = inl u
+
+executed : (tells : Bool) (s : Subsystem) (event : Event) (k i j : ℕ) (c : Controller) (t : FetchedCommand)
+    (p : QueuePair) (a : CommandExecution) (e : PostedEntry) → event ≡ Execute k i → k ≡ j
+    → slice_get c.fetched i ≡ Some t → open_pair c t ≡ Some p
+    → CommandComesTo tells (queues_of c) k t (scene_of s c) a → HasItsWindow c → StandsUnread e c
+    → StandsUnread e (after_completion i t p a c) ⊎ TakesEntry s j c e event
+executed tells s event k i j c t p a e is same found room answers placed u =
+    elim (finishes tells s k i c t p a e room answers placed u) [
+      | inl stands ↦ inl stands
+      | inr takes ↦ inr (subst (TakesEntry s j c e) (sym is)
+          (same, record { command = t; pair = p; found = found; room = room; takes = takes }))
     ]
-
-abbrev Result : Subsystem → Subsystem → ℕ → Controller → ℕ → PostedEntry → Type 0
-Result old new k c i e = Stands e (controller_at new k) ⊎ TakesByExecution old k c i e
-
-stays : (old new : Subsystem) (k : ℕ) (c : Controller) (i : ℕ) (e : PostedEntry)
-    → new ≡ old → controller_at old k ≡ Some c → StandsUnread e c → Result old new k c i e
-stays old new k c i e same at u = inl (c, ap (λ s. controller_at s k) same ∙ at, u)
-
-over-it : (o : Option QueuePair) (tells : Bool)
-    (old new : Subsystem) (k : ℕ) (c : Controller) (i : ℕ) (t : FetchedCommand) (seen : Seen) (e : PostedEntry)
-    → controller_at old k ≡ Some c → slice_get c.fetched i ≡ Some t → open_pair c t ≡ o
-    → ExecutesOver o tells old k c i t seen new → HasItsWindow c → StandsUnread e c → Result old new k c i e
-over-it None tells old new k c i t seen e at found room h placed u = stays old new k c i e h.1 at u
-over-it (Some p) tells old new k c i t seen e at found room h placed u =
-    elim (finishes tells old k i c t p h.execution e room h.comes_to placed u) [
-      | inl stands ↦ inl (at-new old new k c i t p h.execution e h.leaves at stands)
-      | inr takes ↦ inr (record { command = t; pair = p; found = found; room = room; takes = takes })
-    ]
-
-one-it : (o : Option FetchedCommand) (tells : Bool) (old new : Subsystem) (k : ℕ) (c : Controller) (i : ℕ) (seen : Seen)
-    (e : PostedEntry) → controller_at old k ≡ Some c → slice_get c.fetched i ≡ o
-    → ExecutesOne o tells old k c i seen new → HasItsWindow c → StandsUnread e c → Result old new k c i e
-one-it None tells old new k c i seen e at found h placed u = stays old new k c i e h.1 at u
-one-it (Some t) tells old new k c i seen e at found h placed u =
-    over-it (open_pair c t) tells old new k c i t seen e at found refl h placed u
-
-executes : (tells : Bool) (old new : Subsystem) (k i : ℕ) (c : Controller) (seen : Seen) (e : PostedEntry)
-    → controller_at old k ≡ Some c → ExecutesAt (controller_at old k) tells old k i seen new → HasItsWindow c
-    → StandsUnread e c
-    → Result old new k c i e
-executes tells old new k i c seen e at h placed u =
-    one-it (slice_get c.fetched i) tells old new k c i seen e at refl
-    (subst (λ o. ExecutesAt o tells old k i seen new) at h) placed u
-
-reacts : (old new : Subsystem) (k : ℕ) (c : Controller) (f : Controller → Reaction) (seen : Seen) (e : PostedEntry)
-    → ReactsAs (controller_at old k) old k f seen new → controller_at old k ≡ Some c
-    → StandsUnread e (f c).controller → Stands e (controller_at new k)
-unfolding controller_at with_controller
-reacts old new k c f seen e h at u =
-    let one : ReactsAs (Some c) old k f seen new = subst (λ o. ReactsAs o old k f seen new) at h in
-    ((f c).controller, ap (λ x. controller_at x k) one.1 ∙ replaced-same old.controllers k c (f c).controller at, u)
-
-elsewhere : (tells : Bool) (old new : Subsystem) (event : Event) (seen : Seen) → Step tells old event seen new
-    → (j : ℕ) (c : Controller) (e : PostedEntry) → controller_at old j ≡ Some c → StandsUnread e c
-    → NamesOne event → j ≢ controller_of event → Stands e (controller_at new j)
-elsewhere tells old new event seen step j c e at u one other =
-    elim (others-keep tells old new event seen step one j other) [
-      | inl same ↦ unmoved (controller_at old j) (controller_at new j) e same (c, at, u)
-      | inr x ↦ marked-too x.outcome.marks.nsid (controller_at old j) (controller_at new j) e x.marked (c, at, u)
-    ]
-
-here : (s : Subsystem) (k j : ℕ) (e : PostedEntry) → k ≡ j → Stands e (controller_at s k) → Stands e (controller_at s j)
-here s k j e same r = subst (λ x. Stands e (controller_at s x)) same r
 
 pub unread_stands : UnreadStands
-unread_stands tells old new (Store k address bytes) seen step placed j c e at u = elim (same_place k j) [
-  | inl same ↦ elim (store-it address bytes.now c e (placed j c at) u) [
-    | inl stands ↦ inl (here new k j e same
-        (reacts old new k c (after_store address bytes.now) seen e step (ap (controller_at old) same ∙ at) stands))
-    | inr over ↦ inr (same, over)
-  ]
-  | inr other ↦ inl (elsewhere tells old new (Store k address bytes) seen step j c e at u tt (λ x. other (sym x)))
-]
-unread_stands tells old new (Write32 k offset v) seen step placed j c e at u = elim (same_place k j) [
-  | inl same ↦ elim (write-it offset v c e u) [
-    | inl stands ↦ inl (here new k j e same
-        (reacts old new k c (wrote offset v) seen e step (ap (controller_at old) same ∙ at) stands))
-    | inr taken ↦ inr (same, taken)
-  ]
-  | inr other ↦ inl (elsewhere tells old new (Write32 k offset v) seen step j c e at u tt (λ x. other (sym x)))
-]
-unread_stands tells old new (Read32 k offset) seen step placed j c e at u = elim (same_place k j) [
-  | inl same ↦
-      inl (here new k j e same (reacts old new k c (has_read offset) seen e step (ap (controller_at old) same ∙ at) u))
-  | inr other ↦ inl (elsewhere tells old new (Read32 k offset) seen step j c e at u tt (λ x. other (sym x)))
-]
-unread_stands tells old new (Fetch k q) seen step placed j c e at u = elim (same_place k j) [
-  | inl same ↦ inl (here new k j e same
-      (reacts old new k c (after_fetch q) seen e step (ap (controller_at old) same ∙ at) (fetches q c e u)))
-  | inr other ↦ inl (elsewhere tells old new (Fetch k q) seen step j c e at u tt (λ x. other (sym x)))
-]
-unread_stands tells old new (Execute k i) seen step placed j c e at u = elim (same_place k j) [
-  | inl same ↦ elim (executes tells old new k i c seen e (ap (controller_at old) same ∙ at) step (placed j c at) u) [
-    | inl stands ↦ inl (here new k j e same stands)
-    | inr taken ↦ inr (same, taken)
-  ]
-  | inr other ↦ inl (elsewhere tells old new (Execute k i) seen step j c e at u tt (λ x. other (sym x)))
-]
-unread_stands tells old new PowerCycle seen step placed j c e at u = inr tt
+unread_stands tells old new event seen step placed j c e at u =
+    survives (StandsUnread e) (TakesEntry old j c e event) tells old new event seen step j c at (record {
+      marks = marked-too e;
+      stays = u;
+      reacts = reacted old event j c e (placed j c at) u;
+      finishes = λ k i t p a is same found room answers.
+          executed tells old event k i j c t p a e is same found room answers (placed j c at) u;
+      cycles = λ is. inr (subst (TakesEntry old j c e) (sym is) tt);
+    })
 
 pub unread_stands_over_runs : UnreadStandsOverRuns
 unread_stands_over_runs tells old new [] [] j e run placed c at u = (c, ap (λ s. controller_at s j) run ∙ at, u)

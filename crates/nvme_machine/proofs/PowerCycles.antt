@@ -44,7 +44,7 @@ use Rattle.nvme_spec.proofs.Protected.{
   protection_outlasts_commands,
 }
 use Rattle.nvme_machine.specs.declared.event.Event.{Event}
-use Rattle.nvme_machine.specs.declared.event.Event.TheVariants.{Store, Write32, Read32, Fetch, Execute, PowerCycle}
+use Rattle.nvme_machine.specs.declared.event.Event.TheVariants.{PowerCycle}
 use Rattle.nvme_machine.specs.declared.fetched.FetchedCommand.{FetchedCommand}
 use Rattle.nvme_machine.specs.declared.seen.Seen.{Seen}
 use Rattle.nvme_machine.specs.Controllers.{Controller, power_cycled, queues_of}
@@ -122,13 +122,9 @@ power_takes tells old new seen step =
 -- What persists.
 
 unforgotten : (n : ℕ) (s : Subsystem) (event : Event) → Persists s.world n → Forgets s event n → ⊥
-unforgotten n s (Store k address bytes) p h = h
-unforgotten n s (Write32 k offset v) p h = h
-unforgotten n s (Read32 k offset) p h = h
-unforgotten n s (Fetch k q) p h = h
-unforgotten n s (Execute k i) p h = h
 unforgotten n s PowerCycle p h = let clear : p.reservation.ptpl ≡ false = subst IsFleeting p.there h in
     false≢true (sym clear ∙ p.set)
+unforgotten n s event p h = h
 
 -- an event leaves it
 left-so : (n : ℕ) (s : Subsystem) (event : Event) → Persists s.world n → ReservesNothing n s event

@@ -56,15 +56,12 @@ use Rattle.nvme_machine.specs.Controllers.{
   Controller,
   SubmissionQueue,
   QueuePair,
-  Reaction,
   with_mark,
   with_marks,
   queues_of,
   open_pair,
   after_store,
   after_write32,
-  wrote,
-  has_read,
   after_fetch,
   fetched_from,
   fetchable,
@@ -77,16 +74,13 @@ use Rattle.nvme_machine.specs.CommandExecutions.{CommandExecution, CommandComesT
 use Rattle.nvme_machine.specs.Subsystems.{
   Subsystem,
   Step,
-  ReactsAs,
   Completes,
   ExecutesAt,
   ExecutesOne,
   ExecutesOver,
   controller_at,
   controller_of,
-  with_controller,
   after_completion,
-  numbered,
   replaced,
   scene_of,
 }
@@ -107,8 +101,9 @@ use Rattle.nvme_machine.specs.Preempted.{
   RunKeeping,
   PreemptedStaysOut,
 }
-use Rattle.nvme_machine.proofs.Others.{marks-numbered, executed-at, NamesOne, others-keep}
-use Rattle.nvme_machine.proofs.Staying.{got-map, still-marked, got-front, replaced-same, same_place}
+use Rattle.nvme_machine.proofs.Others.{executed-at, at-marked, replaced-same, survives}
+use Rattle.nvme_machine.proofs.Staying.{got-map, still-marked, got-front}
+use Rattle.nvme_machine.proofs.StepCases.{reaction_of}
 use Rattle.nvme_machine.proofs.Marking.{io_name, marked_is_aborted, preempted_commands_are_marked}
 
 -- and so in the list of a controller
@@ -205,20 +200,13 @@ change-is tells s k c u a h = by (u.queue == 0) h
     by false g = g.0
 
 -- marks leave it at its place
-marked-at : (n : ℕ) (t : FetchedCommand) (o p : Option Controller) (l : ℕ) → p ≡ option_map (with_marks n) o
-    → AtOf o t l → AtOf p t l
-marked-at n t o p l marked s = (
-  with_marks n s.0,
-  marked ∙ ap (option_map (with_marks n)) s.1,
-  (let at = s.2 in record {
-    found_as = with_mark n at.found_as;
-    found = got-map (with_mark n) s.0.fetched l ∙ ap (option_map (with_mark n)) at.found;
-    still = still-marked n t at.found_as at.still;
-  }),
-)
-
-unmoved : (o p : Option Controller) (t : FetchedCommand) (l : ℕ) → p ≡ o → AtOf o t l → AtOf p t l
-unmoved o p t l same s = (s.0, same ∙ s.1, s.2)
+marked-at : (t : FetchedCommand) (l n : ℕ) (d : Controller) → StandsAt t d.fetched l
+    → StandsAt t (with_marks n d).fetched l
+marked-at t l n d at = record {
+  found_as = with_mark n at.found_as;
+  found = got-map (with_mark n) d.fetched l ∙ ap (option_map (with_mark n)) at.found;
+  still = still-marked n t at.found_as at.still;
+}
 
 completed : (tells : Bool) (old new : Subsystem) (k : ℕ) (c : Controller) (i m l : ℕ) (u t : FetchedCommand)
     (p : QueuePair) (seen : Seen) → Completes tells old k c i u p seen new → controller_at old k ≡ Some c
@@ -228,17 +216,14 @@ unfolding controller_at
 completed tells old new k c i m l u t p seen h at found place =
     let a : CommandExecution = h.execution in
     let end : Controller = after_completion i u p a c in
-    let new_at = executed-at old new k c i u p a k h.leaves in
-    let stood : AtOf (numbered (replaced old.controllers k end) k) t l = (
+    let m = at-marked (λ d. StandsAt t d.fetched l) (marked-at t l) a.left.world a.outcome.marks
+    (replaced old.controllers k end) k (
       end,
       replaced-same old.controllers k c end at,
       as-it-is t end.fetched l
           (posted-at (change_of old k c u) i m l t u p a c (change-is tells old k c u a h.comes_to) found place),
     ) in
-    elim (marks-numbered a.left.world a.outcome.marks (replaced old.controllers k end) k) [
-      | inl kept ↦ unmoved _ _ t l (new_at ∙ kept) stood
-      | inr marked ↦ marked-at a.outcome.marks.nsid t _ _ l (new_at ∙ marked.marked) stood
-    ]
+    (m.0, executed-at old new k c i u p a k h.leaves ∙ m.1, m.2)
 
 -- if nothing happens
 unchanged-at : (old new : Subsystem) (k : ℕ) (c : Controller) (t : FetchedCommand) (m l : ℕ) → new ≡ old
@@ -274,14 +259,6 @@ executed tells old new k c i m l t seen h at found place =
     (ap (λ o. place_executed o old k i m) (sym at) ∙ place)
 
 -- Reactions.
-
-reacted : (old new : Subsystem) (k : ℕ) (c : Controller) (f : Controller → Reaction) (seen : Seen) (t : FetchedCommand)
-    (m : ℕ) → ReactsAs (controller_at old k) old k f seen new → controller_at old k ≡ Some c
-    → StandsAt t (f c).controller.fetched m → AtOf (controller_at new k) t m
-unfolding controller_at with_controller
-reacted old new k c f seen t m h at s =
-    let one : ReactsAs (Some c) old k f seen new = subst (λ o. ReactsAs o old k f seen new) at h in
-    ((f c).controller, ap (λ x. controller_at x k) one.1 ∙ replaced-same old.controllers k c (f c).controller at, s)
 
 stored-at : (address : ℕ) (bytes : List ℕ) (c : Controller)
     → (after_store address bytes c).controller.fetched ≡ c.fetched
@@ -319,25 +296,29 @@ unfolding after_write32
 wrote-at offset v c e = effect-at (after_write c.registers offset v).effect
     (record c { registers = (after_write c.registers offset v).registers }) e
 
--- another controller's event
-elsewhere : (tells : Bool) (old new : Subsystem) (event : Event) (seen : Seen) → Step tells old event seen new
-    → (j m : ℕ) (c : Controller) (t : FetchedCommand) → controller_at old j ≡ Some c → slice_get c.fetched m ≡ Some t
-    → NamesOne event → j ≢ controller_of event → AtOf (controller_at new j) t m
-elsewhere tells old new event seen step j m c t at found one other =
-    let here : AtOf (controller_at old j) t m = (c, at, as-it-is t c.fetched m found) in
-    elim (others-keep tells old new event seen step one j other) [
-      | inl same ↦ unmoved (controller_at old j) (controller_at new j) t m same here
-      | inr x ↦ marked-at x.outcome.marks.nsid t (controller_at old j) (controller_at new j) m x.marked here
+-- an event that leaves the commands of controller j at their places
+abbrev Keeps : ℕ → Event → Type 0
+Keeps j (Execute k i) = k ≢ j
+Keeps j PowerCycle = ⊥
+Keeps j event = Unit {0}
+
+kept : (tells : Bool) (old new : Subsystem) (event : Event) (seen : Seen) → Step tells old event seen new
+    → (j m l : ℕ) (c : Controller) (t : FetchedCommand) → controller_at old j ≡ Some c → slice_get c.fetched m ≡ Some t
+    → Some m ≡ Some l → Keeps j event
+    → (controller_of event ≡ j → slice_get (reaction_of event c).controller.fetched m ≡ Some t)
+    → AtOf (controller_at new j) t l
+kept tells old new event seen step j m l c t at found place keeps reacts =
+    elim (survives (λ d. StandsAt t d.fetched m) ⊥ tells old new event seen step j c at (record {
+      marks = marked-at t m;
+      stays = as-it-is t c.fetched m found;
+      reacts = λ same. inl (as-it-is t _ m (reacts same));
+      finishes = λ k i u p a is same here room answers.
+          (let apart : k ≢ j = subst (Keeps j) is keeps in absurd (apart same));
+      cycles = λ is. (let none : ⊥ = subst (Keeps j) is keeps in absurd none);
+    })) [
+      | inl s ↦ subst (λ x. AtOf (controller_at new j) t x) (same_Some _ _ place) s
+      | inr none ↦ absurd none
     ]
-
-moved-at : (s : Subsystem) (k j : ℕ) (t : FetchedCommand) (m l : ℕ)
-    → k ≡ j → Some m ≡ Some l → AtOf (controller_at s k) t m → AtOf (controller_at s j) t l
-moved-at s k j t m l same place r =
-    subst (λ x. AtOf (controller_at s x) t l) same (subst (λ x. AtOf (controller_at s k) t x) (same_Some _ _ place) r)
-
-replaced-at : (s : Subsystem) (j : ℕ) (t : FetchedCommand) (m l : ℕ) → Some m ≡ Some l → AtOf (controller_at s j) t m
-    → AtOf (controller_at s j) t l
-replaced-at s j t m l place r = subst (λ x. AtOf (controller_at s j) t x) (same_Some _ _ place) r
 
 -- the condition of a write, for its own controller and for another
 own-write : (b : Bool) (m l : ℕ) → (if b then None else Some m) ≡ Some l → (b ≡ false) × (Some m ≡ Some l)
@@ -346,37 +327,20 @@ own-write false m l h = (refl, h)
 
 pub commands_are_followed : CommandsAreFollowed
 unfolding place_after
-commands_are_followed tells old new (Store k address bytes) seen step j m l c t at found place = elim (same_place k j) [
-  | inl same ↦ moved-at new k j t m l same place
-      (reacted old new k c (after_store address bytes.now) seen t m step (ap (λ x. controller_at old x) same ∙ at)
-      (as-it-is t _ m (ap (λ xs. slice_get xs m) (stored-at address bytes.now c) ∙ found)))
-  | inr other ↦ replaced-at new j t m l place
-      (elsewhere tells old new (Store k address bytes) seen step j m c t at found tt (λ e. other (sym e)))
-]
-commands_are_followed tells old new (Read32 k offset) seen step j m l c t at found place = elim (same_place k j) [
-  | inl same ↦ moved-at new k j t m l same place (reacted old new k c (has_read offset) seen t m step
-      (ap (λ x. controller_at old x) same ∙ at) (as-it-is t c.fetched m found))
-  | inr other ↦ replaced-at new j t m l place
-      (elsewhere tells old new (Read32 k offset) seen step j m c t at found tt (λ e. other (sym e)))
-]
-commands_are_followed tells old new (Fetch k q) seen step j m l c t at found place = elim (same_place k j) [
-  | inl same ↦ moved-at new k j t m l same place (reacted old new k c (after_fetch q) seen t m step
-      (ap (λ x. controller_at old x) same ∙ at) (as-it-is t _ m (fetched-at q c t m found)))
-  | inr other ↦ replaced-at new j t m l place
-      (elsewhere tells old new (Fetch k q) seen step j m c t at found tt (λ e. other (sym e)))
-]
+commands_are_followed tells old new (Store k address bytes) seen step j m l c t at found place =
+    kept tells old new (Store k address bytes) seen step j m l c t at found place tt
+    (λ same. ap (λ xs. slice_get xs m) (stored-at address bytes.now c) ∙ found)
+commands_are_followed tells old new (Read32 k offset) seen step j m l c t at found place =
+    kept tells old new (Read32 k offset) seen step j m l c t at found place tt (λ same. found)
+commands_are_followed tells old new (Fetch k q) seen step j m l c t at found place =
+    kept tells old new (Fetch k q) seen step j m l c t at found place tt (λ same. fetched-at q c t m found)
 commands_are_followed tells old new (Write32 k offset v) seen step j m l c t at found place =
     let r = own-write (k == j && is_emptied (controller_at old j) offset v) m l place in
-    elim (same_place k j) [
-      | inl same ↦ (let quiet : empties (after_write c.registers offset v).effect ≡ false =
-          ap (λ o. is_emptied o offset v) (sym at)
-          ∙ sym (ap (λ b. b && is_emptied (controller_at old j) offset v) (eq-eqb k j same)) ∙ r.0 in
-          moved-at new k j t m l same r.1
-          (reacted old new k c (wrote offset v) seen t m step (ap (λ x. controller_at old x) same ∙ at)
-          (as-it-is t _ m (ap (λ xs. slice_get xs m) (wrote-at offset v c quiet) ∙ found))))
-      | inr other ↦ replaced-at new j t m l r.1
-          (elsewhere tells old new (Write32 k offset v) seen step j m c t at found tt (λ e. other (sym e)))
-    ]
+    kept tells old new (Write32 k offset v) seen step j m l c t at found r.1 tt
+    (λ same. (let quiet : empties (after_write c.registers offset v).effect ≡ false =
+    ap (λ o. is_emptied o offset v) (sym at)
+    ∙ sym (ap (λ b. b && is_emptied (controller_at old j) offset v) (eq-eqb k j same)) ∙ r.0 in
+    ap (λ xs. slice_get xs m) (wrote-at offset v c quiet) ∙ found))
 commands_are_followed tells old new (Execute k i) seen step j m l c t at found place = elim (cases_Bool (k == j)) [
   | inl here ↦ (let same : k ≡ j = eqb-true k j here in
       let there : place_executed (controller_at old j) old j i m ≡ Some l =
@@ -386,8 +350,7 @@ commands_are_followed tells old new (Execute k i) seen step j m l c t at found p
   | inr there ↦ (let other = eqb-false k j there in
       let stays : Some m ≡ Some l =
       ap (λ b. if b then place_executed (controller_at old j) old j i m else Some m) (sym there) ∙ place in
-      replaced-at new j t m l stays
-      (elsewhere tells old new (Execute k i) seen step j m c t at found tt (λ e. other (sym e))))
+      kept tells old new (Execute k i) seen step j m l c t at found stays other (λ same. found))
 ]
 commands_are_followed tells old new PowerCycle seen step j m l c t at found place = absurd (none-some _ place)
 

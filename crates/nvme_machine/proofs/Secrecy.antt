@@ -26,7 +26,7 @@ use Rattle.nvme_spec.specs.Commands.{reserving}
 use Rattle.nvme_spec.specs.World.{World}
 use Rattle.nvme_spec.specs.Layout.{bytes_at, IsLaidOut, may_read}
 use Rattle.nvme_machine.specs.declared.event.Event.{Event}
-use Rattle.nvme_machine.specs.declared.event.Event.TheVariants.{Store, Write32, Read32, Fetch, Execute, PowerCycle}
+use Rattle.nvme_machine.specs.declared.event.Event.TheVariants.{Execute, PowerCycle}
 use Rattle.nvme_machine.specs.declared.fetched.FetchedCommand.{FetchedCommand}
 use Rattle.nvme_machine.specs.declared.seen.Seen.{Seen}
 use Rattle.nvme_machine.specs.Controllers.{Controller, QueuePair, Reaction, queues_of, open_pair}
@@ -42,6 +42,7 @@ use Rattle.nvme_machine.specs.Subsystems.{
   ExecutesOver,
   OfItsController,
   controller_at,
+  controller_of,
   with_controller,
   scene_of,
   after_completion,
@@ -138,26 +139,17 @@ pub step-over : (n : ℕ) (old new : Subsystem) (event : Event) (seen : Seen) (d
     → OfItsController (λ k. may_read old.world k n ≡ false) event → Step true old event seen new
     → MirrorsStep n old new (λ x. Step true (over d old) event seen (over x new))
 unfolding controller_at
-step-over n old new (Store k address bytes) seen d laid differ fenced h =
-    reacts (controller_at old k) n old new k _ seen d differ h
-step-over n old new (Write32 k offset v) seen d laid differ fenced h =
-    reacts (controller_at old k) n old new k _ seen d differ h
-step-over n old new (Read32 k offset) seen d laid differ fenced h =
-    reacts (controller_at old k) n old new k _ seen d differ h
-step-over n old new (Fetch k q) seen d laid differ fenced h = reacts (controller_at old k) n old new k _ seen d differ h
 step-over n old new (Execute k i) seen d laid differ fenced h =
     executes (controller_at old k) n old new k i seen d laid differ fenced h
 step-over n old new PowerCycle seen d laid differ fenced h = cycles n old new seen d differ h
+step-over n old new event seen d laid differ fenced h =
+    reacts (controller_at old (controller_of event)) n old new (controller_of event) _ seen d differ h
 
 -- Runs.
 
 reserves-over : (n : ℕ) (s : Subsystem) (d : Device) (event : Event) → Allows reserving (over d s) event n
     → Allows reserving s event n
 unfolding controller_at
-reserves-over n s d (Store k address bytes) h = h
-reserves-over n s d (Write32 k offset v) h = h
-reserves-over n s d (Read32 k offset) h = h
-reserves-over n s d (Fetch k q) h = h
 reserves-over n s d (Execute k i) h =
     record {
       controller = h.controller;
@@ -167,15 +159,11 @@ reserves-over n s d (Execute k i) h =
       named = h.named;
       allowed = h.allowed;
     }
-reserves-over n s d PowerCycle h = h
+reserves-over n s d event h = h
 
 forgets-over : (n : ℕ) (s : Subsystem) (d : Device) (event : Event) → Forgets (over d s) event n → Forgets s event n
-forgets-over n s d (Store k address bytes) h = h
-forgets-over n s d (Write32 k offset v) h = h
-forgets-over n s d (Read32 k offset) h = h
-forgets-over n s d (Fetch k q) h = h
-forgets-over n s d (Execute k i) h = h
 forgets-over n s d PowerCycle h = h
+forgets-over n s d event h = h
 
 leaves-over : (n : ℕ) (s : Subsystem) (d : Device) (event : Event)
     → LeavesReservation n s event → LeavesReservation n (over d s) event

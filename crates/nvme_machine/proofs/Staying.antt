@@ -32,7 +32,7 @@ use Rattle.std.proofs.Common.{
   ◌∙◌,
 }
 use Rattle.std.specs.Prelude.{if◌then◌else◌, slice_get, slice_set, remove, option_map, nat_le}
-use Rattle.std.proofs.lemmas.Bool.{eqb-true, eqb-false, cases_Bool}
+use Rattle.std.proofs.lemmas.Bool.{eqb-true}
 use Rattle.nvme_spec.specs.declared.queues.Queues.{Queues}
 use Rattle.nvme_spec.specs.declared.queues.QueueChange.{QueueChange}
 use Rattle.nvme_spec.specs.declared.queues.QueueChange.TheVariants.{Keep, MakeCq, MakeSq, DropCq, DropSq}
@@ -44,24 +44,19 @@ use Rattle.nvme_spec.specs.Registers.{after_write}
 use Rattle.nvme_spec.specs.Execution.{Scene}
 use Rattle.nvme_spec.specs.AdminEffects.{admin_execution}
 use Rattle.nvme_machine.specs.declared.event.Event.{Event}
-use Rattle.nvme_machine.specs.declared.event.Event.TheVariants.{Store, Write32, Read32, Fetch, Execute, PowerCycle}
+use Rattle.nvme_machine.specs.declared.event.Event.TheVariants.{Store, Write32, Fetch, Execute}
 use Rattle.nvme_machine.specs.declared.fetched.FetchedCommand.{FetchedCommand}
-use Rattle.nvme_machine.specs.declared.seen.Seen.{Seen}
 use Rattle.nvme_machine.specs.declared.seen.Seen.TheVariants.{Stored, Outside}
 use Rattle.nvme_machine.specs.Controllers.{
   Controller,
   SubmissionQueue,
   QueuePair,
-  Reaction,
   names,
   with_mark,
   with_marks,
   queues_of,
-  open_pair,
   after_store,
   after_write32,
-  wrote as wrote_register,
-  has_read,
   after_fetch,
   fetched_from,
   fetchable,
@@ -71,24 +66,11 @@ use Rattle.nvme_machine.specs.Controllers.{
   reaction,
 }
 use Rattle.nvme_machine.specs.CommandExecutions.{CommandExecution, CommandComesTo, CommandComesToAs}
-use Rattle.nvme_machine.specs.Subsystems.{
-  Subsystem,
-  Step,
-  ReactsAs,
-  Completes,
-  ExecutesAt,
-  ExecutesOne,
-  ExecutesOver,
-  controller_at,
-  controller_of,
-  with_controller,
-  after_completion,
-  numbered,
-  replaced,
-  scene_of,
-}
-use Rattle.nvme_machine.specs.Runs.{IsStill, StandsIn, Deletes, IsReset, FetchedStays}
-use Rattle.nvme_machine.proofs.Others.{marks-numbered, executed-at, NamesOne, others-keep}
+use Rattle.nvme_machine.specs.Subsystems.{Subsystem, controller_of, after_completion, scene_of}
+use Rattle.nvme_machine.specs.Runs.{IsStill, StandsIn, Deletes, IsReset, TakesOut, FetchedStays}
+pub use Rattle.nvme_machine.proofs.Others.{replaced-same, same_place}
+use Rattle.nvme_machine.proofs.Others.{survives}
+use Rattle.nvme_machine.proofs.StepCases.{reaction_of}
 
 stands : (t : FetchedCommand) (d : Controller) (m : ℕ) → slice_get d.fetched m ≡ Some t → StandsIn t d
 stands t d m found =
@@ -113,13 +95,6 @@ stands-marked n t d s = record {
   found = got-map (with_mark n) d.fetched s.place ∙ ap (option_map (with_mark n)) s.found;
   still = still-marked n t s.found_as s.still;
 }
-
--- a command of a controller that changes at most by a mark
-pub stands-marked-at : (n : ℕ) (t : FetchedCommand) (o p : Option Controller) (d : Controller)
-    → p ≡ option_map (with_marks n) o → o ≡ Some d → StandsIn t d
-    → (e : Controller) × (p ≡ Some e) × StandsIn t e
-stands-marked-at n t o p d marked is s =
-    (with_marks n d, marked ∙ ap (option_map (with_marks n)) is, stands-marked n t d s)
 
 -- lists that grow or shrink
 pub got-front : {A : Type 0} (xs ys : List A) (i : ℕ) (x : A)
@@ -151,17 +126,6 @@ got-filtered p (y ∷ xs) (suc m) x kept h = put (p y) (got-filtered p xs m x ke
     put true r = (suc r.0, r.1)
     put false r = r
 
-set-same : (cs : List Controller) (i : ℕ) (c d : Controller)
-    → slice_get cs i ≡ Some c → slice_get (slice_set cs i d) i ≡ Some d
-set-same [] i c d h = absurd (cc)
-set-same (x ∷ cs) zero c d h = refl
-set-same (x ∷ cs) (suc i) c d h = set-same cs i c d h
-
-pub replaced-same : (cs : List Controller) (k : ℕ) (c d : Controller)
-    → numbered cs k ≡ Some c → numbered (replaced cs k d) k ≡ Some d
-replaced-same cs zero c d h = absurd (cc)
-replaced-same cs (suc i) c d h = set-same cs i c d h
-
 -- After a store, a fetch, or an access to a register.
 
 stored : (address : ℕ) (bytes : List ℕ) (c : Controller) (t : FetchedCommand) (m : ℕ)
@@ -184,10 +148,6 @@ took-one : (q : ℕ) (c : Controller) (t : FetchedCommand) (m : ℕ)
 unfolding after_fetch
 took-one q c t m found = took q c t m (fetchable c q) found
 
-read : (offset : ℕ) (c : Controller) (t : FetchedCommand) (m : ℕ)
-    → slice_get c.fetched m ≡ Some t → StandsIn t (has_read offset c).controller
-read offset c t m found = stands t c m found
-
 effects : (effect : RegEffect) (c : Controller) (t : FetchedCommand) (m : ℕ)
     → slice_get c.fetched m ≡ Some t → StandsIn t (taking_effect effect c) ⊎ IsReset effect
 unfolding taking_effect
@@ -204,14 +164,16 @@ unfolding after_write32
 wrote offset v c t m found = effects (after_write c.registers offset v).effect
     (record c { registers = (after_write c.registers offset v).registers }) t m found
 
-pub reacts-at :
-    (old new : Subsystem) (k : ℕ) (c : Controller) (f : Controller → Reaction) (seen : Seen) (t : FetchedCommand)
-    → ReactsAs (controller_at old k) old k f seen new → controller_at old k ≡ Some c → StandsIn t (f c).controller
-    → (d : Controller) × (controller_at new k ≡ Some d) × StandsIn t d
-unfolding controller_at with_controller
-reacts-at old new k c f seen t h at s =
-    let one : ReactsAs (Some c) old k f seen new = subst (λ o. ReactsAs o old k f seen new) at h in
-    ((f c).controller, ap (λ x. controller_at x k) one.1 ∙ replaced-same old.controllers k c (f c).controller at, s)
+reacted : (old : Subsystem) (event : Event) (c : Controller) (j m : ℕ) (t : FetchedCommand)
+    → slice_get c.fetched m ≡ Some t → controller_of event ≡ j
+    → StandsIn t (reaction_of event c).controller ⊎ TakesOut old c j m t event
+reacted old (Store k address bytes) c j m t found same = inl (stored address bytes.now c t m found)
+reacted old (Fetch k q) c j m t found same = inl (took-one q c t m found)
+reacted old (Write32 k offset v) c j m t found same = elim (wrote offset v c t m found) [
+  | inl s ↦ inl s
+  | inr reset ↦ inr (same, reset)
+]
+reacted old event c j m t found same = inl (stands t c m found)
 
 -- After an execution.
 
@@ -261,110 +223,25 @@ finishes tells s k c i m u t p a answers here found other =
       ]
     ]
 
--- a command is in the list of controller j
-abbrev Stands : Subsystem → ℕ → FetchedCommand → Type 0
-Stands s j t = (d : Controller) × (controller_at s j ≡ Some d) × StandsIn t d
-
-pub unchanged : (old new : Subsystem) (k : ℕ) (c : Controller) (t : FetchedCommand) (m : ℕ)
-    → new ≡ old → controller_at old k ≡ Some c → slice_get c.fetched m ≡ Some t → Stands new k t
-unchanged old new k c t m same at found = (c, ap (λ s. controller_at s k) same ∙ at, stands t c m found)
-
-completed : (tells : Bool) (old new : Subsystem) (k : ℕ) (c : Controller) (i m : ℕ) (u t : FetchedCommand)
-    (p : QueuePair) (seen : Seen) → Completes tells old k c i u p seen new → controller_at old k ≡ Some c
-    → slice_get c.fetched i ≡ Some u → slice_get c.fetched m ≡ Some t → i ≢ m
-    → Stands new k t ⊎ Deletes (scene_of old c) c k i t.queue
-unfolding controller_at
-completed tells old new k c i m u t p seen h at here found other =
-    let a : CommandExecution = h.execution in
-    let end : Controller = after_completion i u p a c in
-    let new_at = executed-at old new k c i u p a k h.leaves in
-    let end_at = replaced-same old.controllers k c end at in
-    elim (finishes tells (scene_of old c) k c i m u t p a h.comes_to here found other) [
-      | inl s ↦ elim (marks-numbered a.left.world a.outcome.marks (replaced old.controllers k end) k) [
-        | inl kept ↦ inl (end, new_at ∙ kept ∙ end_at, s)
-        | inr marked ↦ inl (stands-marked-at a.outcome.marks.nsid t (numbered (replaced old.controllers k end) k)
-            (controller_at new k) end (new_at ∙ marked.marked) end_at s)
-      ]
-      | inr d ↦ inr d
-    ]
-
-pub same_place : (i m : ℕ) → (i ≡ m) ⊎ (i ≢ m)
-same_place i m = elim (cases_Bool (i == m)) [
-  | inl e ↦ inl (eqb-true i m e)
-  | inr e ↦ inr (eqb-false i m e)
-]
-
-over : (o : Option QueuePair) (tells : Bool) (old new : Subsystem) (k : ℕ) (c : Controller) (i m : ℕ)
-    (u t : FetchedCommand) (seen : Seen) → ExecutesOver o tells old k c i u seen new → controller_at old k ≡ Some c
-    → slice_get c.fetched i ≡ Some u → slice_get c.fetched m ≡ Some t
-    → Stands new k t ⊎ ((i ≡ m) ⊎ Deletes (scene_of old c) c k i t.queue)
-over None tells old new k c i m u t seen h at here found = inl (unchanged old new k c t m h.1 at found)
-over (Some p) tells old new k c i m u t seen h at here found = elim (same_place i m) [
-  | inl same ↦ inr (inl same)
-  | inr other ↦ elim (completed tells old new k c i m u t p seen h at here found other) [
+executed : (tells : Bool) (old : Subsystem) (event : Event) (k i j m : ℕ) (c : Controller) (u t : FetchedCommand)
+    (p : QueuePair) (a : CommandExecution) → event ≡ Execute k i → k ≡ j → slice_get c.fetched i ≡ Some u
+    → CommandComesTo tells (queues_of c) k u (scene_of old c) a → slice_get c.fetched m ≡ Some t
+    → StandsIn t (after_completion i u p a c) ⊎ TakesOut old c j m t event
+executed tells old event k i j m c u t p a is same here answers found = elim (same_place i m) [
+  | inl own ↦ inr (subst (TakesOut old c j m t) (sym is) (same, inl own))
+  | inr other ↦ elim (finishes tells (scene_of old c) k c i m u t p a answers here found other) [
     | inl s ↦ inl s
-    | inr d ↦ inr (inr d)
+    | inr d ↦ inr (subst (TakesOut old c j m t) (sym is) (same, inr d))
   ]
 ]
-
-one : (o : Option FetchedCommand)
-    (tells : Bool) (old new : Subsystem) (k : ℕ) (c : Controller) (i m : ℕ) (t : FetchedCommand) (seen : Seen)
-    → slice_get c.fetched i ≡ o → ExecutesOne o tells old k c i seen new → controller_at old k ≡ Some c
-    → slice_get c.fetched m ≡ Some t → Stands new k t ⊎ ((i ≡ m) ⊎ Deletes (scene_of old c) c k i t.queue)
-one None tells old new k c i m t seen here h at found = inl (unchanged old new k c t m h.1 at found)
-one (Some u) tells old new k c i m t seen here h at found =
-    over (open_pair c u) tells old new k c i m u t seen h at here found
-
-executes : (tells : Bool) (old new : Subsystem) (k : ℕ) (c : Controller) (i m : ℕ) (t : FetchedCommand) (seen : Seen)
-    → ExecutesAt (controller_at old k) tells old k i seen new → controller_at old k ≡ Some c
-    → slice_get c.fetched m ≡ Some t → Stands new k t ⊎ ((i ≡ m) ⊎ Deletes (scene_of old c) c k i t.queue)
-executes tells old new k c i m t seen h at found =
-    let here : ExecutesAt (Some c) tells old k i seen new = subst (λ o. ExecutesAt o tells old k i seen new) at h in
-    one (slice_get c.fetched i) tells old new k c i m t seen refl here at found
-
--- another controller's event
-elsewhere : (tells : Bool) (old new : Subsystem) (event : Event) (seen : Seen) → Step tells old event seen new
-    → (j m : ℕ) (c : Controller) (t : FetchedCommand) → controller_at old j ≡ Some c → slice_get c.fetched m ≡ Some t
-    → NamesOne event → j ≢ controller_of event → Stands new j t
-elsewhere tells old new event seen step j m c t at found one other =
-    elim (others-keep tells old new event seen step one j other) [
-      | inl same ↦ (c, same ∙ at, stands t c m found)
-      | inr x ↦ stands-marked-at x.outcome.marks.nsid t (controller_at old j) (controller_at new j) c x.marked at
-          (stands t c m found)
-    ]
-
-pub moved : (s : Subsystem) (k j : ℕ) (t : FetchedCommand) → k ≡ j → Stands s k t → Stands s j t
-moved s k j t same r = (r.0, ap (λ x. controller_at s x) (sym same) ∙ r.1, r.2)
 
 pub fetched_stays : FetchedStays
-fetched_stays tells old new (Store k address bytes) seen step j m c t at found = elim (same_place k j) [
-  | inl same ↦ inl (moved new k j t same (reacts-at old new k c (after_store address bytes.now) seen t step
-      (ap (λ x. controller_at old x) same ∙ at) (stored address bytes.now c t m found)))
-  | inr other ↦ inl (elsewhere tells old new (Store k address bytes) seen step j m c t at found tt (λ e. other (sym e)))
-]
-fetched_stays tells old new (Read32 k offset) seen step j m c t at found = elim (same_place k j) [
-  | inl same ↦ inl (moved new k j t same (reacts-at old new k c (has_read offset) seen t step
-      (ap (λ x. controller_at old x) same ∙ at) (read offset c t m found)))
-  | inr other ↦ inl (elsewhere tells old new (Read32 k offset) seen step j m c t at found tt (λ e. other (sym e)))
-]
-fetched_stays tells old new (Fetch k q) seen step j m c t at found = elim (same_place k j) [
-  | inl same ↦ inl (moved new k j t same (reacts-at old new k c (after_fetch q) seen t step
-      (ap (λ x. controller_at old x) same ∙ at) (took-one q c t m found)))
-  | inr other ↦ inl (elsewhere tells old new (Fetch k q) seen step j m c t at found tt (λ e. other (sym e)))
-]
-fetched_stays tells old new (Write32 k offset v) seen step j m c t at found = elim (same_place k j) [
-  | inl same ↦ elim (wrote offset v c t m found) [
-    | inl s ↦ inl (moved new k j t same
-        (reacts-at old new k c (wrote_register offset v) seen t step (ap (λ x. controller_at old x) same ∙ at) s))
-    | inr reset ↦ inr (same, reset)
-  ]
-  | inr other ↦ inl (elsewhere tells old new (Write32 k offset v) seen step j m c t at found tt (λ e. other (sym e)))
-]
-fetched_stays tells old new (Execute k i) seen step j m c t at found = elim (same_place k j) [
-  | inl same ↦ elim (executes tells old new k c i m t seen step (ap (λ x. controller_at old x) same ∙ at) found) [
-    | inl s ↦ inl (moved new k j t same s)
-    | inr gone ↦ inr (same, gone)
-  ]
-  | inr other ↦ inl (elsewhere tells old new (Execute k i) seen step j m c t at found tt (λ e. other (sym e)))
-]
-fetched_stays tells old new PowerCycle seen step j m c t at found = inr tt
+fetched_stays tells old new event seen step j m c t at found =
+    survives (StandsIn t) (TakesOut old c j m t event) tells old new event seen step j c at (record {
+      marks = λ n d s. stands-marked n t d s;
+      stays = stands t c m found;
+      reacts = reacted old event c j m t found;
+      finishes = λ k i u p a is same here room answers.
+          executed tells old event k i j m c u t p a is same here answers found;
+      cycles = λ is. inr (subst (TakesOut old c j m t) (sym is) tt);
+    })
