@@ -1,3 +1,17 @@
 pub mod LayerRuns
+pub mod RawEvents
 pub mod ReplayRuns
 pub mod SessionRuns
+pub mod KnownStreams
+pub mod SavedRuns
+pub mod SavedFaults
+pub mod DriverEvents
+pub mod DriverRises
+pub mod DriverRuns
+pub mod InvariantRuns
+pub mod AnsweringRuns
+pub mod TicketRuns
+pub mod CallRuns
+pub mod PowerRuns
+pub mod SecrecyRuns
+pub mod FaultRuns

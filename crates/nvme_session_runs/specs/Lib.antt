@@ -1,3 +1,12 @@
 pub mod BothLayers
 pub mod Replays
 pub mod Sessions
+pub mod SavedSessions
+pub mod DriverLayers
+pub mod Invariants
+pub mod Answering
+pub mod RunTickets
+pub mod RunCalls
+pub mod RunPower
+pub mod RunSecrecy
+pub mod RunFaults

@@ -2,6 +2,11 @@
 //! premises hold and its conclusion is not trivial, and for most premises one in which the theorem fails without it.
 #![tactic(auto)]
 
+mod answering;
+mod drivers;
+mod invariants;
 mod layers;
+mod outcomes;
 mod replays;
+mod saved;
 mod sessions;
