@@ -1,3 +1,23 @@
+mod CoreAdmitted
+mod CoreBorrows
+mod CoreEvents
+mod CoreJournals
+mod CoreLanes
+mod CoreNotices
+mod CoreRegisters
+mod CoreReservations
+mod CoreTargets
+mod DriverPlacings
+mod DriverPolls
+mod FleetCalls
+mod FleetDriverCalls
+mod FleetDriverEvents
+mod FleetRuns
+mod MachineCalls
+mod MachineStates
+mod MailboxFleets
+mod MailboxTicketLaws
+mod RunPremises
 mod SpecBrought
 mod SpecCached
 mod SpecCalls
@@ -5,3 +25,5 @@ mod SpecLent
 mod SpecMemory
 mod SpecQueues
 mod TextLiterals
+pub mod SubsysExecutions
+pub mod SubsysReads

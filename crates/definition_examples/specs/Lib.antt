@@ -1,3 +1,10 @@
+pub mod CoreRegisters
+pub mod DriverExamples
+pub mod MachineQueues
+pub mod MailboxBoxes
+pub mod SessionStreams
+pub mod SubsysExecutions
+pub mod SubsysReads
 pub mod TextConfigurations
 pub mod TextLines
 pub mod TextPrograms

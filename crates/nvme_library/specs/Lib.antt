@@ -3,7 +3,9 @@ pub mod Answers
 pub mod CallExamples
 pub mod Completing
 pub mod CompletingOver
+pub mod CompletingResults
 pub mod DiskLaws
+pub mod DiskResults
 pub mod Events
 pub mod Examples
 pub mod Given
@@ -12,13 +14,17 @@ pub mod LentLaws
 pub mod Lines
 pub mod Looking
 pub mod LookingLines
+pub mod LookingResults
 pub mod Needs
 pub mod Noticing
 pub mod Opening
+pub mod OpeningResults
 pub mod Over
 pub mod Placing
+pub mod PlacingResults
 pub mod Queues
 pub mod Reading
+pub mod ReadingResults
 pub mod Submitting
 pub mod Turns
 pub mod Whole

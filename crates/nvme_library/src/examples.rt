@@ -1,5 +1,13 @@
 //! Worked examples of the definitions. Each is the contract of an empty function, proved by computing.
 
+mod completing_results;
+mod disk_results;
+mod looking_results;
+mod opening_results;
+mod placing_results;
+mod reading_results;
+mod result_codes;
+
 ghost use Rattle.nvme_library.specs.CallExamples.{
   CyclingMakesNoCall,
   ExecutingMakesItsCalls,
