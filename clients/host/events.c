@@ -6,8 +6,9 @@
 
 /* Between two looks at the queues while an event is awaited. */
 enum { REST_NS = 1000000 };
-/* The log page of reservation notifications, and the identifier that a page of the controller has instead of a namespace. */
-enum { NOTIFICATIONS = 0x80, NOTIFICATION_BYTES = 64 };
+/* Log pages, and the identifier that a page of the controller has instead of a namespace. */
+enum { HEALTH = 2, CHANGED = 4, NOTIFICATIONS = 0x80 };
+enum { CHANGED_NAMESPACES = 1024, NOTIFICATION_BYTES = 64 };
 #define ALL_NAMESPACES UINT32_MAX
 
 static const struct { const char *name; uint32_t bytes; } kinds[] = {
@@ -46,6 +47,26 @@ static uint32_t await_event(void)
     return outcome.dw0;
 }
 
+static unsigned number_at(const uint8_t *bytes)
+{
+    return bytes[0] | (unsigned)bytes[1] << 8 | (unsigned)bytes[2] << 16 | (unsigned)bytes[3] << 24;
+}
+
+/* The namespaces of the page in the buffer, which zeros fill up. If more changed, the only one is ffffffff. */
+static void print_changed(void)
+{
+    const char *separator = "";
+    fputs(session.is_json ? ",\"changed\":[" : "changed:", stdout);
+    for (int i = 0; i < CHANGED_NAMESPACES; i++) {
+        unsigned nsid = number_at(session.port.buffer + 4 * i);
+        if (nsid == 0)
+            break;
+        printf(session.is_json ? "%s%u" : "%s %u", separator, nsid);
+        separator = ",";
+    }
+    fputs(session.is_json ? "]" : "\n", stdout);
+}
+
 /* The reservation notification in the buffer. */
 static void print_notification(void)
 {
@@ -53,8 +74,7 @@ static void print_notification(void)
         "reservation preempted" };
     const uint8_t *page = session.port.buffer;
     const char *type = page[8] < sizeof types / sizeof *types ? types[page[8]] : "reserved";
-    unsigned nsid = page[12] | (unsigned)page[13] << 8 | (unsigned)page[14] << 16 | (unsigned)page[15] << 24;
-    printf(session.is_json ? ",\"notification\":\"%s\",\"nsid\":%u" : "%s, namespace %u\n", type, nsid);
+    printf(session.is_json ? ",\"notification\":\"%s\",\"nsid\":%u" : "%s, namespace %u\n", type, number_at(page + 12));
 }
 
 void print_next_event(void)
@@ -68,7 +88,11 @@ void print_next_event(void)
                                           kinds[event.kind].bytes / 4));
     printf(session.is_json ? "{\"command\":\"events\",\"kind\":\"%s\",\"type\":%u,\"info\":%u,\"log_page\":%u"
                            : "%s: type %u, info %02x, log page %02x\n", name, event.type, event.info, event.log_page);
-    if (event.log_page == NOTIFICATIONS)
+    if (event.log_page == HEALTH)
+        printf(session.is_json ? ",\"critical_warning\":%u" : "critical warning %02x\n", session.port.buffer[0]);
+    else if (event.log_page == CHANGED)
+        print_changed();
+    else if (event.log_page == NOTIFICATIONS)
         print_notification();
     fputs(session.is_json ? "}\n" : "", stdout);
 }

@@ -24,10 +24,14 @@ static const char usage[] =
     "       nvmehost [OPTION].. ADDRESS resv-release NSID HOST [--rrela N] [--rtype N] [--crkey N]\n"
     "       nvmehost [OPTION].. ADDRESS resv-report NSID [HOST]\n"
     "                                                       reservations: N is 0 if it is not given\n"
-    "       nvmehost [OPTION].. ADDRESS events [HOST]       waits for an event, prints it, and clears it\n"
+    "       nvmehost [OPTION].. ADDRESS events [HOST] [--enable BITS]\n"
+    "                                                       waits for an event, prints it, and clears it. BITS selects\n"
+    "                                                       which events are reported (Asynchronous Event Configuration)\n"
     "       nvmehost [OPTION].. ADDRESS bench read|write NSID BLOCKS DEPTH SECONDS\n"
     "                                                       reads or overwrites at random places, DEPTH requests at a\n"
     "                                                       time (1 to 24): IOPS and latencies\n"
+    "       nvmehost [OPTION].. ADDRESS session             executes a command for each line of standard input; the man\n"
+    "                                                       page lists them. Prints a line of JSON for each\n"
     "\n"
     "ADDRESS is a PCI address, such as 0000:00:04.0, of a controller that is bound to vfio-pci: nvmehost prints what\n"
     "to type if it is not. Linux must not use the controller meanwhile. Standard input has at most 131,072 bytes.\n"
@@ -111,14 +115,6 @@ static void print_result(const char *command, uint32_t nsid, uint64_t slba, size
         printf(",\"block\":%llu,\"count\":%zu", (unsigned long long)slba, count);
 }
 
-static void print_data(size_t len)
-{
-    fputs(",\"data\":\"", stdout);
-    for (size_t i = 0; i < len; i++)
-        printf("%02x", session.port.buffer[i]);
-    putchar('"');
-}
-
 static bool is_address(const char *text)
 {
     unsigned parts[4];
@@ -160,7 +156,7 @@ static void execute(const char *command, uint32_t nsid, uint64_t slba, uint32_t 
     if (session.is_json) {
         print_result(command, nsid, slba, count);
         if (is_read)
-            print_data(512 * (size_t)count);
+            session_print_data(512 * (size_t)count);
         if (is_compare)
             printf(",\"equal\":%s", is_equal ? "true" : "false");
         puts("}");
@@ -269,7 +265,7 @@ static bool read_words(int words, char **word, uint64_t *values, struct bench *b
 {
     static const struct { const char *name; int words; } commands[] = {
         { "identify", 3 }, { "read", 6 }, { "write", 5 }, { "compare", 5 }, { "zeroes", 6 }, { "flush", 4 },
-        { "bench", 8 } };
+        { "bench", 8 }, { "session", 3 } };
     static const uint64_t most[3] = { UINT32_MAX, UINT64_MAX, 65536 };
     int wanted = 0;
     for (size_t i = 0; words > 2 && i < sizeof commands / sizeof *commands; i++)
@@ -292,6 +288,9 @@ static void run(char **word, const uint64_t *values, struct bench *b)
         identify();
     } else if (!strcmp(word[2], "bench")) {
         bench(b);
+    } else if (!strcmp(word[2], "session")) {
+        session_begin();
+        run_lines();
     } else {
         execute(word[2], (uint32_t)values[0], values[1], (uint32_t)values[2]);
     }

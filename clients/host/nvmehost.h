@@ -194,8 +194,11 @@ struct nvmehost_placed nvmehost_release(struct nvmehost *host, uint32_t nsid, ui
                                         uint64_t crkey);
 struct nvmehost_placed nvmehost_report(struct nvmehost *host, uint32_t nsid, uint32_t dwords);
 
-/* The answer to nvmehost_await_event comes once the controller has an event to report. nvmehost_log reads dwords double
- * words of a log page, 1 to 32768; the event stays reported if it is retained. */
+/* nvmehost_configure_events selects the events that the controller reports, by the bits of the feature Asynchronous Event
+ * Configuration; after a reset they are its own selection. The answer to nvmehost_await_event comes once the controller
+ * has an event to report. nvmehost_log reads dwords double words of a log page, 1 to 32768; the event stays reported if
+ * it is retained. */
+struct nvmehost_placed nvmehost_configure_events(struct nvmehost *host, uint32_t events);
 struct nvmehost_placed nvmehost_await_event(struct nvmehost *host);
 struct nvmehost_event nvmehost_event(uint32_t dw0);
 struct nvmehost_placed nvmehost_log(struct nvmehost *host, uint32_t nsid, uint8_t lid, bool retain, uint32_t dwords);

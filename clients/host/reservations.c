@@ -74,17 +74,26 @@ static void print_report(const struct options *o)
     fputs(session.is_json ? "]}\n" : "", stdout);
 }
 
-static void change(const struct options *o)
+struct nvmehost_placed place_change(const struct options *o, const char **what)
 {
     struct nvmehost *host = &session.port.host;
-    if (!strcmp(o->command, "resv-register"))
-        session_finish("Reservation Register",
-                       nvmehost_register(host, o->nsid, o->action, o->iekey, o->cptpl, o->crkey, o->other_key));
-    else if (!strcmp(o->command, "resv-acquire"))
-        session_finish("Reservation Acquire",
-                       nvmehost_acquire(host, o->nsid, o->action, o->rtype, o->crkey, o->other_key));
-    else
-        session_finish("Reservation Release", nvmehost_release(host, o->nsid, o->action, o->rtype, o->crkey));
+    if (!strcmp(o->command, "resv-register")) {
+        *what = "Reservation Register";
+        return nvmehost_register(host, o->nsid, o->action, o->iekey, o->cptpl, o->crkey, o->other_key);
+    }
+    if (!strcmp(o->command, "resv-acquire")) {
+        *what = "Reservation Acquire";
+        return nvmehost_acquire(host, o->nsid, o->action, o->rtype, o->crkey, o->other_key);
+    }
+    *what = "Reservation Release";
+    return nvmehost_release(host, o->nsid, o->action, o->rtype, o->crkey);
+}
+
+static void change(const struct options *o)
+{
+    const char *what;
+    struct nvmehost_placed placed = place_change(o, &what);
+    session_finish(what, placed);
     if (session.is_json)
         printf("{\"command\":\"%s\",\"nsid\":%u}\n", o->command, o->nsid);
 }
@@ -95,6 +104,8 @@ void run_option_command(const struct options *o)
     if (o->has_host)
         session_identify_host(o->host);
     if (!strcmp(o->command, "events")) {
+        if (o->enables)
+            session_finish("Set Features", nvmehost_configure_events(&session.port.host, o->events));
         print_next_event();
         return;
     }

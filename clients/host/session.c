@@ -1,11 +1,16 @@
 #include "session.h"
 
 #include <errno.h>
+#include <signal.h>
 #include <stdio.h>
 #include <stdlib.h>
+#include <string.h>
+#include <unistd.h>
 
 /* How long an aborted request is waited for. */
 enum { ABORT_MS = 2000 };
+/* Turns of a port that waits, until it looks for a recall again: a look is a system call. */
+enum { TURNS = 256 };
 
 struct session session;
 
@@ -86,11 +91,17 @@ void session_give_up(const char *what, uint64_t ticket)
     session_leave(SESSION_FAILED);
 }
 
-bool session_finish(const char *what, struct nvmehost_placed placed)
+struct nvmehost_outcome session_answer(const char *what, struct nvmehost_placed placed)
 {
     struct nvmehost_outcome outcome = port_wait(&session.port, placed, session.timeout_ms);
     if (outcome.code == NVMEHOST_NOTHING)
         session_give_up(what, placed.ticket);
+    return outcome;
+}
+
+bool session_finish(const char *what, struct nvmehost_placed placed)
+{
+    struct nvmehost_outcome outcome = session_answer(what, placed);
     if (outcome.code == NVMEHOST_DONE && outcome.sct == 2 && outcome.sc == 0x85)
         return false;
     session_succeed(what, outcome);
@@ -107,11 +118,47 @@ void session_identify_host(const uint8_t identifier[16])
     session_finish("Set Features", nvmehost_set_host_identifier(&session.port.host, identifier));
 }
 
+/* The message of a program whose registers are gone. */
+static char lost[120];
+
+/* VFIO takes the registers of a device without power away: an access is then this signal. The end of the program closes
+ * the device. */
+static void end_without_registers(int number)
+{
+    ssize_t written = write(STDERR_FILENO, lost, strlen(lost));
+    (void)number, (void)written;
+    _exit(SESSION_FAILED);
+}
+
+static void expect_lost_registers(void)
+{
+    struct sigaction action = { .sa_handler = end_without_registers };
+    snprintf(lost, sizeof lost, "nvmehost: %s: its registers are gone: it was removed, or is without power\n",
+             session.address);
+    sigaction(SIGBUS, &action, NULL);
+}
+
+/* What the port does while it waits: ends the program if Linux wants the device, and what it did before. */
+static struct { void (*turn)(void *); void *turned; unsigned count; } others;
+
+static void look_for_recall(void *unused)
+{
+    struct port *p = &session.port;
+    (void)unused;
+    if (++others.count % TURNS == 0 && vfio_is_recalled(&session.vfio)) {
+        p->turn = others.turn, p->turned = others.turned;
+        session_fail("", "Linux wants to remove the device");
+    }
+    if (others.turn)
+        others.turn(others.turned);
+}
+
 void session_begin(void)
 {
     struct port *p = &session.port;
     struct nvmehost_outcome outcome;
     char text[120];
+    expect_lost_registers();
     p->buffer = malloc(NVMEHOST_BUFFER), p->copy = malloc(NVMEHOST_BUFFER);
     if (!p->buffer || !p->copy || nvmehost_open(&p->host, 1) != NVMEHOST_OK)
         session_fail("", "no memory");
@@ -119,6 +166,7 @@ void session_begin(void)
         fprintf(stderr, "nvmehost: %s\n", session.vfio.fault);
         exit(SESSION_FAILED);
     }
+    others.turn = p->turn, others.turned = p->turned, p->turn = look_for_recall;
     uint32_t what = port_start(p, &outcome);
     if (what == NVMEHOST_REFUSED) {
         snprintf(text, sizeof text, "%s, status %x:%02x", port_name(what), outcome.sct, outcome.sc);
@@ -127,6 +175,14 @@ void session_begin(void)
     if (what != NVMEHOST_OK)
         session_fail("bring-up", port_name(what));
     session_ask(0);
+}
+
+void session_print_data(size_t len)
+{
+    fputs(",\"data\":\"", stdout);
+    for (size_t i = 0; i < len; i++)
+        printf("%02x", session.port.buffer[i]);
+    putchar('"');
 }
 
 bool session_number(const char *text, uint64_t most, uint64_t *value)

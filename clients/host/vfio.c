@@ -6,11 +6,15 @@
 #include <stdio.h>
 #include <stdlib.h>
 #include <string.h>
+#include <sys/eventfd.h>
 #include <sys/ioctl.h>
 #include <sys/mman.h>
 #include <unistd.h>
 
-enum { COMMAND = 4, MEMORY_AND_MASTER = 6, CLASS_NVME = 0x010802, LONGEST = 256 };
+/* Bits of the command register: memory space and bus master; and interrupt disable, since VFIO enables the interrupt pin,
+ * which other devices may share, and the port polls. */
+enum { VENDOR = 0, COMMAND = 4, MEMORY_AND_MASTER = 6, INTERRUPT_DISABLE = 0x400 };
+enum { CLASS_NVME = 0x010802, LONGEST = 256 };
 
 #define DEVICES "/sys/bus/pci/devices/"
 
@@ -112,12 +116,15 @@ static int map_registers(struct vfio *v, const char *address, struct port *p)
 {
     struct vfio_region_info config = { .argsz = sizeof config, .index = VFIO_PCI_CONFIG_REGION_INDEX };
     struct vfio_region_info bar = { .argsz = sizeof bar, .index = VFIO_PCI_BAR0_REGION_INDEX };
-    uint16_t command;
+    uint16_t command, vendor;
     if (ioctl(v->device, VFIO_DEVICE_GET_REGION_INFO, &config) || ioctl(v->device, VFIO_DEVICE_GET_REGION_INFO, &bar))
         return fails(v, "%s: regions: %s", address, strerror(errno));
-    if (pread(v->device, &command, 2, (off_t)config.offset + COMMAND) != 2)
+    if (pread(v->device, &vendor, 2, (off_t)config.offset + VENDOR) != 2
+        || pread(v->device, &command, 2, (off_t)config.offset + COMMAND) != 2)
         return fails(v, "%s: PCI configuration: %s", address, strerror(errno));
-    command |= MEMORY_AND_MASTER;
+    if (vendor == UINT16_MAX)
+        return fails(v, "%s: the device was removed, or is without power%s", address, "");
+    command |= MEMORY_AND_MASTER | INTERRUPT_DISABLE;
     if (pwrite(v->device, &command, 2, (off_t)config.offset + COMMAND) != 2)
         return fails(v, "%s: PCI configuration: %s", address, strerror(errno));
     p->registers_len = bar.size;
@@ -129,16 +136,36 @@ static int map_registers(struct vfio *v, const char *address, struct port *p)
     return 0;
 }
 
+/* Has Linux ask for the device before it removes it. A kernel that can't do that only waits. */
+static void watch_recalls(struct vfio *v)
+{
+    union { struct vfio_irq_set set; uint8_t bytes[sizeof(struct vfio_irq_set) + sizeof v->recall]; } asked = {
+        .set = { .argsz = sizeof asked, .flags = VFIO_IRQ_SET_DATA_EVENTFD | VFIO_IRQ_SET_ACTION_TRIGGER,
+                 .index = VFIO_PCI_REQ_IRQ_INDEX, .count = 1 },
+    };
+    v->recall = eventfd(0, EFD_NONBLOCK | EFD_CLOEXEC);
+    memcpy(asked.bytes + sizeof asked.set, &v->recall, sizeof v->recall);
+    if (v->recall >= 0)
+        ioctl(v->device, VFIO_DEVICE_SET_IRQS, &asked);
+}
+
+bool vfio_is_recalled(struct vfio *v)
+{
+    uint64_t count;
+    return v->recall >= 0 && read(v->recall, &count, sizeof count) == sizeof count;
+}
+
 int vfio_open(struct vfio *v, const char *address, struct port *p)
 {
     char group[LONGEST];
     memset(v, 0, sizeof *v);
-    v->container = v->group = v->device = -1;
+    v->container = v->group = v->device = v->recall = -1;
     if (check(v, address, group) || open_group(v, address, group) || map_window(v, address)
         || map_registers(v, address, p)) {
         vfio_close(v);
         return -1;
     }
+    watch_recalls(v);
     p->memory = v->memory;
     p->registers = v->registers;
     return 0;
@@ -158,5 +185,7 @@ void vfio_close(struct vfio *v)
         close(v->group);
     if (v->container >= 0)
         close(v->container);
-    v->container = v->group = v->device = -1;
+    if (v->recall >= 0)
+        close(v->recall);
+    v->container = v->group = v->device = v->recall = -1;
 }

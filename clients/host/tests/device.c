@@ -90,9 +90,13 @@ static void post(struct device *d, uint32_t queue, uint16_t cid, uint32_t status
     d->phase[queue] ^= d->tail[queue] == 0;
 }
 
-/* The Host Identifier, of 128 bits. */
+/* Asynchronous Event Configuration, or the Host Identifier, of 128 bits. */
 static uint32_t set_features(struct device *d, const struct command *c)
 {
+    if (c->cdw10 == 0x0b) {
+        d->event_configuration = c->cdw11;
+        return SUCCESS;
+    }
     if (c->cdw10 != 0x81 || c->cdw11 != 1 || d->refuses_host)
         return INVALID_FIELD;
     take(d, c, d->host, sizeof d->host);
@@ -110,6 +114,8 @@ static uint32_t get_log_page(struct device *d, const struct command *c)
         bytes[8] = 3, bytes[12] = 1;
     } else if (lid == 0 || lid > 4) {
         return INVALID_LOG_PAGE;
+    } else if (lid == 2 || lid == 4) {
+        bytes[0] = (uint8_t)lid; /* a warning, or a changed namespace */
     }
     give(d, c, bytes, sizeof bytes, len);
     if (!(c->cdw10 >> 15 & 1) && lid == d->reported)
@@ -339,10 +345,18 @@ void device_raise(struct device *d, uint32_t event)
     d->notifications++;
 }
 
+/* Whether the configuration has an event: a critical warning, or a notice. */
+static bool is_reported(const struct device *d)
+{
+    uint32_t type = d->event & 7, info = d->event >> 8 & 0xff;
+    return !d->is_configured || (type == 1 ? (d->event_configuration & 0xff) != 0
+                                           : type != 2 || (d->event_configuration >> (8 + info) & 1));
+}
+
 /* Reports an event, if there is one, a request awaits it, and the log page of the last one was read. */
 static void report_event(struct device *d)
 {
-    if (d->event == 0 || d->event_count == 0 || d->reported != 0)
+    if (d->event == 0 || d->event_count == 0 || d->reported != 0 || !is_reported(d))
         return;
     d->event_count--;
     d->reported = d->event >> 16 & 0xff;
@@ -361,7 +375,7 @@ static void follow(struct device *d)
     }
     if (d->waited++ < d->ready_after)
         return;
-    d->waited = 0, d->event_count = 0, d->held_count = 0, d->has_host = false;
+    d->waited = 0, d->event_count = 0, d->event_configuration = 0, d->held_count = 0, d->has_host = false;
     *reg(d, CSTS) = state;
     for (uint32_t queue = 0; queue < 2; queue++) {
         d->head[queue] = d->tail[queue] = 0, d->phase[queue] = 1, d->is_created[queue] = false;

@@ -1,5 +1,5 @@
 /* A controller in memory, for tests of the port: it executes Identify, Create I/O Completion and Submission Queue, Set
- * Features of the Host Identifier, Get Log Page, Abort and Asynchronous Event Request, and on one namespace Read, Write,
+ * Features of the Host Identifier and of the Asynchronous Event Configuration, Get Log Page, Abort and Asynchronous Event Request, and on one namespace Read, Write,
  * Compare, Write Zeroes, Flush and the reservation commands of one host, as the standard asks. */
 #ifndef NVMEHOST_TEST_DEVICE_H
 #define NVMEHOST_TEST_DEVICE_H
@@ -36,7 +36,7 @@ struct device {
     /* The requests that await an event, the event that is not reported yet, and the log page of the last reported one
      * until it is read. */
     uint16_t event_cids[DEVICE_EVENTS];
-    uint32_t event_count, event, reported;
+    uint32_t event_count, event, reported, event_configuration;
     uint64_t notifications;
     uint32_t given; /* the bytes of the last data for the host */
     struct device_held held[DEVICE_HELD];
@@ -46,6 +46,7 @@ struct device {
     uint32_t ready_after;    /* turns until RDY follows EN */
     bool is_stuck, is_fatal, is_gone, keeps_answers, is_silent;
     bool refuses_host; /* the Host Identifier */
+    bool is_configured; /* it reports only the events of its configuration, which is 0 after a reset */
     /* I/O commands with held_opcode are held back; an Abort aborts none; an Abort ends the holding. */
     bool is_holding, aborts_nothing, aborting_releases;
     uint8_t lbads, mdts, sqes, dps, held_opcode;

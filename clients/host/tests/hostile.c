@@ -105,7 +105,8 @@ static void start_again(void)
 }
 
 /* The calls that place a request, and which of them one was placed by. */
-enum { IDENTIFY, FLUSH, READ, SET_HOST_IDENTIFIER, REGISTER, ACQUIRE, RELEASE, REPORT, AWAIT_EVENT, LOG, ABORT, CALLS };
+enum { IDENTIFY, FLUSH, READ, SET_HOST_IDENTIFIER, REGISTER, ACQUIRE, RELEASE, REPORT, CONFIGURE_EVENTS,
+       AWAIT_EVENT, LOG, ABORT, CALLS };
 static uint32_t placed_by;
 
 /* One of the calls on reservations, events and log pages, with arguments that are often right, or an Abort of a ticket
@@ -127,6 +128,8 @@ static struct nvmehost_placed place_other(uint64_t *state, uint32_t call)
         return nvmehost_release(&p.host, nsid, action, rtype, key);
     case REPORT:
         return nvmehost_report(&p.host, nsid, dwords);
+    case CONFIGURE_EVENTS:
+        return nvmehost_configure_events(&p.host, dwords);
     case AWAIT_EVENT:
         return nvmehost_await_event(&p.host);
     case LOG:

@@ -1,14 +1,16 @@
 /* Replaces vfio.c in tests of the program: the controller of device.c. Its blocks and its reservation stay in files of
  * the current folder. Variables of the environment make it differ:
- * EVENT: there is an event, with this double word 0; HOLD: I/O commands with this opcode are held back, until the
+ * EVENT: there is an event, with this double word 0; CONFIGURED: only events of its configuration are reported; HOLD: I/O commands with this opcode are held back, until the
  * controller is asked to abort one; HOLD_LATE: that Abort aborts none, and what is held back is executed then;
- * HOLD_FOREVER: that Abort aborts none. */
+ * HOLD_FOREVER: that Abort aborts none; LOST: an access to its registers is a SIGBUS, as VFIO has it for a device without
+ * power; RECALLED: Linux wants to remove it. */
 #include "../vfio.h"
 #include "device.h"
 
 #include <stdio.h>
 #include <stdlib.h>
 #include <string.h>
+#include <sys/mman.h>
 
 static struct device device;
 
@@ -36,8 +38,18 @@ static void read_environment(void)
         device_raise(&device, (uint32_t)strtoul(event, NULL, 0));
     if (hold)
         device.is_holding = true, device.held_opcode = (uint8_t)strtoul(hold, NULL, 0);
+    device.is_configured = getenv("CONFIGURED");
     device.aborts_nothing = getenv("HOLD_LATE") || getenv("HOLD_FOREVER");
     device.aborting_releases = getenv("HOLD_LATE");
+}
+
+/* Registers that are gone: a mapping of an empty file. */
+static volatile uint8_t *lost_registers(void)
+{
+    void *at = mmap(NULL, DEVICE_REGISTERS, PROT_READ | PROT_WRITE, MAP_SHARED, memfd_create("registers", 0), 0);
+    if (at == MAP_FAILED)
+        abort();
+    return at;
 }
 
 int vfio_open(struct vfio *v, const char *address, struct port *p)
@@ -54,7 +66,15 @@ int vfio_open(struct vfio *v, const char *address, struct port *p)
     p->memory = v->memory, p->registers = v->registers, p->registers_len = DEVICE_REGISTERS;
     p->turn = device_turn, p->turned = &device;
     device_turn(&device);
+    if (getenv("LOST"))
+        p->registers = lost_registers();
     return 0;
+}
+
+bool vfio_is_recalled(struct vfio *v)
+{
+    (void)v;
+    return getenv("RECALLED") != NULL;
 }
 
 void vfio_close(struct vfio *v)

@@ -203,6 +203,31 @@ static void awaits_events(void)
     EXPECT(is_quiet());
 }
 
+/* Only events of the configuration are reported, and a reset forgets it. */
+static void configures_events(void)
+{
+    enum { WARNING = 0x020101, NAMESPACES = 0x040002 };
+    begin();
+    open_namespace();
+    device.is_configured = true;
+    struct nvmehost_placed placed = send_out(nvmehost_await_event(&p.host));
+    device_raise(&device, NAMESPACES);
+    EXPECT(is_quiet());
+    EXPECT(ends(nvmehost_configure_events(&p.host, 0xff), 0));
+    EXPECT(device.event_configuration == 0xff && is_quiet());
+    EXPECT(ends(nvmehost_configure_events(&p.host, 0x80000100), 0));
+    EXPECT_IS(device.event_configuration, 0x80000100);
+    device_turn(&device);
+    struct nvmehost_outcome outcome = port_poll(&p);
+    EXPECT(outcome.code == NVMEHOST_DONE && outcome.ticket == placed.ticket && outcome.dw0 == NAMESPACES);
+    EXPECT_IS(port_start(&p, &outcome), NVMEHOST_OK);
+    EXPECT_IS(device.event_configuration, 0);
+    send_out(nvmehost_await_event(&p.host));
+    device.reported = 0;
+    device_raise(&device, WARNING);
+    EXPECT(is_quiet());
+}
+
 /* The longest log page, and the longest report, where a Read had other data. */
 static void reads_long_pages(void)
 {
@@ -315,11 +340,13 @@ int main(void)
     trial_begin();
     EXPECT_IS(nvmehost_abort(&p.host, 1).code, NVMEHOST_CLOSED);
     EXPECT_IS(identify_host().code, NVMEHOST_CLOSED);
+    EXPECT_IS(nvmehost_configure_events(&p.host, 0x100).code, NVMEHOST_CLOSED);
     identifies_host();
     reserves();
     refuses();
     names_events();
     awaits_events();
+    configures_events();
     reads_long_pages();
     aborts();
     comes_late();

@@ -63,6 +63,12 @@ class SceneTest(unittest.TestCase):
             if it.verb == "detach":  # such a list is always refused
                 self.assertFalse(it.numbers and it.numbers == tuple(sorted(set(it.numbers))), it)
 
+    def test_blocks_past_the_end_are_left_out(self) -> None:
+        ends = {whole: max(sum(it.numbers[:2]) for it in scene(3, [able, ABLE], 3000) if it.verb == "read")
+                for whole, able in ((True, ABLE), (False, replace(ABLE, has_past_end=False)))}
+        self.assertGreater(ends[True], 2048)
+        self.assertEqual(ends[False], 2048)
+
 
 class StepTest(unittest.TestCase):
     places = Places(1 << 40, 1024)

@@ -1,5 +1,5 @@
--- The commands of a driver that are no requests (Base Specification: Set Features, Host Identifier; Asynchronous Event
--- Request; Get Log Page; Abort).
+-- The commands of a driver that are no requests (Base Specification: Set Features, Host Identifier, Asynchronous Event
+-- Configuration; Asynchronous Event Request; Get Log Page; Abort).
 use Rattle.std.specs.Prelude.{
   ℕ,
   ◌+◌,
@@ -43,6 +43,10 @@ admin_command number namespace word10 word11 = record {
 -- Set Features (09h) of the Host Identifier (81h), of 128 bits (EXHID)
 abbrev pub identifying : List ℕ → Asked
 identifying bytes = sending (admin_command 9 0 0x81 1) (length bytes) bytes
+
+-- Set Features (09h) of the Asynchronous Event Configuration (0Bh): a bit for each event that is reported
+abbrev pub configuring_events : ℕ → Asked
+configuring_events events = without_data (admin_command 9 0 0x0b events)
 
 -- Asynchronous Event Request (0Ch)
 abbrev pub awaiting_event : Asked

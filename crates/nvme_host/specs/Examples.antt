@@ -4,11 +4,14 @@ use Rattle.nvme_driver.specs.declared.lane.Lane.TheVariants.{Io}
 use Rattle.nvme_driver.specs.declared.slots.Waiting.{Waiting}
 use Rattle.nvme_host.specs.declared.doorbells.Doorbells.{Doorbells}
 use Rattle.nvme_host.specs.declared.facts.DeviceFacts.{DeviceFacts}
+use Rattle.nvme_host.specs.declared.open_driver.OpenDriver.{OpenDriver}
 use Rattle.nvme_host.specs.declared.outcome.Outcome.{Outcome}
 use Rattle.nvme_host.specs.declared.recording_port.Action.{Action}
 use Rattle.nvme_host.specs.declared.recording_port.Need.TheVariants.{Status}
 use Rattle.nvme_host.specs.declared.recording_port.RecordingPort.{RecordingPort}
 use Rattle.nvme_host.specs.declared.recording_port.Report.{Report}
+use Rattle.nvme_host.specs.declared.stage.Stage.TheVariants.{Enabling, Expired}
+use Rattle.nvme_host.specs.RunExamples.{idle}
 
 -- a write of Controller Configuration, and a report of a status
 abbrev pub action : Action
@@ -56,3 +59,13 @@ facts nsid = record {
 -- the answer to question 9, by its length
 abbrev pub answer : ℕ → Outcome
 answer count = record { ticket = 9; len = count; dw0 = 0; code = 1; sct = 0; sc = 0 }
+
+-- a driver that is up, with an action; one whose controller was enabled; and one of which a request took too long
+abbrev pub busy : OpenDriver
+busy = record idle { port = port }
+
+abbrev pub waiting_for_ready : OpenDriver
+waiting_for_ready = record idle { stage = Enabling }
+
+abbrev pub overdue : OpenDriver
+overdue = record idle { stage = Expired }

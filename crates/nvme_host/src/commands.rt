@@ -8,6 +8,7 @@ ghost use Rattle.nvme_host.specs.Calls.{Commanding};
 ghost use Rattle.nvme_host.specs.DeviceCommands.{
   identifying,
   awaiting_event,
+  configuring_events,
   reading_log,
   aborting,
   aborting_in,
@@ -34,6 +35,9 @@ const HOST_IDENTIFIER: u32 = 0x81;
 
 /// EXHID: the identifier has 128 bits.
 const EXTENDED_HOST_IDENTIFIER: u32 = 1;
+
+/// The feature Asynchronous Event Configuration.
+const EVENT_CONFIGURATION: u32 = 0x0b;
 
 /// Asynchronous Event Request.
 const ASYNCHRONOUS_EVENT_REQUEST: u8 = 0x0c;
@@ -68,6 +72,30 @@ pub extern "C" fn nvmehost_set_host_identifier(
     };
     let refusal = open_driver.stopped();
     let placed = open_driver.place_command(refusal, true, &command);
+    *host = Handle::of(open_driver);
+    placed
+}
+
+/// Selects the events that the controller reports, by the bits of the feature Asynchronous Event Configuration. After
+/// a reset they are the controller's own selection again.
+#[unsafe(no_mangle)]
+pub extern "C" fn nvmehost_configure_events(alloc: Global, host: &mut Handle, events: u32) -> Placed
+    ensures { Sends stopped_by false (λ h. configuring_events events) host.old.slot.value result host.new.slot.value }
+{
+    let Some(mut open_driver) = host.take(alloc) else {
+        return Placed::refused(codes::CLOSED);
+    };
+    let command = HostCommand {
+        lane: Lane::Admin,
+        opcode: SET_FEATURES,
+        nsid: 0,
+        cdw10: EVENT_CONFIGURATION,
+        cdw11: events,
+        cdw12: 0,
+        payload: HostData::Unused,
+    };
+    let refusal = open_driver.stopped();
+    let placed = open_driver.place_command(refusal, false, &command);
     *host = Handle::of(open_driver);
     placed
 }

@@ -2,7 +2,11 @@
 
 mod calls;
 mod commands;
+mod export_results;
+mod made_calls;
+mod pending_calls;
 mod ports;
+mod result_codes;
 
 ghost use Rattle.std.specs.Prelude.{◌≡◌, ◌++◌, [], ◌∷◌, replicate, true, false};
 ghost use Rattle.nvme_spec.specs.declared.command.Command.TheVariants as command;

@@ -55,6 +55,16 @@ impl Event {
 }
 
 impl Driver {
+    /// Selects the events that the controller reports, by the bits of the feature Asynchronous Event Configuration: bits 7
+    /// to 0 are critical warnings, bit 8 is a changed namespace. After a reset they are the controller's own selection.
+    ///
+    /// # Errors
+    ///
+    /// Those of [`Driver::await_event`].
+    pub fn configure_events(&mut self, events: u32) -> Result<Ticket, Fault> {
+        placed(self.handle.configure_events(events))
+    }
+
     /// Asks for the next event: the answer, whose double word 0 is that of an [`Event`], comes once there is one.
     ///
     /// # Errors

@@ -135,6 +135,7 @@ mod foreign {
         pub fn nvmehost_acquire(host: &mut Handle, nsid: u32, action: u8, rtype: u8, crkey: u64, prkey: u64) -> Placed;
         pub fn nvmehost_release(host: &mut Handle, nsid: u32, action: u8, rtype: u8, crkey: u64) -> Placed;
         pub fn nvmehost_report(host: &mut Handle, nsid: u32, dwords: u32) -> Placed;
+        pub fn nvmehost_configure_events(host: &mut Handle, events: u32) -> Placed;
         pub fn nvmehost_await_event(host: &mut Handle) -> Placed;
         pub fn nvmehost_event(dw0: u32) -> Event;
         pub fn nvmehost_log(host: &mut Handle, nsid: u32, lid: u8, retain: bool, dwords: u32) -> Placed;
@@ -226,6 +227,9 @@ impl Handle {
     }
     pub fn report(&mut self, nsid: u32, dwords: u32) -> Placed {
         unsafe { foreign::nvmehost_report(self, nsid, dwords) }
+    }
+    pub fn configure_events(&mut self, events: u32) -> Placed {
+        unsafe { foreign::nvmehost_configure_events(self, events) }
     }
     pub fn await_event(&mut self) -> Placed {
         unsafe { foreign::nvmehost_await_event(self) }

@@ -89,6 +89,9 @@ fn a_reset_forgets_the_host() {
 #[test]
 fn an_event_is_awaited() {
     let mut port = started();
+    let configured = port.driver().configure_events(0x8000_01ff);
+    assert_eq!(ended(&mut port, configured), Ok(()));
+    assert_eq!(port.device().events, 0x8000_01ff);
     let ticket = port.driver().await_event().unwrap();
     port.send().unwrap();
     port.device().wait();

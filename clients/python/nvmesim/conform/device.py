@@ -7,7 +7,7 @@ import fcntl
 import os
 import struct
 from dataclasses import dataclass
-from typing import Protocol, Tuple
+from typing import Optional, Protocol, Tuple
 
 from ..errors import NvmesimError
 from ..files import doing
@@ -76,6 +76,10 @@ class Device:
         """Closes the device."""
         os.close(self._file)
 
+    def abilities(self) -> Abilities:
+        """The properties of the device."""
+        return Abilities.of(self)
+
     def submit(self, command: Command) -> Answer:
         """Executes a command. Raises `DeviceFault` if the kernel refuses it."""
         size = max(len(command.sent), command.wanted)
@@ -115,6 +119,9 @@ class Abilities:
         has_compare, has_zeroes, has_protection, has_attachment: which commands it has.
         rtypes: which types of reservations it has; none if it has no reservations.
         has_persistence: whether these may persist through a loss of power.
+        nqn: the name of its subsystem (SUBNQN).
+        has_past_end: whether commands on blocks after the last one are sent to it.
+        missing: what is left out for another reason than that the device lacks it, each with the reason.
     """
 
     blocks: int
@@ -129,10 +136,18 @@ class Abilities:
     has_attachment: bool
     rtypes: Tuple[int, ...]
     has_persistence: bool
+    nqn: str = ""
+    has_past_end: bool = True
+    missing: Tuple[Tuple[str, str], ...] = ()
 
     @classmethod
-    def of(cls, device: Commands) -> Abilities:
-        """Reads the properties of a device. Raises `DeviceFault` if it can't be compared."""
+    def of(cls, device: Commands, host: Optional[int] = None) -> Abilities:
+        """Reads the properties of a device. Raises `DeviceFault` if it can't be compared.
+
+        Args:
+            device: the device.
+            host: the identifier of its host; by default the one that the device reports.
+        """
         controller, namespace = identify(device, 1), identify(device, 0)
         blocks, = struct.unpack_from("<Q", namespace)
         form = namespace[128 + 4 * (namespace[26] & 0xF):][:4]
@@ -144,11 +159,16 @@ class Abilities:
         oncs, oacs = struct.unpack_from("<H", controller, 520)[0], struct.unpack_from("<H", controller, 256)[0]
         rescap = namespace[31] if oncs & 0x20 else 0
         most = 256 if controller[77] == 0 else min(256, 8 << controller[77])
-        return cls(blocks, bool(namespace[30] & 1), struct.unpack_from("<H", controller, 78)[0], _host_of(device),
-                   f"{controller[24:64].decode('ascii', 'replace').strip()} "
-                   f"{controller[4:24].decode('ascii', 'replace').strip()}", most, bool(oncs & 1), bool(oncs & 8),
-                   bool(controller[531] & 1), bool(oacs & 8), tuple(it for it in range(1, 7) if rescap >> it & 1),
-                   bool(rescap & 1))
+        known = _host_of(device) if host is None else host
+        return cls(blocks, bool(namespace[30] & 1), struct.unpack_from("<H", controller, 78)[0], known,
+                   f"{_text(controller[24:64])} {_text(controller[4:24])}".strip(), most, bool(oncs & 1),
+                   bool(oncs & 8), bool(controller[531] & 1), bool(oacs & 8),
+                   tuple(it for it in range(1, 7) if rescap >> it & 1), bool(rescap & 1), _text(controller[768:1024]))
+
+
+def _text(field: bytes) -> str:
+    """A field of Identify, without the blanks or zeros that fill it up."""
+    return field.decode("utf-8", "replace").strip("\0 ")
 
 
 def _host_of(device: Commands) -> int:

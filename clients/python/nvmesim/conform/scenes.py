@@ -28,12 +28,13 @@ def scene(seed: int, hosts: Sequence[Abilities], length: int) -> List[Step]:
 def _makers(hosts: Sequence[Abilities]) -> "dict[str, _Maker]":
     """The makers of each command's numbers. A word that is listed several times is chosen more often."""
     blocks, most = hosts[0].blocks, min(it.most_blocks for it in hosts)
+    has_past_end = all(it.has_past_end for it in hosts)
 
     def ranges(chance: random.Random, _: int) -> Tuple[int, ...]:
         count = chance.choice((1, 1, 2, 3, 8))
         near_end = chance.random() < 0.4
         slba = blocks - chance.randrange(-1, REGION) if near_end else chance.randrange(REGION - count + 1)
-        return slba, min(count, most)
+        return slba if has_past_end else min(slba, blocks - count), min(count, most)
 
     def with_data(chance: random.Random, host: int) -> Tuple[int, ...]:
         return (*ranges(chance, host), chance.randrange(1, 4))

@@ -11,6 +11,7 @@ ghost use Rattle.nvme_host.specs.DeviceCommands.{
   aborting,
   aborting_in,
   awaiting_event,
+  configuring_events,
   identifying,
   lane_at,
   live_slot,
@@ -32,6 +33,12 @@ fn commands_have_fields()
       command = record { lane = Admin; opcode = 9; nsid = 0; cdw10 = 129; cdw11 = 1; cdw12 = 0 };
       moved = 16;
       sent = replicate 16 7;
+      received = 0;
+    } }
+    ensures events { configuring_events 0x101 ≡ record {
+      command = record { lane = Admin; opcode = 9; nsid = 0; cdw10 = 11; cdw11 = 257; cdw12 = 0 };
+      moved = 0;
+      sent = [];
       received = 0;
     } }
     ensures event { awaiting_event ≡ record {

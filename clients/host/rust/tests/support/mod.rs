@@ -36,6 +36,9 @@ pub struct Controller {
     ptpls: bool,
     /// The identifier of the request that awaits an event.
     awaiting: Option<u32>,
+    /// The Asynchronous Event Configuration.
+    #[allow(dead_code)]
+    pub events: u32,
     /// It fetches no command.
     pub is_silent: bool,
     /// Its registers read as ones.
@@ -61,6 +64,7 @@ impl Controller {
             rtype: 0,
             ptpls: false,
             awaiting: None,
+            events: 0,
             is_silent: false,
             is_removed: false,
             lbads: 9,
@@ -153,12 +157,11 @@ impl Controller {
     fn admin(&mut self, entry: &[u8]) -> u32 {
         let (mut bytes, to) = (vec![0; PAGE], Self::qword(entry, 24) as usize);
         match entry[0] {
-            9 => {
-                if (Self::word(entry, 40), Self::word(entry, 44)) != (0x81, 1) {
-                    return INVALID_FIELD;
-                }
-                self.host = self.memory[to..to + 16].try_into().ok();
-            }
+            9 => match (Self::word(entry, 40), Self::word(entry, 44)) {
+                (0x81, 1) => self.host = self.memory[to..to + 16].try_into().ok(),
+                (0x0b, events) => self.events = events,
+                _ => return INVALID_FIELD,
+            },
             // The log page has its own identifier in each byte.
             2 => {
                 let length = 4 * (Self::word(entry, 40) as usize / 0x10000 + 1);
