@@ -40,6 +40,7 @@ mod exit;
 mod fabrics;
 mod fault;
 mod files;
+mod hashing;
 mod journal;
 #[cfg(not(feature = "simulated"))]
 #[allow(unsafe_code)]

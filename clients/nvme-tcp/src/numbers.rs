@@ -26,6 +26,12 @@ pub const fn index(n: u32) -> usize {
 
 /// The lower half of a number.
 #[inline]
+pub const fn low_u64(n: u128) -> u64 {
+    n as u64
+}
+
+/// The lower half of a number.
+#[inline]
 pub const fn low_u32(n: u64) -> u32 {
     n as u32
 }

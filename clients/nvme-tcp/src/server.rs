@@ -6,6 +6,7 @@ use crate::control::log::Topic;
 use crate::control::Console;
 use crate::fabrics::association::HostQueue;
 use crate::fault::{Fault, Outcome};
+use crate::hashing::Counted;
 use crate::numbers::{narrow, to_u64, to_usize};
 use crate::nvme::entry::SubmissionEntry;
 use crate::storage::Storage;
@@ -72,7 +73,7 @@ pub struct Server<'a> {
     poll: Poll,
     hosts: Vec<Listener<TcpListener>>,
     control: Option<Listener<UnixListener>>,
-    connections: HashMap<u64, Served>,
+    connections: Counted<Served>,
     /// Receive buffers.
     rooms: Rooms,
     /// The connections that wait for the journal or the kept run, in the order in which they have begun to.
@@ -109,7 +110,7 @@ impl<'a> Server<'a> {
             next: 1 + to_u64(hosts.len()),
             hosts,
             control,
-            connections: HashMap::new(),
+            connections: Counted::default(),
             rooms: Rooms::new(ROOM),
             waiting: VecDeque::new(),
             stalled: Vec::new(),
@@ -158,7 +159,7 @@ impl<'a> Server<'a> {
     fn turn(&mut self, ready: &mut Vec<Ready>, look: &mut Instant) -> Outcome<()> {
         let is_patient = self.awaited().is_none() && !self.target.has_turn();
         let patience = if is_patient { LOOK } else { Duration::ZERO };
-        self.target.hand_out();
+        self.target.hand_out()?;
         self.poll.wait(narrow(patience.as_millis()), ready).map_err(Fault::System)?;
         let now = Instant::now();
         let is_due = now >= *look;
@@ -185,7 +186,7 @@ impl<'a> Server<'a> {
             self.apply_effects()?;
             self.resume_stalled()?;
         } else if is_idle {
-            self.target.hand_out();
+            self.target.hand_out()?;
             self.awaited().map_or(Ok(()), |handed| self.target.wait_for(handed))?;
         }
         self.resume()?;
@@ -383,29 +384,38 @@ impl<'a> Server<'a> {
 
     /// Does what connections are to do because of others, and because of the disk.
     fn apply_effects(&mut self) -> Outcome<()> {
-        let mut answered: Vec<u64> = Vec::new();
+        let (mut answered, mut is_handed): (Vec<u64>, bool) = (Vec::new(), false);
         loop {
-            self.target.hand_over(self.is_alone)?;
-            let (name, entry, answer) = match self.next_answer()? {
-                Some(next) => next,
-                None => match answered.pop() {
-                    Some(name) => {
-                        self.send(name, false)?;
-                        continue;
-                    }
-                    None => return Ok(()),
-                },
-            };
-            if let Some(served) = self.connections.get_mut(&name) {
-                served.connection.answer(&mut self.target, &entry, answer)?;
-                if served.connection.is_full() {
-                    // The processor still has long answers in its cache.
-                    self.send(name, false)?;
-                } else if !answered.contains(&name) {
+            if let Some((name, entry, answer)) = self.next_answer()? {
+                is_handed = false;
+                if self.answer(name, &entry, answer)? && !answered.contains(&name) {
                     answered.push(name);
                 }
+            } else if let Some(name) = answered.pop() {
+                self.send(name, false)?;
+            } else if is_handed {
+                return Ok(());
+            } else {
+                // What is written at once has answers then.
+                self.target.hand_over(self.is_alone)?;
+                is_handed = true;
             }
         }
+    }
+
+    /// Answers a command of a connection, if it is still there; whether the answer must be sent yet.
+    fn answer(&mut self, name: u64, entry: &SubmissionEntry, answer: Answer) -> Outcome<bool> {
+        let served = match self.connections.get_mut(&name) {
+            Some(served) => served,
+            None => return Ok(false),
+        };
+        served.connection.answer(&mut self.target, entry, answer)?;
+        let is_full = served.connection.is_full();
+        if is_full {
+            // The processor still has long answers in its cache.
+            self.send(name, false)?;
+        }
+        Ok(!is_full)
     }
 
     /// The next answer that is due. Connections that must be closed before it are closed.

@@ -6,6 +6,8 @@
 //! has its blocks. So the order of commands is that of their executions, and nobody reads older bytes.
 
 pub mod aligned;
+#[allow(unsafe_code)]
+mod arena;
 mod barriers;
 mod cache;
 mod file;
@@ -27,6 +29,7 @@ mod tests;
 use crate::control::log::warn;
 use crate::fabrics::association::ConnectionId;
 use crate::fault::{Fault, Outcome};
+use crate::hashing::Counted;
 use crate::nvme::status::{READ_ERROR, WRITE_FAULT};
 use crate::nvme::{COMPARE, READ};
 use crate::target::answer::Answer;
@@ -36,12 +39,12 @@ use cache::Cache;
 pub use file::{blocks_of, is_read_only, Image, ImageDisk};
 use frames::{Extent, FRAME_BYTES};
 pub use jobs::Disk;
-use jobs::{Done, Job};
+use jobs::{Done, Job, Writing};
 use ledger::Ledger;
 pub use ledger::Owed;
 use nvmesim::{Brought, Need};
 use options::Options;
-use std::collections::{HashMap, VecDeque};
+use std::collections::VecDeque;
 use std::io::{self, ErrorKind};
 use std::mem;
 use std::sync::Arc;
@@ -67,6 +70,8 @@ pub struct Storage {
     /// Frames with blocks to write, by their places in the cache, and the numbers of those that are being written.
     queued: Vec<usize>,
     writing: Vec<u64>,
+    /// The memory of writes that have ended.
+    spare: Vec<Writing>,
     /// Which commands may go to the disk, and the frames of those that may not.
     barriers: Barriers,
     held: Vec<usize>,
@@ -74,7 +79,7 @@ pub struct Storage {
     /// With `--write-through`, what was written and is not synced, and the numbers of the syncs that it waits for.
     unsynced: Vec<(u64, Extent)>,
     /// The blocks that commands read which wait for them.
-    asked: HashMap<u64, Extent>,
+    asked: Counted<Extent>,
     bytes_asked: usize,
     /// The reads in order of each controller, and how many bytes are being read ahead of commands.
     streams: Streams,
@@ -113,11 +118,12 @@ impl Storage {
             zeroing: Vec::new(),
             queued: Vec::new(),
             writing: Vec::new(),
+            spare: Vec::new(),
             barriers: Barriers::default(),
             held: Vec::new(),
             bytes_written: 0,
             unsynced: Vec::new(),
-            asked: HashMap::new(),
+            asked: Counted::default(),
             bytes_asked: 0,
             bytes_ahead: 0,
             starved: Vec::new(),
@@ -156,15 +162,18 @@ impl Storage {
             _ if self.failure.is_some() => true,
             Need::Read { first, blocks } => self.prepare_read(Extent { first, blocks }, id),
             Need::Flush => self.syncs.has_flushed(id, self.ledger.next()),
-            Need::Write { .. } => self.has_room(id),
+            Need::Write { first, blocks } => {
+                let has_frames = self.cache.has_room_to_write();
+                self.has_room(id, has_frames) && !self.waits_for_reads(Extent { first, blocks }, id)
+            }
             Need::Zero { .. } | Need::Nothing => true,
         }
     }
 
-    /// Whether a command gets frames of the cache. If not, it waits until work of the disk ends; commands whose blocks
-    /// are in the cache do not wait for it.
-    fn has_room(&mut self, id: u64) -> bool {
-        let has_room = self.cache.has_room() && self.ledger.len() < MOST_OPEN && self.bytes_asked < MOST_READ;
+    /// Whether a command gets frames of the cache, which has some. If not, it waits until work of the disk ends; commands
+    /// whose blocks are in the cache do not wait for it.
+    fn has_room(&mut self, id: u64, has_frames: bool) -> bool {
+        let has_room = has_frames && self.ledger.len() < MOST_OPEN && self.bytes_asked < MOST_READ;
         if !has_room {
             self.starved.push(id);
         }
@@ -188,8 +197,10 @@ impl Storage {
         self.syncs.forget(id);
         if let Some(extent) = self.asked.remove(&id) {
             self.bytes_asked -= extent.bytes();
-            for place in extent.parts().filter_map(|part| self.cache.find(part.number)).collect::<Vec<_>>() {
-                self.cache.change(place, |frame| frame.users -= 1);
+            for number in extent.frames() {
+                if let Some(place) = self.cache.find(number) {
+                    self.cache.change(place, |frame| frame.users -= 1);
+                }
             }
         }
     }
@@ -216,7 +227,7 @@ impl Storage {
             let place = self.frame(part.number);
             let blocks = if is_read { self.cache.at(place).front_of(part).into() } else { 0 };
             self.is_in_room = false;
-            return (self.cache.lend(place, part), Brought { first, blocks, flushes: false });
+            return (self.cache.bytes_mut(place, part), Brought { first, blocks, flushes: false });
         }
         let blocks = if is_read { self.at_hand(extent) } else { 0 };
         for number in extent.frames() {
@@ -230,7 +241,7 @@ impl Storage {
         let adjacent = self.cache.adjacent(extent);
         self.is_in_room = adjacent.is_none();
         if let Some(range) = adjacent {
-            return self.cache.lend_all(range);
+            return self.cache.all_bytes_mut(range);
         }
         self.room.resize(extent.bytes().max(self.room.len()), 0);
         let mut begin = 0;
@@ -318,12 +329,13 @@ impl Storage {
     }
 
     /// Begins what can begin of writes, zeroes and syncs. If there is one host alone, small writes into the system's
-    /// memory are made at once: that is faster than to wake a thread, and no other host waits for it.
+    /// memory are made at once: that is faster than to wake a thread, and no other host waits for it. With more hosts
+    /// writes into its memory begin before the event loop waits, those of all hosts together.
     pub fn begin(&mut self, is_alone: bool) -> Outcome<()> {
         if self.failure.is_some() {
             return Ok(());
         }
-        if !self.queued.is_empty() {
+        if !self.queued.is_empty() && (is_alone || !self.disk.is_cached()) {
             self.begin_writes(is_alone)?;
         }
         if !self.zeroing.is_empty() {
@@ -336,9 +348,14 @@ impl Storage {
         Ok(())
     }
 
-    /// Has the threads take what was begun, before the event loop waits.
-    pub fn hand_out(&mut self) {
+    /// Begins the writes that have waited for others, and has the threads take what was begun, before the event loop
+    /// waits.
+    pub fn hand_out(&mut self) -> Outcome<()> {
+        if !self.queued.is_empty() && self.failure.is_none() {
+            self.begin_writes(false)?;
+        }
         self.workers.hand_out();
+        Ok(())
     }
 
     /// Takes back the jobs that have ended.
@@ -360,7 +377,7 @@ impl Storage {
         let failure = match done.job {
             Job::Read(reading) => return self.finish_read(reading, done.result),
             Job::Write(writing) => {
-                self.finish_write(&writing, done.result.is_ok());
+                self.finish_write(writing, done.result.is_ok());
                 done.result.err()
             }
             Job::Zero(extent) => {
@@ -427,9 +444,11 @@ impl Storage {
     pub fn sync(&mut self) -> Outcome<()> {
         self.wait_for_records(0, u64::MAX);
         self.begin(false)?;
+        self.hand_out()?;
         while let Some(done) = self.workers.wait() {
             self.finish(done)?;
             self.begin(false)?;
+            self.hand_out()?;
         }
         match self.failure.take() {
             Some(error) => Err(Fault::Image(error)),

@@ -1,5 +1,5 @@
 //! System calls that the standard library lacks: its poll, epoll(7), options of sockets, space and locks of files,
-//! signals, and what keeps memory secret. One of five files with unsafe code. The others are `memory.rs`,
+//! signals, and what keeps memory secret. One of six files with unsafe code. The others are `memory.rs`, `arena.rs`,
 //! `libcrypto.rs`, `processor.rs` and clients/rust/src/raw.rs, which calls the library.
 //!
 //! Why it is safe: `Event` has the layout of the kernel's `struct epoll_event` on x86-64, which is packed; arrays and

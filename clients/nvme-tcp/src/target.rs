@@ -280,8 +280,8 @@ impl<'a> Target<'a> {
     }
 
     /// Has the threads of the disk take their work, before the event loop waits.
-    pub fn hand_out(&mut self) {
-        self.storage.iter_mut().for_each(Storage::hand_out);
+    pub fn hand_out(&mut self) -> Outcome<()> {
+        self.storage.as_mut().map_or(Ok(()), Storage::hand_out)
     }
 
     /// Whether the system has all events up to `handed`.

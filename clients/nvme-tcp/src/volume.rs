@@ -179,6 +179,10 @@ impl Disk for VolumeDisk {
         self.disk.read(BLOCKS_AT + place, room)
     }
 
+    fn check_open(&self) -> io::Result<()> {
+        self.disk.check_open()
+    }
+
     fn write(&self, place: u64, bytes: &[u8]) -> io::Result<()> {
         self.disk.write(BLOCKS_AT + place, bytes)
     }

@@ -1,4 +1,4 @@
-"""The sources: what is unsafe is in eight short files, numbers of the standard in one, clippy has no warning, and the
+"""The sources: what is unsafe is in nine short files, numbers of the standard in one, clippy has no warning, and the
 crate's tests pass."""
 import os
 import re
@@ -16,10 +16,11 @@ sys.path.insert(0, str(HERE.parent.parent / "scripts"))
 from support import clippy
 
 # The calls of the library; the simulator's stacks, its memory and its calls of libcrypto; the target's calls of
-# libcrypto, the instruction of the processor, mapped memory, the system calls.
+# libcrypto, the instruction of the processor, mapped memory, memory that threads borrow, the system calls.
 UNSAFE = sorted([HERE.parent / "rust/src/raw.rs",
                  *(HERE / f"simulator/src/{it}.rs" for it in ("fiber", "heap", "libcrypto")),
-                 *(HERE / f"src/{it}.rs" for it in ("authentication/libcrypto", "digest/processor", "memory", "system"))])
+                 *(HERE / f"src/{it}.rs" for it in ("authentication/libcrypto", "digest/processor", "memory",
+                                                    "storage/arena", "system"))])
 MOST_LINES = 328
 IS_BUILT = shutil.which("cargo") and (HERE / "out/library/lib").is_dir()
 

@@ -145,6 +145,15 @@ class Serves(VolumeTest):
         copy.write_bytes(b"x" * (8 << 20))
         self.refused("there is something at byte 0; --force", "copy", self.volume, copy)
         self.passes("copy", self.volume, copy, "--force")
+        # A copy that was killed leaves an empty file, or one that is half a volume and still short.
+        half = b"nvmetcp halfway\n".ljust(JOURNAL, b"\0")
+        for begun, words in ((b"", ()), (half, ("--force",))):
+            copy.write_bytes(begun)
+            self.passes("copy", self.volume, copy, *words)
+            self.assertEqual(self.passes("dump", copy), self.passes("dump", self.volume))
+        copy.write_bytes(half)
+        self.refused("it has 131072 bytes, and 3145728 are needed", "copy", self.volume, copy)
+        self.passes("copy", self.volume, copy, "--force")
         self.volume = copy
         self.is_fenced(self.target("copy-target"))
 

@@ -22,7 +22,7 @@ class Wrapper(unittest.TestCase):
         return ran.returncode, ran.stderr, time.monotonic() - begun
 
     def test_what_is_not_there(self) -> None:
-        for tools, what in ((), "python3"), (("env", "python3"), "cargo"):
+        for tools, what in ((), "python3"), (("python3",), "make"), (("env", "find", "make", "python3"), "cargo"):
             status, told, seconds = self.run_with(*tools)
             self.assertEqual(status, 70)
             self.assertRegex(told, rf"\Anvmetcp: could not be built: there is no {what}; version .* is needed\n\Z")

@@ -1,12 +1,11 @@
 //! The lines of events: each is a line of a script, and what it gave is a line of the transcript. The library writes
 //! both.
 
-use crate::numbers::to_u64;
+use crate::hashing::Secret;
 use crate::recording::run::{Event, Events};
 use crate::transport::output::Output;
 use nvmesim::{answer_line, event_line, Answered, LineError};
 use std::collections::hash_map::{Entry, HashMap};
-use std::hash::{BuildHasherDefault, Hasher};
 use std::io;
 
 /// A line has no more bytes, without the digits of those that were stored.
@@ -28,37 +27,7 @@ fn put_answer(event: &nvmesim::Event<'_>, answered: Answered, gave: &mut Output)
 /// The lines of events that store nothing, and what they give. These repeat, and to ask the library for each would take
 /// longer than the rest.
 #[derive(Default)]
-struct Known(HashMap<Event, [Output; 2], BuildHasherDefault<Quick>>);
-
-/// A hash of few numbers. At worst all that are known have the same, and there are not many.
-#[derive(Default)]
-struct Quick(u64);
-
-impl Hasher for Quick {
-    fn write(&mut self, bytes: &[u8]) {
-        bytes.iter().for_each(|byte| self.write_u64((*byte).into()));
-    }
-
-    fn write_u16(&mut self, number: u16) {
-        self.write_u64(number.into());
-    }
-
-    fn write_u32(&mut self, number: u32) {
-        self.write_u64(number.into());
-    }
-
-    fn write_usize(&mut self, number: usize) {
-        self.write_u64(to_u64(number));
-    }
-
-    fn write_u64(&mut self, number: u64) {
-        self.0 = (self.0.rotate_left(5) ^ number).wrapping_mul(0x517c_c1b7_2722_0a95);
-    }
-
-    fn finish(&self) -> u64 {
-        self.0
-    }
-}
+struct Known(HashMap<Event, [Output; 2], Secret>);
 
 impl Known {
     /// The texts of an event.

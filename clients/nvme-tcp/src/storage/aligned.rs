@@ -6,7 +6,6 @@ use std::ops::{Deref, DerefMut};
 pub const PAGE: usize = 4096;
 
 /// Bytes at a multiple of a page.
-#[derive(Default)]
 pub struct Aligned {
     bytes: Vec<u8>,
     begin: usize,
@@ -20,15 +19,6 @@ impl Aligned {
         let mut aligned = Aligned { bytes, begin };
         aligned.bytes.truncate(begin + count);
         aligned
-    }
-
-    /// These bytes, or zeros if they are fewer than `count`.
-    pub fn extended(self, count: usize) -> Aligned {
-        if self.len() < count {
-            Aligned::zeros(count)
-        } else {
-            self
-        }
     }
 }
 

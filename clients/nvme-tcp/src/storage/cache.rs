@@ -1,10 +1,11 @@
 //! The frames of the disk that are in memory, at most a fixed number of them. A frame that no command and no work of
 //! the disk needs is replaced by the CLOCK algorithm: the hand passes frames that were used since it came by last.
 
+use super::arena::{Arena, Loan};
 use super::frames::{Extent, Frame, Mask, Part, FRAME, FRAME_BYTES, MOST_PARTS};
+use crate::hashing::Chosen;
 use crate::numbers::index;
 use std::cell::Cell;
-use std::collections::HashMap;
 use std::ops::Range;
 
 /// The number of no frame.
@@ -14,8 +15,8 @@ const NOWHERE: u64 = u64::MAX;
 pub struct Cache {
     frames: Vec<Frame>,
     /// Their bytes, one frame after the other. The system has memory only for those that were in use.
-    bytes: Vec<u8>,
-    places: HashMap<u64, usize>,
+    arena: Arena,
+    places: Chosen<usize>,
     /// The number and the place of the frame that was found last: a command asks several times for each of its frames.
     last: Cell<Option<(u64, usize)>>,
     most: usize,
@@ -28,9 +29,8 @@ impl Cache {
     /// A cache of at most this many frames, which is at least enough for a few commands.
     pub fn new(most: usize) -> Cache {
         let most = most.max(4 * MOST_PARTS);
-        let bytes = vec![0; most * FRAME_BYTES];
-        let (frames, places, last) = (Vec::new(), HashMap::new(), Cell::new(None));
-        Cache { frames, bytes, places, last, most, busy: 0, hand: 0 }
+        let (frames, places, last) = (Vec::new(), Chosen::default(), Cell::new(None));
+        Cache { frames, arena: Arena::new(most), places, last, most, busy: 0, hand: 0 }
     }
 
     /// How many blocks it can have.
@@ -54,33 +54,53 @@ impl Cache {
         &self.frames[place]
     }
 
+    /// The place of a part of a frame in memory.
+    pub fn range(place: usize, part: Part) -> Range<usize> {
+        let Range { start, end } = part.range();
+        place * FRAME_BYTES + start..place * FRAME_BYTES + end
+    }
+
     /// The bytes of a part of a frame.
     pub fn bytes(&self, place: usize, part: Part) -> &[u8] {
-        &self.bytes[place * FRAME_BYTES..][part.range()]
+        self.arena.bytes(Cache::range(place, part))
     }
 
     /// The same, for a command that is executed over them.
-    pub fn lend(&mut self, place: usize, part: Part) -> &mut [u8] {
+    pub fn bytes_mut(&mut self, place: usize, part: Part) -> &mut [u8] {
         self.frames[place].is_recent = true;
-        &mut self.bytes[place * FRAME_BYTES..][part.range()]
+        self.arena.bytes_mut(Cache::range(place, part))
+    }
+
+    /// Bytes for a thread, which reads blocks into them.
+    pub fn borrow(&mut self, range: Range<usize>) -> Loan {
+        self.arena.borrow(range)
+    }
+
+    /// Takes back the bytes of a thread.
+    pub fn take_back(&mut self, loan: Loan) {
+        self.arena.take_back(loan);
     }
 
     /// The place of an extent's bytes, if its frames are in memory and adjacent there. Most that came in together are.
     pub fn adjacent(&self, extent: Extent) -> Option<Range<usize>> {
-        let first = extent.part(extent.frames().start);
-        let place = self.find(first.number)?;
-        if extent.frames().zip(place..).any(|(number, place)| self.find(number) != Some(place)) {
-            return None;
-        }
-        let begin = place * FRAME_BYTES + first.range().start;
-        Some(begin..begin + extent.bytes())
+        let mut parts = extent.parts().map(|part| Some(Cache::range(self.find(part.number)?, part)));
+        let first = parts.next()??;
+        parts.try_fold(first, |range, next| {
+            let next = next.filter(|next| self.arena.continues(&range, next))?;
+            Some(range.start..next.end)
+        })
+    }
+
+    /// Whether a range and the next one are adjacent.
+    pub fn continues(&self, range: &Range<usize>, next: &Range<usize>) -> bool {
+        self.arena.continues(range, next)
     }
 
     /// These bytes, for a command that is executed over them.
-    pub fn lend_all(&mut self, range: Range<usize>) -> &mut [u8] {
+    pub fn all_bytes_mut(&mut self, range: Range<usize>) -> &mut [u8] {
         let places = range.start / FRAME_BYTES..(range.end + FRAME_BYTES - 1) / FRAME_BYTES;
         self.frames[places].iter_mut().for_each(|frame| frame.is_recent = true);
-        &mut self.bytes[range]
+        self.arena.bytes_mut(range)
     }
 
     /// The frame of a part of an extent, if it is in memory.
@@ -95,13 +115,13 @@ impl Cache {
 
     /// Blocks of a frame are valid from now on, and these are their bytes.
     pub fn put(&mut self, place: usize, part: Part, bytes: &[u8]) {
-        self.lend(place, part).copy_from_slice(bytes);
+        self.bytes_mut(place, part).copy_from_slice(bytes);
         self.make_valid(place, part);
     }
 
     /// Blocks of a frame are zeros from now on.
     pub fn zero(&mut self, place: usize, part: Part) {
-        self.lend(place, part).fill(0);
+        self.bytes_mut(place, part).fill(0);
         self.make_valid(place, part);
     }
 
@@ -143,6 +163,11 @@ impl Cache {
         self.busy + MOST_PARTS <= self.most
     }
 
+    /// Whether a Write can get its frames. It leaves as many to Reads, which wait for no writes then.
+    pub fn has_room_to_write(&self) -> bool {
+        self.busy + 2 * MOST_PARTS <= self.most
+    }
+
     /// Whether more than half of the frames can be replaced.
     pub fn is_mostly_free(&self) -> bool {
         self.busy < self.most / 2
@@ -156,7 +181,7 @@ impl Cache {
             place
         } else {
             self.frames.push(Frame::new(number));
-            self.bytes.resize(self.bytes.len().max(self.frames.len() * FRAME_BYTES), 0);
+            self.arena.add();
             self.frames.len() - 1
         };
         self.places.insert(number, place);

@@ -64,7 +64,12 @@ impl Image {
         let is_device = locked.metadata()?.file_type().is_block_device();
         let mut file =
             if is_device && !lock.is_shared { open_disk(path, &how, flags | ALONE)? } else { locked.try_clone()? };
-        let length = file.seek(SeekFrom::End(0))?;
+        let mut length = file.seek(SeekFrom::End(0))?;
+        if let (Some(size), 0, false) = (options.size, length, is_device || lock.is_shared) {
+            // It is empty, as a program leaves it that is killed while it creates it.
+            file.set_len(size)?;
+            length = size;
+        }
         match options.size {
             Some(size) if size != length => {
                 let text = format!("it exists and has {length} bytes, and --size asks for {size}; leave --size out");
@@ -168,19 +173,13 @@ impl ImageDisk {
         Ok(())
     }
 
-    fn check_open(&self) -> io::Result<()> {
-        match &self.watched {
-            Some(_) => check_length(self.file.metadata()?.len(), self.length),
-            None => Ok(()),
-        }
-    }
-
     /// Writes zeros.
     fn write_zeros(&self, place: u64, count: u64) -> io::Result<()> {
         let zeros = Aligned::zeros(ZEROS.min(to_usize(count)));
         let (mut place, end) = (place, place + count);
         while place < end {
             let count = (end - place).min(to_u64(zeros.len()));
+            self.check_open()?;
             self.write(place, &zeros[..to_usize(count)])?;
             place += count;
         }
@@ -200,8 +199,14 @@ impl Disk for ImageDisk {
         Ok(())
     }
 
+    fn check_open(&self) -> io::Result<()> {
+        match &self.watched {
+            Some(_) => check_length(self.file.metadata()?.len(), self.length),
+            None => Ok(()),
+        }
+    }
+
     fn write(&self, place: u64, bytes: &[u8]) -> io::Result<()> {
-        self.check_open()?;
         if !self.is_direct || is_whole(place, bytes) {
             return self.write_all(bytes, place);
         }
@@ -317,6 +322,10 @@ mod tests {
         let options = Options { size: Some(1 << 20), ..Options::default() };
         let (path, image) = opened("sizes", &options).unwrap();
         drop(image);
+        for _ in 0..2 {
+            assert_eq!(opened("sizes", &options).unwrap().1.blocks(), 2048);
+            fs::write(&path, []).unwrap();
+        }
         assert_eq!(opened("sizes", &options).unwrap().1.blocks(), 2048);
         let other = opened("sizes", &Options { size: Some(2 << 20), ..options });
         assert!(other.err().unwrap().to_string().starts_with("it exists and has 1048576 bytes"));
@@ -333,7 +342,7 @@ mod tests {
         disk.check().unwrap();
         fs::write(&path, [0; 512]).unwrap();
         assert_eq!(disk.check().unwrap_err().kind(), ErrorKind::InvalidData);
-        assert!(disk.write(0, &[1; 512]).is_err() && disk.zero(0, 512).is_err() && disk.sync().is_err());
+        assert!(disk.check_open().is_err() && disk.zero(0, 512).is_err() && disk.sync().is_err());
         fs::remove_file(path).unwrap();
     }
 }

@@ -135,8 +135,10 @@ pub struct Frame {
     pub(super) valid: Mask,
     /// Those of them that no write to the disk has taken yet.
     pub(super) dirty: Mask,
-    /// Blocks that a read in progress brings, and those that could not be read.
+    /// Blocks that a read in progress brings, whose bytes a thread has; those of them that are zeros by then; and those
+    /// that could not be read.
     pub(super) coming: Mask,
+    pub(super) zeroed: Mask,
     pub(super) failed: Mask,
     /// Blocks of a write in progress: only one at a time is.
     pub(super) writing: Mask,
@@ -164,6 +166,7 @@ impl Frame {
             valid: 0,
             dirty: 0,
             coming: 0,
+            zeroed: 0,
             failed: 0,
             writing: 0,
             changed_by: 0,

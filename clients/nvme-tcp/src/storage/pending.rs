@@ -4,6 +4,7 @@
 use super::Owed;
 use crate::fabrics::association::ConnectionId;
 use crate::fault::Outcome;
+use crate::hashing::Counted;
 use crate::nvme::entry::SubmissionEntry;
 use crate::nvme::status::{COMMAND_SEQUENCE, SUCCESS};
 use crate::nvme::{COMPARE, DATASET_MANAGEMENT, READ, WRITE_ZEROES};
@@ -12,7 +13,6 @@ use crate::target::controller::{Completed, Data, Token};
 use crate::target::Target;
 use nvmesim::buffers::DataBuffer;
 use nvmesim::Need;
-use std::collections::BTreeMap;
 
 /// Force Unit Access, in double word 12 of a command on blocks.
 const FORCE_UNIT_ACCESS: u32 = 1 << 30;
@@ -66,7 +66,7 @@ impl Pending {
 /// The commands that wait, by their numbers.
 #[derive(Default)]
 pub struct Waiting {
-    list: BTreeMap<u64, Pending>,
+    list: Counted<Pending>,
     next: u64,
     /// How many bytes of data the commands of each controller have.
     bytes: Vec<usize>,
@@ -103,7 +103,7 @@ impl Waiting {
 
     /// The first command of a controller that was held.
     fn first_held(&self, index: usize) -> Option<u64> {
-        self.list.iter().find(|(_, it)| it.was_held && it.issued.index == index).map(|(id, _)| *id)
+        self.list.iter().filter(|(_, it)| it.was_held && it.issued.index == index).map(|(id, _)| *id).min()
     }
 }
 
@@ -304,7 +304,9 @@ impl Target<'_> {
     /// The commands of a controller that wait are dropped with their queue, or with all queues.
     pub fn drop_waiting(&mut self, index: usize, qid: Option<u16>) {
         let is_dropped = |it: &Pending| it.issued.index == index && qid.map_or(true, |qid| it.issued.qid == qid);
-        let dropped: Vec<u64> = self.waiting.list.iter().filter(|(_, it)| is_dropped(it)).map(|(id, _)| *id).collect();
+        let mut dropped: Vec<u64> =
+            self.waiting.list.iter().filter(|(_, it)| is_dropped(it)).map(|(id, _)| *id).collect();
+        dropped.sort_unstable();
         for id in dropped {
             if let Some(pending) = self.waiting.remove(id) {
                 self.forget(id, index, pending.was_held);

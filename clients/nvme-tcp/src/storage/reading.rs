@@ -1,12 +1,14 @@
 //! Reads: blocks that the cache lacks come from the disk, while the command that needs them waits.
 
-use super::frames::{runs, Extent, Part};
+use super::cache::Cache;
+use super::frames::{runs, Extent, Frame, Part};
 use super::jobs::Reading;
 use super::Storage;
 use crate::control::log::warn;
 use crate::fault::{Fault, Outcome};
 use nvmesim::Need;
 use std::io;
+use std::ops::Range;
 use std::time::{Duration, Instant};
 
 /// The least time between two warnings.
@@ -21,25 +23,29 @@ impl Storage {
             return true;
         }
         if !self.asked.contains_key(&id) {
-            if !self.has_room(id) {
+            if !self.has_room(id, self.cache.has_room()) {
                 return false;
             }
             self.ask(extent, id);
         }
-        for run in self.missing(extent) {
-            self.workers.read(run);
+        self.read_missing(extent, false);
+        !self.waits_for_reads(extent, id)
+    }
+
+    /// Whether some blocks are on the way. Then the command with this number is in `ready` later.
+    pub(super) fn waits_for_reads(&mut self, extent: Extent, id: u64) -> bool {
+        let Storage { cache, workers, bytes_ahead, .. } = self;
+        let is_coming = |frame: &Frame, part: Part| frame.coming & part.mask() != 0;
+        let coming = extent.parts().find(|part| cache.of(*part).map_or(false, |frame| is_coming(frame, *part)));
+        let place = match coming.and_then(|part| cache.find(part.number)) {
+            Some(place) => place,
+            None => return false,
+        };
+        cache.change(place, |frame| frame.waiting.push(id));
+        if *bytes_ahead != 0 {
+            *bytes_ahead -= workers.hasten(extent);
         }
-        let coming = extent.parts().find_map(|part| {
-            let place = self.frame(part.number);
-            (self.cache.at(place).coming & part.mask() != 0).then_some(place)
-        });
-        if let Some(place) = coming {
-            self.cache.change(place, |frame| frame.waiting.push(id));
-            if self.bytes_ahead != 0 {
-                self.bytes_ahead -= self.workers.hasten(extent);
-            }
-        }
-        coming.is_none()
+        true
     }
 
     /// A controller is going to read blocks. If it reads in their order, the next ones are read too, unless the disk or
@@ -57,10 +63,7 @@ impl Storage {
                     break;
                 }
                 end = extent.end();
-                for run in self.missing(extent) {
-                    self.bytes_ahead += run.bytes();
-                    self.workers.read_ahead(run);
-                }
+                self.bytes_ahead += self.read_missing(extent, true);
             }
             self.streams.stop(index, end);
         }
@@ -79,10 +82,11 @@ impl Storage {
         }
     }
 
-    /// The blocks that are neither in the cache nor on the way, nor could be read: in few runs, which are on the way from
-    /// now on.
-    fn missing(&mut self, extent: Extent) -> Vec<Extent> {
-        let mut found: Vec<Extent> = Vec::new();
+    /// Begins to read the blocks that are neither in the cache nor on the way, nor could be read, by few calls; how many
+    /// bytes they are.
+    fn read_missing(&mut self, extent: Extent, is_ahead: bool) -> usize {
+        let mut bytes = 0;
+        let mut last: Option<(Extent, Range<usize>)> = None;
         for part in extent.parts() {
             let place = self.frame(part.number);
             let missing = self.cache.change(place, |frame| {
@@ -90,38 +94,50 @@ impl Storage {
                 frame.coming |= missing;
                 missing
             });
-            for run in runs(part.number, missing).map(Part::extent) {
-                match found.last_mut() {
-                    Some(last) if last.end() == run.first => last.blocks += run.blocks,
-                    _ => found.push(run),
+            for run in runs(part.number, missing) {
+                let (run, range) = (run.extent(), Cache::range(place, run));
+                bytes += range.len();
+                match &mut last {
+                    Some((before, at)) if before.end() == run.first && self.cache.continues(at, &range) => {
+                        before.blocks += run.blocks;
+                        at.end = range.end;
+                    }
+                    _ => self.read(last.replace((run, range)), is_ahead),
                 }
             }
         }
-        found
+        self.read(last, is_ahead);
+        bytes
     }
 
-    /// The blocks that were read come into the cache, unless it has newer ones.
+    /// Begins to read blocks, if there are any, into their place in the cache.
+    fn read(&mut self, blocks: Option<(Extent, Range<usize>)>, is_ahead: bool) {
+        if let Some((extent, range)) = blocks {
+            let bytes = self.cache.borrow(range);
+            self.workers.read(Reading::new(extent, bytes, is_ahead));
+        }
+    }
+
+    /// The blocks that were read are in the cache, unless they were zeroed meanwhile.
     pub(super) fn finish_read(&mut self, reading: Reading, result: io::Result<()>) -> Outcome<()> {
-        let is_ahead = reading.is_ahead;
-        self.bytes_ahead -= if is_ahead { reading.extent.bytes() } else { 0 };
-        for part in reading.extent.parts() {
-            let (place, failed) = (self.frame(part.number), reading.failed_of(part));
-            let missing = part.mask() & !self.cache.at(place).valid;
-            for run in runs(part.number, missing & !failed) {
-                self.cache.put(place, run, reading.bytes_of(run));
-            }
+        let Reading { extent, bytes, failed, is_ahead } = reading;
+        self.bytes_ahead -= if is_ahead { extent.bytes() } else { 0 };
+        self.cache.take_back(bytes);
+        for part in extent.parts() {
+            let (place, failed) = (self.frame(part.number), failed.of(part));
+            let zeroed = self.cache.at(place).zeroed & part.mask();
+            runs(part.number, zeroed).for_each(|run| self.cache.zero(place, run));
             let Storage { cache, ready, .. } = self;
             cache.change(place, |frame| {
-                frame.coming &= !part.mask();
-                frame.failed |= if is_ahead { 0 } else { missing & failed };
                 // If no command needs it yet, it leaves the cache before others.
-                let is_in_use = frame.users != 0 || frame.valid & !missing != 0;
-                frame.is_recent &= !is_ahead || is_in_use;
+                frame.is_recent &= !is_ahead || frame.users != 0 || frame.valid != 0;
+                frame.coming &= !part.mask();
+                frame.zeroed &= !part.mask();
+                frame.valid |= part.mask() & !failed;
+                frame.failed |= if is_ahead { 0 } else { failed & !zeroed };
                 ready.extend(frame.waiting.drain(..));
             });
         }
-        let extent = reading.extent;
-        self.workers.keep(reading.bytes);
         match result {
             // A command that needs these blocks reads them again.
             Err(_) if is_ahead => Ok(()),

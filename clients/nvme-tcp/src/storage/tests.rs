@@ -10,6 +10,7 @@ mod ahead;
 mod fake;
 mod pieces;
 mod records;
+mod room;
 
 const SIZE: usize = BLOCK as usize;
 /// Frames of the smallest cache, in blocks.
@@ -38,7 +39,7 @@ impl Trial {
         self.next
     }
 
-    /// Executes a Write of a byte; its number.
+    /// Executes a Write of a byte, once no read of its blocks is in progress; its number.
     fn write(&mut self, first: u64, blocks: u32, byte: u8) -> u64 {
         self.change(Need::Write { first, blocks }, byte, false)
     }
@@ -49,7 +50,9 @@ impl Trial {
 
     fn change(&mut self, need: Need, byte: u8, is_synced: bool) -> u64 {
         let (id, ticket) = (self.id(), self.storage.open(0));
-        assert!(self.storage.prepare(need, id));
+        while !self.storage.prepare(need, id) {
+            self.turn();
+        }
         let (room, brought) = self.storage.bring(need);
         room.fill(byte);
         assert_eq!((brought.blocks, brought.flushes), (0, false));
@@ -79,9 +82,15 @@ impl Trial {
         found
     }
 
+    /// Begins what can begin while there are several hosts.
+    fn begin(&mut self) {
+        self.storage.begin(false).unwrap();
+        self.storage.hand_out().unwrap();
+    }
+
     /// Waits for the next job.
     fn turn(&mut self) {
-        self.storage.begin(false).unwrap();
+        self.begin();
         let done = self.storage.workers.wait().unwrap();
         self.storage.finish(done).unwrap();
         self.collect();
@@ -107,7 +116,7 @@ impl Trial {
     /// Waits until nothing is in progress.
     fn settle(&mut self) {
         loop {
-            self.storage.begin(false).unwrap();
+            self.begin();
             if self.storage.workers.under_way == 0 {
                 return self.collect();
             }
@@ -144,38 +153,93 @@ fn overlapping_writes_stay_in_order() {
 }
 
 #[test]
-fn newer_bytes_are_not_replaced_by_a_read() {
-    let mut it = Trial::new(Fake::new(64), false);
+fn writes_into_the_memory_of_the_system_go_together() {
+    let mut it = Trial::new(Fake { is_cached: true, ..Fake::new(2 * CACHED) }, false);
     it.disk.close(true);
-    let (id, need) = (it.id(), Need::Read { first: 4, blocks: 4 });
-    assert!(!it.storage.prepare(need, id));
-    it.write(5, 1, 0xee);
-    it.zero(6, 1);
-    it.disk.close(false);
-    while !it.storage.prepare(need, id) {
-        it.turn();
+    it.write(7, 1, 1);
+    it.storage.begin(false).unwrap();
+    assert_eq!(it.storage.workers.under_way, 0, "it waits for those of other hosts");
+    it.write(40, 2, 2);
+    it.begin();
+    for (first, byte) in [(CACHED, 3), (7, 4), (90, 5)] {
+        it.write(first, 1, byte);
+        it.begin();
+        assert_eq!(it.storage.workers.under_way, 1, "one write at a time");
     }
-    let found = it.bring(id, need);
-    assert_eq!([4, 0xee, 0, 7].map(|byte| vec![byte; SIZE]).concat(), found);
+    it.disk.close(false);
+    it.turn();
+    assert_eq!((it.calls(), it.answered.len()), (vec![('w', 7), ('w', 40)], 2));
+    it.turn();
+    assert_eq!((&it.calls()[2..], it.answered.len()), (&[('w', 7), ('w', 90), ('w', CACHED)][..], 5));
+    assert_eq!([7, 40, 41, 90, CACHED, 8].map(|block| it.block(block)), [4, 2, 2, 5, 3, 8]);
+    assert_eq!((it.storage.writing.len(), it.storage.bytes_written), (0, 0));
 }
 
 #[test]
-fn a_cache_is_smaller_than_the_disk() {
-    let blocks = 4 * CACHED;
-    let mut it = Trial::new(Fake::new(blocks), false);
-    for first in (0..blocks - 3).step_by(3) {
-        while !it.storage.cache.has_room() {
-            it.turn();
-        }
-        it.write(first, 3, first as u8 | 1);
+fn a_cut_during_a_batch_is_noticed_before_its_last_write() {
+    let mut it = Trial::new(Fake { is_cached: true, ..Fake::new(2 * CACHED) }, false);
+    it.disk.close(true);
+    for first in [7, 40, CACHED] {
+        it.write(first, 1, 1);
     }
+    it.begin();
+    assert_eq!(it.disk.wait_for_calls(1), Some(('w', 7)));
+    *it.disk.is_cut.lock().unwrap() = true;
+    it.disk.close(false);
+    let done = it.storage.workers.wait().unwrap();
+    assert!(matches!(it.storage.finish(done), Err(Fault::Image(_))));
+    assert_eq!(it.calls(), [('w', 7), ('w', 40)]);
+    assert!(it.storage.answers.is_empty());
+}
+
+#[test]
+fn the_memory_of_a_write_is_used_again() {
+    let mut it = Trial::new(Fake::new(64), false);
+    for (first, blocks, byte) in [(7, 20, 1), (3, 2, 2), (30, 9, 3), (50, 1, 4)] {
+        it.write(first, blocks, byte);
+        it.settle();
+        assert_eq!(it.storage.spare.len(), 1);
+        assert_eq!([first, first + u64::from(blocks) - 1].map(|block| it.block(block)), [byte; 2]);
+    }
+    assert_eq!([2, 5, 26, 29, 39, 51].map(|block| it.block(block)), [2, 5, 1, 29, 39, 51]);
+}
+
+#[test]
+fn newer_bytes_are_not_replaced_by_a_read() {
+    let mut it = Trial::new(Fake::new(64), false);
+    it.disk.close(true);
+    let (read, write, other) = (it.id(), it.id(), it.id());
+    let need = Need::Read { first: 4, blocks: 4 };
+    assert!(!it.storage.prepare(need, read));
+    it.zero(6, 1);
+    assert!(!it.storage.prepare(Need::Write { first: 5, blocks: 2 }, write), "a thread has the bytes");
+    assert!(it.storage.prepare(Need::Write { first: 8, blocks: 1 }, other));
+    it.disk.close(false);
     it.settle();
-    for first in (0..blocks - 3).step_by(3) {
-        assert_eq!(it.read(first, 3), vec![first as u8 | 1; 3 * SIZE]);
+    assert_eq!(it.ready, [read, write]);
+    assert!([read, write].into_iter().all(|id| it.storage.prepare(need, id)));
+    it.write(5, 1, 0xee);
+    assert_eq!(it.bring(read, need), [4, 0xee, 0, 7].map(|byte| vec![byte; SIZE]).concat());
+    it.settle();
+    assert_eq!([4, 5, 6, 7].map(|block| it.block(block)), [4, 0xee, 0, 7]);
+}
+
+#[test]
+fn blocks_that_were_zeroed_on_the_way_are_zeros_even_if_they_cannot_be_read() {
+    for is_refused in [false, true] {
+        let mut it = Trial::new(Fake::new(64), false);
+        if is_refused {
+            it.disk.refuse('r', 5);
+        }
+        it.disk.close(true);
+        let (read, need) = (it.id(), Need::Read { first: 4, blocks: 4 });
+        assert!(!it.storage.prepare(need, read));
+        it.zero(5, 1);
+        it.disk.close(false);
+        it.settle();
+        assert!(it.storage.prepare(need, read));
+        assert_eq!(it.bring(read, need), [4, 0, 6, 7].map(|byte| vec![byte; SIZE]).concat());
     }
-    assert_eq!(it.answered.len() as u64, (blocks - 3 + 2) / 3);
-    assert!(it.answered.iter().all(|(_, status)| *status == SUCCESS));
-    assert!(it.storage.cache.has_room());
 }
 
 #[test]
@@ -371,16 +435,16 @@ impl Random {
 fn nobody_reads_older_bytes() {
     let blocks = 3 * CACHED;
     for seed in 0..4 {
-        let mut it = Trial::new(Fake { is_slow: true, ..Fake::new(blocks) }, false);
+        let mut it = Trial::new(Fake { is_slow: true, is_cached: seed % 2 == 1, ..Fake::new(blocks) }, false);
         let mut model = it.disk.bytes.lock().unwrap().clone();
         let (mut random, mut waiting, mut changes) = (Random(seed), Vec::new(), 0);
         for turn in 0..3000_u64 {
-            it.storage.begin(false).unwrap();
+            it.begin();
             if (turn % 3 == 0 || !it.storage.cache.has_room()) && it.storage.workers.under_way != 0 {
                 it.turn();
             }
             it.conclude(&mut waiting, &model);
-            if !it.storage.cache.has_room() || it.storage.bytes_asked >= MOST_READ {
+            if !it.storage.cache.has_room_to_write() || it.storage.bytes_asked >= MOST_READ {
                 continue;
             }
             // Many of them are on a few frames.

@@ -1,6 +1,5 @@
 //! Threads that do the work of the disk, so that the event loop never waits for it.
 
-use super::aligned::Aligned;
 use super::frames::Extent;
 use super::jobs::{Disk, Done, Job, Reading};
 use crate::waker::{self, Waker, Wakeup};
@@ -14,8 +13,6 @@ use std::thread;
 pub(super) const THREADS: usize = 8;
 /// How many of them read ahead at a time.
 const AHEAD_THREADS: usize = 2;
-/// The most buffers of reads that are kept for the next ones.
-const MOST_SPARE: usize = 32;
 
 /// Jobs that no thread has taken yet.
 #[derive(Default)]
@@ -99,8 +96,6 @@ pub struct Workers {
     /// Jobs that the threads do not have yet.
     begun: Vec<Job>,
     ahead: Vec<Reading>,
-    /// Buffers of reads that have ended.
-    spare: Vec<Aligned>,
     /// Readable when a job has ended.
     pub(super) wakeup: Wakeup,
     /// How many jobs have not ended, or were not taken back yet.
@@ -119,8 +114,7 @@ impl Workers {
             let serve = move || serve(&*disk, &queue, &results, &waker);
             thread::Builder::new().name("disk".to_owned()).spawn(serve)?;
         }
-        let (begun, ahead, spare) = (Vec::new(), Vec::new(), Vec::new());
-        Ok(Workers { queue, done, begun, ahead, spare, wakeup, under_way: 0 })
+        Ok(Workers { queue, done, begun: Vec::new(), ahead: Vec::new(), wakeup, under_way: 0 })
     }
 
     /// Begins a job. The threads have it after `hand_out`.
@@ -129,17 +123,14 @@ impl Workers {
         self.begun.push(job);
     }
 
-    /// Begins to read blocks.
-    pub fn read(&mut self, extent: Extent) {
-        let bytes = self.spare.pop().unwrap_or_default();
-        self.begin(Job::Read(Reading::new(extent, bytes, false)));
-    }
-
-    /// The same, before a command needs the blocks.
-    pub fn read_ahead(&mut self, extent: Extent) {
-        let bytes = self.spare.pop().unwrap_or_default();
-        self.under_way += 1;
-        self.ahead.push(Reading::new(extent, bytes, true));
+    /// Begins to read blocks. Those that no command needs yet come after others.
+    pub fn read(&mut self, reading: Reading) {
+        if reading.is_ahead {
+            self.under_way += 1;
+            self.ahead.push(reading);
+        } else {
+            self.begin(Job::Read(reading));
+        }
     }
 
     /// A command waits for blocks: if they were to be read ahead and no thread does yet, they are read like others. The
@@ -182,13 +173,6 @@ impl Workers {
         let done = self.done.recv().ok()?;
         self.under_way -= 1;
         Some(done)
-    }
-
-    /// Takes back the buffer of a read.
-    pub fn keep(&mut self, bytes: Aligned) {
-        if self.spare.len() < MOST_SPARE {
-            self.spare.push(bytes);
-        }
     }
 }
 

@@ -16,6 +16,10 @@ pub(super) const MOST_WRITTEN: usize = 1 << 20;
 const MOST_IN_PROGRESS: usize = 8 << 20;
 /// A write of at most this many bytes is made at once, if the system takes it into its memory and there is one host.
 const SMALL: usize = 16 << 10;
+/// How many writes leave their memory to later ones.
+const MOST_SPARE: usize = 8;
+/// A frame keeps the memory of a list of at most this many tickets.
+const MOST_KEPT: usize = 16;
 
 /// Zeroes that are in progress, or wait for writes and other zeroes.
 pub struct Zeroing {
@@ -63,8 +67,11 @@ impl Storage {
                 continue;
             }
             if let Some(place) = self.cache.find(part.number) {
-                self.cache.zero(place, part);
+                // A thread has the bytes of blocks on the way: these are zeroed when they have come.
+                let coming = self.cache.at(place).coming & part.mask();
+                runs(part.number, part.mask() & !coming).for_each(|run| self.cache.zero(place, run));
                 self.cache.change(place, |frame| {
+                    frame.zeroed |= coming;
                     frame.dirty &= !part.mask();
                     if frame.dirty == 0 {
                         tickets.append(&mut frame.tickets);
@@ -85,10 +92,16 @@ impl Storage {
         }
     }
 
+    /// Begins to write the frames that are queued. The system takes bytes of a file into its memory for one thread at a
+    /// time. So there the next batch begins when the last one has ended: those that wait for it go together.
     pub(super) fn begin_writes(&mut self, is_alone: bool) -> Outcome<()> {
+        let is_cached = self.disk.is_cached();
+        if is_cached && self.bytes_written != 0 {
+            return Ok(());
+        }
         let mut queued = mem::take(&mut self.queued);
         queued.sort_unstable_by_key(|place| self.cache.at(*place).number);
-        let (mut group, is_cached): (Vec<usize>, bool) = (Vec::new(), self.disk.is_cached());
+        let mut group = Vec::new();
         for place in queued {
             // The rest waits until some of these end.
             if self.bytes_written + group.len() * FRAME_BYTES >= MOST_IN_PROGRESS {
@@ -103,7 +116,7 @@ impl Storage {
                 continue;
             }
             let number = self.cache.at(place).number;
-            // The system takes all of a batch into its memory by one thread sooner than by several. A device is kept busy.
+            // A device is kept busy.
             let is_next = group.last().map_or(true, |last| self.cache.at(*last).number + 1 == number);
             if !is_next && !is_cached || (group.len() + 1) * FRAME_BYTES > MOST_WRITTEN {
                 self.write(&mem::take(&mut group), is_alone)?;
@@ -129,13 +142,15 @@ impl Storage {
     /// Writes the dirty blocks of frames one after the other.
     fn write(&mut self, places: &[usize], is_alone: bool) -> Outcome<()> {
         let blocks: u32 = places.iter().map(|place| self.cache.at(*place).dirty.count_ones()).sum();
-        let mut writing = Writing::new(index(blocks) * to_usize(BLOCK));
+        let mut writing = self.spare.pop().unwrap_or_else(Writing::new);
+        writing.begin(index(blocks) * to_usize(BLOCK));
         for place in places {
             let frame = self.cache.at(*place);
             runs(frame.number, frame.dirty).for_each(|part| writing.put(part, self.cache.bytes(*place, part)));
             let number = self.cache.change(*place, |frame| {
                 frame.writing = mem::take(&mut frame.dirty);
-                frame.written.append(&mut frame.tickets);
+                // Only one write at a time is in progress, so this list is empty.
+                mem::swap(&mut frame.written, &mut frame.tickets);
                 frame.number
             });
             self.writing.push(number);
@@ -166,25 +181,32 @@ impl Storage {
         }
     }
 
-    pub(super) fn finish_write(&mut self, writing: &Writing, has_succeeded: bool) {
+    pub(super) fn finish_write(&mut self, writing: Writing, has_succeeded: bool) {
         self.bytes_written -= writing.length;
+        self.writing.retain(|number| !writing.has(*number));
         if self.options.writes_through {
             let next = self.syncs.next();
             self.unsynced.extend(writing.runs.iter().map(|it| (next, *it)));
         }
         for place in &writing.frames {
-            let (number, is_queued, tickets) = self.cache.change(*place, |frame| {
+            let (is_queued, mut tickets) = self.cache.change(*place, |frame| {
                 frame.writing = 0;
                 let is_queued = frame.dirty == 0 || mem::replace(&mut frame.is_queued, true);
-                (frame.number, is_queued, mem::take(&mut frame.written))
+                (is_queued, mem::take(&mut frame.written))
             });
-            self.writing.retain(|it| *it != number);
             if !is_queued {
                 self.queued.push(*place);
             }
             if has_succeeded {
                 self.end(&tickets);
             }
+            if tickets.capacity() <= MOST_KEPT {
+                tickets.clear();
+                self.cache.change(*place, |frame| frame.written = tickets);
+            }
+        }
+        if self.spare.len() < MOST_SPARE {
+            self.spare.push(writing);
         }
     }
 

@@ -309,7 +309,7 @@ impl Connection {
         before: Live,
         answer: Option<(SubmissionEntry, Answer)>,
     ) -> Outcome<()> {
-        self.set_deadline(before, Instant::now());
+        self.set_deadline(before, Instant::now);
         if let Some((entry, answer)) = answer {
             self.answer(target, &entry, answer)?;
         }
@@ -320,11 +320,11 @@ impl Connection {
     }
 
     /// Sets the deadline after a command on a queue that was this before. Nothing extends the time of a proof.
-    fn set_deadline(&mut self, before: Live, now: Instant) {
+    fn set_deadline(&mut self, before: Live, now: impl FnOnce() -> Instant) {
         self.deadline = match self.queue.session.last() {
-            Live::Authenticating(_) if before == Live::NotConnected => Some(now + BEFORE_PROOF),
+            Live::Authenticating(_) if before == Live::NotConnected => Some(now() + BEFORE_PROOF),
             Live::NotConnected | Live::Authenticating(_) | Live::Ended => self.deadline,
-            Live::Discovery => Some(now + DISCOVERY_IDLE),
+            Live::Discovery => Some(now() + DISCOVERY_IDLE),
             Live::Queue { .. } => None,
         };
     }
@@ -449,14 +449,14 @@ mod tests {
         let (mut entry, mut data) = ([0; ENTRY], [0; 1024]);
         (entry[44], data[0], data[16], data[17], data[512]) = (31, 0xa1, 0xff, 0xff, b'h');
         assert!(fabrics.connect(&mut it.queue.session, &entry, &data, &Judged::default()).is_success());
-        it.set_deadline(Live::NotConnected, start);
+        it.set_deadline(Live::NotConnected, || start);
         for seconds in [1, 60, 119] {
-            it.set_deadline(Live::Authenticating(0), at(seconds));
+            it.set_deadline(Live::Authenticating(0), || at(seconds));
             assert!(!it.is_late(at(seconds)));
         }
         assert!(!it.is_late(at(120)) && it.is_late(at(121)));
         assert!(fabrics.authenticate(&mut it.queue.session, true, (0, 0)).is_success());
-        it.set_deadline(Live::Authenticating(0), at(119));
+        it.set_deadline(Live::Authenticating(0), || at(119));
         assert!(!it.is_late(at(1_000_000)));
     }
 }

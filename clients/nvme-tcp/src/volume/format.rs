@@ -93,14 +93,18 @@ pub fn copy(from: &Path, to: &Path, how: How) -> Result<String, Refusal> {
 }
 
 /// Opens a file or block device and locks it, unless something is there that may not be overwritten. A file that is not
-/// there is created.
+/// there is created, and an empty one gets its size.
 fn claim(path: &Path, needed: u64, how: How) -> Result<Image, Refusal> {
     if let Some(size) = how.size.filter(|it| *it < needed) {
         return Err(Refusal::TooSmall(size, needed));
     }
-    let is_there = fs::symlink_metadata(path).is_ok();
-    let size = how.size.or(if is_there { None } else { Some(needed) });
-    let image = Image::open(path, Lock::exclusive(how.waits), &Options { size, ..Options::default() })?;
+    let has_size = fs::symlink_metadata(path).map_or(false, |it| !it.is_file() || it.len() != 0);
+    let size = how.size.or(if has_size { None } else { Some(needed) });
+    let mut image = Image::open(path, Lock::exclusive(how.waits), &Options { size, ..Options::default() })?;
+    if image.length < needed && how.replaces && is_cut_copy(&image) {
+        image.file.set_len(needed)?;
+        image.length = needed;
+    }
     if image.length < needed {
         return Err(Refusal::TooSmall(image.length, needed));
     }
@@ -108,6 +112,11 @@ fn claim(path: &Path, needed: u64, how: How) -> Result<Image, Refusal> {
         check_empty(&image)?;
     }
     Ok(image)
+}
+
+/// Whether it is a file that `copy` has cut, and then did not end.
+fn is_cut_copy(image: &Image) -> bool {
+    !is_device(&image.file) && superblock::read(&image.file) == Err(Refusal::HalfMade)
 }
 
 /// A refusal if there is something in a file, or at the beginning or the end of a device.

@@ -72,12 +72,12 @@ fn reads_ahead_delay_no_others() {
         assert!(!it.storage.prepare(Need::Read { first: place(nth), blocks: 8 }, id));
     };
     (0..THREADS).for_each(|nth| begin(&mut it, nth));
-    it.storage.hand_out();
+    it.storage.hand_out().unwrap();
     it.disk.wait_for_calls(THREADS);
     // Each thread has one of these, and waits at the gate. What is ahead comes before four others.
     it.storage.read_ahead(0, Need::Read { first: 16, blocks: 8 });
     (THREADS..THREADS + 4).for_each(|nth| begin(&mut it, nth));
-    it.storage.hand_out();
+    it.storage.hand_out().unwrap();
     for nth in THREADS..THREADS + 4 {
         it.disk.let_one_pass();
         assert_eq!(it.disk.wait_for_calls(nth + 1), Some(('r', place(nth))));

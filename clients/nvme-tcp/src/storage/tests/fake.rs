@@ -33,6 +33,10 @@ pub struct Fake {
     pub gate_changes: Condvar,
     /// Whether calls take a while, some longer than others.
     pub is_slow: bool,
+    /// Whether writes go into the system's memory, as those of a file do.
+    pub is_cached: bool,
+    /// Whether the file was cut.
+    pub is_cut: Mutex<bool>,
 }
 
 impl Fake {
@@ -96,6 +100,13 @@ impl Disk for Fake {
         Ok(())
     }
 
+    fn check_open(&self) -> io::Result<()> {
+        if *self.is_cut.lock().unwrap() {
+            return Err(io::ErrorKind::InvalidData.into());
+        }
+        Ok(())
+    }
+
     fn write(&self, place: u64, bytes: &[u8]) -> io::Result<()> {
         self.call('w', place, bytes.len() as u64 / BLOCK)?;
         self.bytes.lock().unwrap()[place as usize..place as usize + bytes.len()].copy_from_slice(bytes);
@@ -121,6 +132,6 @@ impl Disk for Fake {
     }
 
     fn is_cached(&self) -> bool {
-        false
+        self.is_cached
     }
 }
