@@ -11,11 +11,6 @@ prepare() {
     [ -x "$program" ] || give_up "is not installed: there is no $program"
 }
 
-# Becomes the program, which `prepare` made ready.
-run_program() {
-    exec "$program" ${sizes[@]+"${sizes[@]}"} "$@"
-}
-
 show_version() {
     echo "$name $(cat "$support/version")"
     cat "$support/build"

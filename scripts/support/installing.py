@@ -9,8 +9,8 @@ import tempfile
 from pathlib import Path
 from typing import Dict, Iterator, List, Tuple
 
-from support.building.sources import PROGRAMS
-from support.building.store import Store, record_of, sum_of
+from support import building
+from support.building import PROGRAMS, sum_of
 
 LIBRARY = "lib/nvmesim"
 SHARE = "share/nvmesim"
@@ -98,7 +98,7 @@ def put_programs(top: Path, stage: Path) -> None:
     copy(top / "scripts/support/words.sh", stage / LIBRARY / "words.sh")
     copy(top / "scripts/support/installed.sh", stage / LIBRARY / "program.sh")
     put(version_of(top) + "\n", stage / LIBRARY / "version")
-    put(asked(top, "scripts/build", "describe", PROGRAMS[0]).split("; ")[0] + "\n", stage / LIBRARY / "build")
+    put(building.describe(top).split("; ")[0] + "\n", stage / LIBRARY / "build")
     copy_tree(top / "clients/nvme-cli", stage / LIBRARY / "lab", "test", "tests", "README.md")
     copy(top / "clients/nvme-cli/tests/two-hosts.nvme", stage / SHARE / "examples/lab.nvme")
     put(LAB, stage / "bin/nvmelab", 0o755)
@@ -136,8 +136,8 @@ def put_others(top: Path, stage: Path, others: Others) -> None:
 
 def fields_of(top: Path) -> Dict[str, str]:
     """The fields of the manifest before the files."""
-    digest = asked(top, "scripts/build", "digest")
-    gate, proved = record_of(Store(top).gate(digest)), record_of(Store(top).proved(digest) / "record")
+    digest = building.digest(top)
+    gate, proved = building.record_of(building.gate(top), digest), building.proof(top, digest)
     commit = subprocess.run(["git", "-C", str(top), "rev-parse", "HEAD"], capture_output=True, text=True).stdout.strip()
     passed = f"passed at {gate['passed']}, commit {gate['commit']}, uncommitted changes: {gate['changes']}" if gate else "no"
     return {"nvmesim": version_of(top), "platform": "x86_64-linux", "commit": commit or "none", "sources": digest,

@@ -25,6 +25,15 @@ class CopyProver(Prover):
         return Said(1, "".join(text.replace("NAME", it.name) for it, text in told) + PROVED, 1.0)
 
 
+def copied(crate, way, called, name, witness, is_wrong=True):
+    """A copy of a witness with a wrong definition, or with the one as it is; nothing if none can be made."""
+    mutant = crate.mutants[name]
+    item = next(it for it in crate.sources.items if it.name == witness)
+    made = way(crate.sources, "one", item, mutant.item, mutant if is_wrong else None)
+    made.name = called
+    return made if made.collect(Seeing(crate.sources, made.is_of_text).of(mutant.item)) else None
+
+
 REFUSED = ("note: src/NAME.rt:6:1: it is not proved that what it ensures holds (`returns`)\n"
            "fn one::NAME::w: no proof: expected answers in ./proofs/NAME/w/Answers.antt\n")
 BROKEN = "./proofs/C1OneShut.antt:6:1: error: `witness`: the two values differ\n"
@@ -32,12 +41,8 @@ BROKEN = "./proofs/C1OneShut.antt:6:1: error: `witness`: the two values differ\n
 
 @mock.patch.dict("support.definitions.trying.WAYS", clause=(Copy,))
 class Copies(OneCrate):
-    def copy(self, name, witness, is_wrong=True):
-        mutant = self.mutants[name]
-        item = next(it for it in self.sources.items if it.name == witness)
-        made = Copy(self.sources, "one", item, mutant.item, mutant if is_wrong else None)
-        made.name = "c0"
-        return made if made.collect(Seeing(self.sources, made.is_of_text).of(mutant.item)) else None
+    def copy(self, *given):
+        return copied(self, Copy, "c0", *given)
 
     def outcomes(self, says, name):
         """What two rounds make of a wrong definition, and what they ask."""
@@ -154,6 +159,14 @@ class Copies(OneCrate):
         self.write({"src/part.rt": part, "proofs/Parts.antt": f"{line}{lemma}"})
         self.read()
         self.assertIsNone(self.copy("low", "of-part"))
+
+    def test_code_that_is_not_named(self):
+        copy = self.copy("low", "each#low")
+        code = "use Rattle.two.specs.declared.fault.Fault.{Fault, Other}"
+        other = "use Rattle.two.specs.Low.{one}"
+        self.assertEqual(copy.uses(f"{code}\n{other}\n"), [code, other])
+        self.assertEqual(copy.uses(f"{code}\n{other}\n", {"Other"}), [code.replace("Fault, ", ""), other])
+        self.assertEqual(copy.uses(f"{code}\n{other}\n", {"two"}), [other])
 
     def test_what_is_handed_on(self):
         # A module that hands a definition on has it as it is.
@@ -277,11 +290,8 @@ OPEN = "note: src/part/c1.rt:9:5: it is not proved that what it ensures holds (`
 
 
 class ClosedCopies(OneCrate):
-    def copy(self, name, witness):
-        item = next(it for it in self.sources.items if it.name == witness)
-        made = ClosedCopy(self.sources, "one", item, self.mutants[name].item, self.mutants[name])
-        made.name = "c1"
-        return made if made.collect(Seeing(self.sources, made.is_of_text).of(made.definition)) else None
+    def copy(self, *given):
+        return copied(self, ClosedCopy, "c1", *given)
 
     def test_a_lemma_of_it(self):
         copy = self.copy("low", "each#low")
@@ -353,12 +363,8 @@ class CodeCopies(OneCrate):
         self.write({"src/part.rt": CODE})
         self.read()
 
-    def copy(self, name, witness, is_wrong=True):
-        mutant = self.mutants[name]
-        item = next(it for it in self.sources.items if it.name == witness)
-        made = CodeCopy(self.sources, "one", item, mutant.item, mutant if is_wrong else None)
-        made.name = "c1"
-        return made if made.collect(Seeing(self.sources, made.is_of_text).of(mutant.item)) else None
+    def copy(self, *given):
+        return copied(self, CodeCopy, "c1", *given)
 
     def test_a_method(self):
         copy = self.copy("side", "Part::first")

@@ -7,6 +7,7 @@ from types import SimpleNamespace
 from support.definitions.batches import Witnesses, batches_of, merged
 from support.definitions.book import Book, mutants_of
 from support.definitions.citing import Sources
+from support.definitions.command import incomplete
 from support.definitions.reading import definitions_of
 from support.definitions.refusals import Outcome, Reading
 from support.definitions.rules import wrong_definitions
@@ -172,6 +173,13 @@ def goal(clause, line=6):
     return f"note: src/lib.rt:{line}:1: it is not proved that what it ensures holds (`returns-clause-{clause}`)\n"
 
 
+class Complete(unittest.TestCase):
+    def test_record_or_reason(self):
+        books = {"low": SimpleNamespace(same={"one": "why"}), "high": SimpleNamespace(same={"gone": "why"})}
+        lacking = [SimpleNamespace(crate="low", label="one"), SimpleNamespace(crate="low", label="two")]
+        self.assertEqual([it.partition(":")[0] for it in incomplete(books, lacking)], ["low two", "high gone"])
+
+
 class Prover:
     """A place whose prover has its output given: the text for the definitions of a batch, by their names."""
 
@@ -223,6 +231,70 @@ class OneCrate(unittest.TestCase):
     def reading(self, text, *names):
         return {one.item.name: it.kind for one, it in
                 Reading(Said(1, text + PROVED, 1.0), self.sources, "one", self.some(*names)).outcomes.items()}
+
+
+# A trait, a type that is one, and a function that calls it.
+TRAIT = """//! A medium.
+
+pub trait Medium {
+    fn count(&self) -> u8
+        ensures { result ≡ 1 };
+}
+
+pub struct Memory;
+
+impl Memory {
+    ghost use Rattle.one.specs.Low.{low};
+    ghost use Rattle.one.specs.High.{
+      high,
+    };
+
+    fn own(&self) -> u8
+        ensures { result ≡ 2 }
+    {
+        2
+    }
+}
+
+impl Medium for Memory {
+    fn count(&self) -> u8 {
+        1
+    }
+}
+
+pub fn asks(memory: &Memory) -> u8
+    ensures { result ≡ 1 }
+{
+    memory.count()
+}
+"""
+
+
+class RestsOn(OneCrate):
+    def texts(self, *changes):
+        text = TRAIT
+        for old, new in changes:
+            self.assertIn(old, text)
+            text = text.replace(old, new, 1)
+        self.write({"src/trait.rt": text})
+        self.read()
+        asks = [it for it in self.sources.files["one", "src/trait.rt"].items if it.name.endswith("asks")]
+        return self.sources.basis_texts(asks)
+
+    def test_a_method_that_promises_what_its_trait_says(self):
+        self.assertTrue(any(name == "Medium::count" for _, _, name, *_ in self.texts()))
+        self.assertFalse(any(name == "MemoryMedium::count" for _, _, name, *_ in self.texts()))
+        gone = "impl Medium for Memory {\n    fn count(&self) -> u8 {\n        1\n    }\n}\n\n"
+        self.assertEqual(self.texts((gone, "impl Medium for Memory {\n}\n\n")), self.texts())
+
+    def test_a_method_with_clauses_of_its_own(self):
+        clause = ("fn count(&self) -> u8 {", "fn count(&self) -> u8\n        ensures { result ≡ 1 }\n    {")
+        self.assertTrue(any(name == "MemoryMedium::count" for _, _, name, *_ in self.texts(clause)))
+        self.assertNotEqual(self.texts(("ensures { result ≡ 1 };", "ensures { result ≡ 3 };")), self.texts())
+
+    def test_an_import(self):
+        other = self.texts(("    ghost use Rattle.one.specs.High.{\n      high,\n    };\n", ""))
+        self.assertEqual(other, self.texts())
 
 
 class Batches(OneCrate):

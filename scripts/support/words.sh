@@ -1,9 +1,14 @@
 # What ./nvmesim and ./nvmelive make of the words that they are called with: both judge them alike, here and where they
 # are installed. Whether a text is a script, the program nvmelive judges. Callers must set `name`, the program's, and
-# have the functions `prepare`, which makes a program ready to be run, `run_program` and `show_version`.
+# have the functions `prepare`, which makes a program ready to be run, and `show_version`.
 
 # How many bytes a script has at most.
 readonly longest=4194304
+
+# Becomes the program, which `prepare` made ready.
+run_program() {
+    exec "$program" ${sizes[@]+"${sizes[@]}"} "$@"
+}
 
 tell() {
     echo "$name: $1" >&2

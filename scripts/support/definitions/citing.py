@@ -22,10 +22,10 @@ def plain(text):
 
 
 class Sources:
-    """All files of all crates, and what each item names."""
+    """All files of all crates, or those of some parts, and what each item names."""
 
-    def __init__(self, crates):
-        self.crates = crates
+    def __init__(self, crates, parts=("specs", "proofs", "src")):
+        self.crates, self.parts = crates, parts
         self.below = {it.name: {it.name, *(one.name for one in it.below())} for it in crates.values()}
         self.files, self.code_names, self.folders, self.seen, self.advice, self.base = {}, {}, {}, {}, {}, {}
         for crate in crates.values():
@@ -39,8 +39,8 @@ class Sources:
 
     def read(self, crate):
         folder = Path(crate.folder)
-        for part, ending in (("specs", "antt"), ("proofs", "antt"), ("src", "rt")):
-            for it in sorted(folder.glob(f"{part}/**/*.{ending}")):
+        for part in self.parts:
+            for it in sorted(folder.glob(f"{part}/**/*.{'rt' if part == 'src' else 'antt'}")):
                 path = str(it.relative_to(folder))
                 file = self.files[crate.name, path] = File(crate.name, path, it.read_text())
                 file.read_imports()

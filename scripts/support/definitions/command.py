@@ -45,6 +45,8 @@ def words_of(given):
     parser.add_argument("--again", type=int, default=0, metavar="N",
                         help="N recorded ones alone, each by what noticed it, and no others")
     parser.add_argument("--list", action="store_true", help="print them, and try none")
+    parser.add_argument("--complete", action="store_true",
+                        help="try none; print those with neither a record nor a reason in same-definitions, with status 1")
     return parser.parse_args(given)
 
 
@@ -109,6 +111,18 @@ def read_all(root, words):
     return rt, crates, sources, books
 
 
+def incomplete(books, lacking):
+    """The wrong definitions with neither a record nor a reason, and reasons of what has a record or is not made."""
+    for it in lacking:
+        if it.label not in books[it.crate].same:
+            yield f"{it.crate} {it.label}: it has neither a record nor a reason"
+    labels = {(it.crate, it.label) for it in lacking}
+    for name, book in books.items():
+        for label in book.same:
+            if (name, label) not in labels:
+                yield f"{name} {label}: same-definitions has a reason, but it was noticed, or is not made"
+
+
 def main(root, given):
     words = words_of(given)
     try:
@@ -121,6 +135,11 @@ def main(root, given):
     for it in found:
         (known if books[it.crate].is_recorded(it) else lacking).append(it)
     say(f"{len(found)} wrong definitions, {len(known)} of them recorded")
+    if words.complete:
+        faults = [*incomplete(books, lacking)]
+        print(*faults, sep="\n", end="\n" if faults else "")
+        say(f"{sum(len(it.same) for it in books.values())} have a reason; {len(faults)} faults")
+        return 1 if faults else 0
     some, count = (known, words.again) if words.again else (lacking, words.sample)
     chosen = random.Random(words.seed).sample(some, min(count, len(some))) if count else some
     if words.list:

@@ -212,8 +212,9 @@ class Copy:
     def is_kept(self, file, name):
         return any(file.names.get(it) in self.kept for it in parts_of(name.partition(" as ")[0].strip()))
 
-    def uses(self, text):
-        """The lines that import, where what is copied is imported from the copy."""
+    def uses(self, text, named=None):
+        """The lines that import, where what is copied is imported from the copy. Of code only what is named, if it is
+        known what that is, since a crate above can't import all."""
         found = []
         for it in USE.finditer(text):
             path, names = it[1].split("."), it[2].split(",") if it[2] is not None else None
@@ -228,6 +229,8 @@ class Copy:
                 path, names = path[:-1], [path[-1]]
             from_each = {}
             for one in filter(None, map(str.strip, names)):
+                if named is not None and "declared" in path and not named & {*re.findall(r"[\w-]+", one)}:
+                    continue
                 place, words = self.imported(path, one)
                 from_each.setdefault(place, []).append(words)
             found += [f"{head}{it}.{{{', '.join(some)}}}{end}" for it, some in from_each.items()]
@@ -277,8 +280,10 @@ class Copy:
         # Of a type its variants too.
         left = [one for it in file.items if it in self.left for one in (it.name, *sorted(it.names - {*parts_of(it.name)}))]
         stem = file.path.rpartition(".")[0].replace("/", ".")
-        uses = self.uses(file.text) + ([f"use Rattle.{file.crate}.{stem}.{{{', '.join(left)}}}"] if left else [])
         texts = {it: self.item_text(file, it) for it in file.items if it in self.kept}
+        named = {*re.findall(r"[\w-]+", "\n".join(texts.values()))}
+        uses = self.uses(file.text, named) + (
+            [f"use Rattle.{file.crate}.{stem}.{{{', '.join(left)}}}"] if left else [])
         return self.kept_text([*uses, ""], texts)
 
     def kept_text(self, above, texts):

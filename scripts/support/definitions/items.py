@@ -14,6 +14,8 @@ TYPE = re.compile(r"^(?:pub(?:\([a-z]+\))? )?(?:unsafe )?(?:struct|enum|trait|co
 BLOCK = re.compile(r"^(?:unsafe )?impl\b.*?(\w+)(?:<[^{]*>)?(?: where.*)? \{")
 METHODS = re.compile(r"\s*(?:unsafe )?impl\b(?:(?! for ).)*\{\s*\}\s*")
 OF_TRAIT = re.compile(r"(?:unsafe )?impl\b.*?(\w+)(?:<.*>)? for ")
+IMPORT = re.compile(r"^ *ghost use [^;]*;\n?", re.M)
+OWN_CLAUSE = re.compile(r"^ +(?:requires|ensures)\b", re.M)
 CLAUSE = re.compile(r"^ +ensures\*? (?:([\w-]+) )?\{", re.M)
 
 
@@ -143,6 +145,11 @@ def read_function(file, function, lines):
     return [whole, *clauses]
 
 
+def promises_nothing(function, owner, item):
+    """Whether a function is a trait's in a block of a type, and has no clauses: it promises what its trait says."""
+    return bool(function.is_of_trait and owner and OF_TRAIT.search(owner.head) and not OWN_CLAUSE.search(item.head))
+
+
 def read_code(file):
     """The items of a source file: its functions, and what is between them, by the type or trait that it is of."""
     lines, functions = file.text.split("\n"), functions_of(file.text, file.path)
@@ -172,8 +179,13 @@ def read_code(file):
         found = read_function(file, it, lines)
         found[0].owner = owners[it.first] if lines[it.last].startswith(" ") else None
         file.items += found
-        # What is known of a type or a trait is also what its methods promise.
-        if owners[it.first] and it.is_of_trait:
+        if promises_nothing(it, owners[it.first], found[0]):
+            found[0].names = set()
+        elif owners[it.first] and it.is_of_trait:
+            # What is known of a type or a trait is also what its methods promise.
             owners[it.first].shown.add(found[0])
+    # An import says nothing: what it imports is named where it is used.
+    for it in file.items:
+        it.head = IMPORT.sub("", it.head) if it.kind == "code" else it.head
     # A block of methods alone says nothing that its methods don't say.
     file.items = [it for it in file.items if not (it.kind == "code" and METHODS.fullmatch(it.head))]

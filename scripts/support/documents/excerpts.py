@@ -1,7 +1,7 @@
 """Excerpts of code in documents: each names its file, and is equal to a part of it."""
 import re
 from pathlib import Path
-from typing import Iterator, List, Tuple
+from typing import Dict, Iterator, List, Tuple
 
 from support.documents.texts import Document, Fence, Finding
 
@@ -11,8 +11,13 @@ CODE = re.compile(r"[≡≢→ℕλ]|^\s*(pub |abbrev |unfoldable |ensures |requ
 ELISION = ".."
 
 
-def check(top: Path, document: Document) -> Iterator[Finding]:
-    """Faults of the code in a document."""
+def check(top: Path, found: Dict[str, Document]) -> Iterator[Finding]:
+    """Faults of the code in documents."""
+    for document in found.values():
+        yield from check_document(top, document)
+
+
+def check_document(top: Path, document: Document) -> Iterator[Finding]:
     for fence in document.fences:
         if fence.files is not None:
             for line, what in faults_of(top, fence):
@@ -36,13 +41,13 @@ def faults_of(top: Path, fence: Fence) -> Iterator[Tuple[int, str]]:
         if not (top / name).is_file():
             yield fence.line - 1, f"an excerpt of {name}, which is missing"
             return
-        sources[name] = lines_of(name, (top / name).read_text(encoding="utf-8"))
+        sources[name] = without_comments(name, (top / name).read_text(encoding="utf-8"))
     begins = dict.fromkeys(sources, 0)
     for first, part in parts_of(fence):
-        for name, lines in sources.items():
-            end = end_of(lines, part, begins[name])
-            if end:
-                begins[name] = end
+        pattern = pattern_of(part)
+        for name, text in sources.items():
+            if match := pattern.search(text, begins[name]):
+                begins[name] = match.end()
                 break
         else:
             yield first, f"not so in {' or '.join(sources)}: {part[0].strip()}"
@@ -59,40 +64,22 @@ def parts_of(fence: Fence) -> Iterator[Tuple[int, List[str]]]:
             part = []
 
 
-def lines_of(name: str, text: str) -> List[str]:
-    """The lines of a source without comments that fill a line."""
+def without_comments(name: str, text: str) -> str:
+    """A source without comments that fill a line."""
     comment = "#" if name.endswith(".nvme") else ("--", "//")
-    return [line for line in text.split("\n") if not line.lstrip().startswith(comment)]
+    return "".join(f"{line}\n" for line in text.split("\n") if not line.lstrip().startswith(comment))
 
 
-def end_of(lines: List[str], part: List[str], begin: int) -> int:
-    """The end of the first occurrence of a part at or after a line; 0 if there is none. Its lines follow one another
-    except for an elision, and after the last of them the source does not continue."""
-    for at in range(begin, len(lines)):
-        if lines[at].strip() == part[0].strip():
-            end = match(lines, part, at)
-            if end:
-                return end
-    return 0
-
-
-def match(lines: List[str], part: List[str], at: int) -> int:
-    """The line after the part, if it is at this line; else 0."""
-    is_elided = False
+def pattern_of(part: List[str]) -> "re.Pattern[str]":
+    """Finds a part: its lines follow one another except for an elision, and after the last of them the source does not
+    continue with an indented line, or with a clause of the same name."""
+    text, is_elided = "^", False
     for line in part:
-        if line.strip() == ELISION:
+        if line.strip() == ELISION and text != "^":
             is_elided = True
             continue
-        while is_elided and at < len(lines) and lines[at].strip() != line.strip():
-            at += 1
-        if at >= len(lines) or lines[at].strip() != line.strip():
-            return 0
-        at, is_elided = at + 1, False
-    return 0 if not is_elided and goes_on(lines, part, at) else at
-
-
-def goes_on(lines: List[str], part: List[str], at: int) -> bool:
-    """Whether the source continues with what the part ends in: with an indented line, or a clause of the same name."""
+        same = rf"[ \t]*{re.escape(line.strip())}[ \t]*\n"
+        text, is_elided = text + rf"(?:(?!{same}).*\n)*" * is_elided + same, False
     clauses = [line.split()[0] for line in part if line[:1].strip()]
-    following = lines[at] if at < len(lines) else ""
-    return following.startswith(" ") or bool(clauses and following.startswith(clauses[-1] + " "))
+    end = "(?! )" + "".join(rf"(?!{re.escape(it)} )" for it in clauses[-1:])
+    return re.compile(text + ("" if is_elided else end), re.M)

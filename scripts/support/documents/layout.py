@@ -1,7 +1,7 @@
 """How texts are laid out: no blanks at the ends of lines, no path of a machine, tables whose rows have all cells."""
 import re
 from pathlib import Path
-from typing import Iterator, List
+from typing import Dict, Iterator, List
 
 from support.documents.texts import Document, Finding, texts
 
@@ -14,6 +14,15 @@ COLUMNS = 120
 MOST_LINES = 120
 PICTURES = ("docs/pictures/fenced.svg", "docs/pictures/timeline.svg")
 CELL = re.compile(r"(?<!\\)\|")
+
+
+def check(top: Path, found: Dict[str, Document]) -> Iterator[Finding]:
+    """What is wrong about the lines of texts and the tables of documents."""
+    yield from check_texts(top)
+    yield from check_front(found["README.md"])
+    for document in found.values():
+        yield from check_tables(document)
+        yield from check_prose(document)
 
 
 def check_texts(top: Path) -> Iterator[Finding]:

@@ -88,7 +88,7 @@ def write(top: Path) -> None:
         (top / name).write_text(made, encoding="utf-8")
 
 
-def check(top: Path) -> Iterator[Finding]:
+def check(top: Path, _found: object) -> Iterator[Finding]:
     """Each page has the list that its --help gives."""
     for name, entries in PAGES.items():
         found = BETWEEN.search((top / name).read_text(encoding="utf-8"))

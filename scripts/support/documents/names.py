@@ -2,10 +2,12 @@
 manual pages the lines of scripts and of sessions."""
 import re
 import xml.etree.ElementTree as xml
+from functools import lru_cache
 from pathlib import Path
-from typing import Dict, Iterator, List, Set, Tuple
+from typing import Dict, FrozenSet, Iterator, List, Tuple
 
-from support.documents.texts import Document, Finding, crates, uses
+from support.definitions.items import File, read_antt
+from support.documents.texts import CRATE_PARTS, Document, Finding, crates, uses
 
 PATH = re.compile(r"(?:\./)?[\w.*-]+(?:/[\w.*{},-]+)*/?$")
 FILE = re.compile(r"[\w-]+\.(?:md|rt|antt|py|txt|nvme|svg|edit|record|1)$")
@@ -16,6 +18,9 @@ CRATE = re.compile(r"(?:nvme|script|part|fleet|controller)_[a-z0-9_]+$")
 WORD = re.compile(r"[A-Za-z_]\w*")
 # Modules of definitions that a table need not name.
 ASIDE = re.compile(r"^(?:Lib|Example\w*|\w+(?:Examples|Laws))$")
+# A link from a name to a source, and what a source of code defines.
+NAMED_LINK = re.compile(r"\[`([\w:]+)`\]\(([^()\s#]+\.(?:antt|rt))\)")
+ITEM = re.compile(r"\b(?:fn|struct|enum|trait|type|const|mod) (\w+)")
 # The mark before a file that the reader is asked to save.
 SAVED = re.compile(r"^<!-- file: (\S+) -->$", re.M)
 CARRIED = re.compile(r"Carried by ((?:`[\w:]+`(?:,| and)? ?)+)")
@@ -34,6 +39,19 @@ SECTION = "Crate by crate"
 USING = "docs/USING.md"
 MANUALS = (("man/nvmesim.1", USING, "Lines after `start`", re.compile(r"\| `([a-z0-9]+ C[^`]*)` \|")),
            ("man/nvmelive.1", USING, "Lines of a session", re.compile(r"\| `(\?[^`]*)` \|")))
+
+
+def check(top: Path, found: Dict[str, Document]) -> Iterator[Finding]:
+    """All faults of names."""
+    for document in found.values():
+        yield from check_paths(top, document)
+        yield from check_definitions(top, document)
+        yield from check_links(top, document, found)
+        yield from check_named_links(top, document)
+    for one in (check_crates, check_modules, check_contracts, check_manual):
+        yield from one(top, found)
+    yield from check_picture(top)
+    yield from check_timeline(top)
 
 
 def globs(text: str) -> List[str]:
@@ -82,11 +100,11 @@ def named(top: Path, name: str) -> Iterator[Path]:
         yield from top.glob(pattern + name)
 
 
-def check_crates(top: Path, found: List[Document]) -> Iterator[Finding]:
+def check_crates(top: Path, found: Dict[str, Document]) -> Iterator[Finding]:
     """The architecture has each crate in a table, and no document names a crate that does not exist."""
     known = crates(top)
     of_kit = {it for _, names in uses(top) for it in names}
-    for document in found:
+    for document in found.values():
         heads = [line.split("|")[1] for _, line in document.prose if line.startswith("|")]
         rows = {name for head in heads for name in SPANS.findall(head)}
         if document.path == CRATES:
@@ -99,58 +117,47 @@ def check_crates(top: Path, found: List[Document]) -> Iterator[Finding]:
                 yield Finding(document.path, n, f"crates.txt has no crate {name}")
 
 
-def check_modules(top: Path, found: List[Document]) -> Iterator[Finding]:
+def check_modules(top: Path, found: Dict[str, Document]) -> Iterator[Finding]:
     """A table has each module of definitions, except for those of examples and of laws."""
     modules = {it.stem for it in (top / "crates/nvme_spec/specs").glob("*.antt")}
-    for document in found:
-        if document.path != CONTRACTS:
-            continue
-        rows = {name for _, line in document.prose if line.startswith("|") for name in SPANS.findall(line)}
-        for name in sorted(modules - rows):
-            if not ASIDE.search(name):
-                yield Finding(document.path, 1, f"no table has the module {name}")
+    rows = {name for _, line in found[CONTRACTS].prose if line.startswith("|") for name in SPANS.findall(line)}
+    for name in sorted(modules - rows):
+        if not ASIDE.search(name):
+            yield Finding(CONTRACTS, 1, f"no table has the module {name}")
 
 
-def check_contracts(top: Path, found: List[Document]) -> Iterator[Finding]:
+def check_contracts(top: Path, found: Dict[str, Document]) -> Iterator[Finding]:
     """docs/PROVED.md has a section for each crate, or names it before them as one without a statement."""
-    document = next((it for it in found if it.path == CONTRACTS), None)
-    parts = list(document.sections()) if document else []
-    whole = next(((first, end) for heading, first, end in parts if heading == SECTION), None)
-    if not document or not whole:
-        yield Finding(CONTRACTS, 1, f"has no section {SECTION}")
-        return
-    told = [heading for heading, first, _ in parts if whole[0] < first < whole[1]]
-    begin = min((first for heading, first, _ in parts if whole[0] < first < whole[1]), default=whole[1])
-    told += [span for n, span in document.spans if whole[0] < n < begin]
+    first, end = found[CONTRACTS].section(SECTION)
+    inner = [(n, heading) for heading, n, _ in found[CONTRACTS].sections() if first < n < end]
+    begin = min(inner, default=(end,))[0]
+    told = [*(it for _, it in inner), *(span for n, span in found[CONTRACTS].spans if first < n < begin)]
     for name in sorted({*crates(top), *told}):
         if told.count(name) != 1 or name not in crates(top):
-            yield Finding(CONTRACTS, whole[0], f"{name} is no crate, or is not here exactly once")
+            yield Finding(CONTRACTS, first, f"{name} is no crate, or is not here exactly once")
 
 
 SPANS = re.compile(r"`(\w+)`")
-WORDS: Dict[Path, Set[str]] = {}
-# Words of proofs, which only the page on proofs may cite.
+# Words of proofs, which only the page on proofs may cite: lemmas, tactics, parts of goals' names.
 PROOFS = "docs/PROOFS.md"
-PROOF_WORDS: Dict[Path, Set[str]] = {}
+
+
+@lru_cache(maxsize=None)
+def words_of(top: Path, *parts: str) -> FrozenSet[str]:
+    """The words in these parts of the crates."""
+    paths = (it for part in parts for it in top.glob(f"crates/*/{part}/**/*.*"))
+    return frozenset(word for it in paths for word in WORD.findall(code_of(it.read_text(encoding="utf-8"))))
+
+
+@lru_cache(maxsize=None)
+def files_of(top: Path) -> FrozenSet[str]:
+    """The names of crates and of their files."""
+    return frozenset((*crates(top), *(it.stem for part in CRATE_PARTS for it in top.glob(f"crates/*/{part}/**/*.*"))))
 
 
 def is_word(top: Path, name: str) -> bool:
     """Whether a source or a definition has this word, or a file of the crates is called so."""
-    if top not in WORDS:
-        WORDS[top] = set(crates(top))
-        for path in (it for part in ("src", "specs", "proofs") for it in top.glob(f"crates/*/{part}/**/*.*")):
-            WORDS[top].add(path.stem)
-            if "/proofs/" not in str(path):
-                WORDS[top] |= set(WORD.findall(code_of(path.read_text(encoding="utf-8"))))
-    return name in WORDS[top]
-
-
-def is_of_proofs(top: Path, name: str) -> bool:
-    """Whether a proof has this word: a lemma, a tactic, a part of a goal's name."""
-    if top not in PROOF_WORDS:
-        paths = top.glob("crates/*/proofs/**/*.antt")
-        PROOF_WORDS[top] = {word for it in paths for word in WORD.findall(code_of(it.read_text(encoding="utf-8")))}
-    return name in PROOF_WORDS[top]
+    return name in files_of(top) or name in words_of(top, "src", "specs")
 
 
 def code_of(text: str) -> str:
@@ -165,7 +172,7 @@ def check_definitions(top: Path, document: Document) -> Iterator[Finding]:
     for n, span in document.spans:
         for name in [] if "/" in span or FILE.match(span) else WORD.findall(span):
             is_name = not name.isupper() and ("_" in name or name[:1].isupper())
-            is_cited = is_word(top, name) or document.path == PROOFS and is_of_proofs(top, name)
+            is_cited = is_word(top, name) or document.path == PROOFS and name in words_of(top, "proofs")
             if is_name and not is_cited:
                 yield Finding(document.path, n, f"no definition or function is called {name}")
     laws = "\n".join(it.read_text(encoding="utf-8") for it in top.glob("crates/*/src/laws.rt"))
@@ -176,9 +183,8 @@ def check_definitions(top: Path, document: Document) -> Iterator[Finding]:
                     yield Finding(document.path, first, f"no law is called {name}")
 
 
-def check_links(top: Path, document: Document, others: List[Document]) -> Iterator[Finding]:
+def check_links(top: Path, document: Document, found: Dict[str, Document]) -> Iterator[Finding]:
     """Each relative link leads to a file, and to a heading if it names one."""
-    anchors = {it.path: it.anchors for it in others}
     for n, target in document.links:
         if re.match(r"[a-z]+:", target):
             continue
@@ -187,17 +193,35 @@ def check_links(top: Path, document: Document, others: List[Document]) -> Iterat
         name = str(Path(*path.resolve().relative_to(top.resolve()).parts)) if path.exists() else ""
         if not name:
             yield Finding(document.path, n, f"a link to {file}, which is missing")
-        elif anchor and anchor not in anchors.get(name, []):
+        elif anchor and (name not in found or anchor not in found[name].anchors):
             yield Finding(document.path, n, f"a link to #{anchor}, which {name} has not")
 
 
-def check_manual(top: Path, found: List[Document]) -> Iterator[Finding]:
+@lru_cache(maxsize=None)
+def defined_in(text: str, is_spec: bool) -> FrozenSet[str]:
+    """The names that a source defines: definitions and constructors of specs, items of code."""
+    if not is_spec:
+        return frozenset(ITEM.findall(code_of(text)))
+    file = File("", "specs/", text)
+    read_antt(file)
+    return frozenset(file.names)
+
+
+def check_named_links(top: Path, document: Document) -> Iterator[Finding]:
+    """A link named after a definition, as [`Step`](crates/nvme_machine/specs/Subsystems.antt), leads to its file."""
+    for n, (name, target) in ((n, it.groups()) for n, line in document.prose for it in NAMED_LINK.finditer(line)):
+        path = (top / document.path).parent / target
+        is_spec = path.suffix == ".antt"
+        if path.is_file() and name.split("::")[-1] not in defined_in(path.read_text(encoding="utf-8"), is_spec):
+            yield Finding(document.path, n, f"a link to {name}, which {target.split('crates/')[-1]} does not define")
+
+
+def check_manual(top: Path, found: Dict[str, Document]) -> Iterator[Finding]:
     """Each manual page has the form of each line that its document has."""
     for manual, path, wanted, row in MANUALS:
         lines = (top / manual).read_text(encoding="utf-8").split("\n")
-        document = next(it for it in found if it.path == path)
-        first, end = next((first, end) for heading, first, end in document.sections() if heading == wanted)
-        for n, line in document.prose:
+        first, end = found[path].section(wanted)
+        for n, line in found[path].prose:
             cell = row.match(line)
             if cell and first < n < end and cell[1] not in lines:
                 yield Finding(manual, 1, f"no line {cell[1]}")

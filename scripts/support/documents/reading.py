@@ -2,20 +2,23 @@
 import re
 import textwrap
 from pathlib import Path
-from typing import Dict, Iterator, List, Set, Tuple
+from types import SimpleNamespace
+from typing import Dict, Iterable, Iterator, List, Set, Tuple
 
-from support.documents.definitions import Definition, Key, Library, take_import, Module, with_short_imports
-from support.documents.texts import Document, Finding, crates
+from support.definitions.citing import Sources
+from support.definitions.items import Item
+from support.documents.texts import Document, Finding, uses
 
 THEOREMS = "docs/THEOREMS.md"
-ENSURES = re.compile(r"ensures(?: \w+)? \{ (\w+)[^}]*\}")
 # A link to a law: its name and its crate.
 LAW = re.compile(r"\[`(\w+)`\]\(\S*?crates/(\w+)/src/laws\.rt\)")
+TYPE = re.compile(r"^(?:pub(?:\([a-z]+\))? )?(?:struct|enum|trait) ", re.M)
+COMMENT = re.compile(r"\s*(?:--|//|#\[|$)")
 # What steps are, which every theorem speaks of: the heading, and the definitions.
 STEPS = (
-    ("What a subsystem's events are", (("crates/nvme_machine/specs/Subsystems", "Run"),)),
+    ("What a subsystem's events are", (("nvme_machine", "specs/Subsystems.antt", "Run"),)),
     ("What a fleet's events are",
-     (("crates/nvme_mailbox/specs/Fleets", "Step"), ("crates/nvme_fleet/specs/Layers", "Step"))),
+     (("nvme_mailbox", "specs/Fleets.antt", "Step"), ("nvme_fleet", "specs/Layers.antt", "Step"))),
 )
 INTRODUCTION = """# Reading lists
 
@@ -29,60 +32,85 @@ before it, module by module; within a module the order is that of the file.
 
 The lists of a subsystem's and of a fleet's events come first. Those of the theorems have what they need beyond these.
 """
+# A module: its crate and its path.
+Place = Tuple[str, str]
 
 
-def law_of(top: Path, crate: str, name: str, library: Library) -> List[Definition]:
+def sources_of(top: Path) -> Sources:
+    """The definitions and the code of all crates."""
+    crates: Dict[str, SimpleNamespace] = {}
+    for name, others in uses(top):
+        below = {one.name: one for it in others if it in crates for one in (*crates[it].below(), crates[it])}
+        crates[name] = SimpleNamespace(name=name, folder=top / "crates" / name, below=lambda it=below: [*it.values()])
+    return Sources(crates, ("specs", "src"))
+
+
+def parts_of(item: Item) -> Iterator[Item]:
+    """The definitions and types that an item names."""
+    return (it for it in item.shown | item.inner if it.kind == "specs" or it.kind == "code" and TYPE.search(it.head))
+
+
+def cone_of(begin: Iterable[Item]) -> Set[Item]:
+    """These definitions and all that they use."""
+    found, waiting = set(begin), [*begin]
+    while waiting:
+        new = {*parts_of(waiting.pop())} - found
+        found |= new
+        waiting += new
+    return found
+
+
+def law_of(sources: Sources, crate: str, name: str) -> List[Item]:
     """The definitions that the contract of a law cites; none if the crate has no such law."""
-    path = top / "crates" / crate / "src/laws.rt"
-    text = path.read_text(encoding="utf-8") if path.is_file() else ""
-    module = Module(crate)
-    for line in with_short_imports(text).split("\n"):
-        take_import(module, line)
-    found = re.search(rf"pub fn {name}(?:<[^(]*>)?\(\)(.*?)\n\{{", text, re.S)
-    cited = [module.imports[it] for it in ENSURES.findall(found[1] if found else "") if it in module.imports]
-    return [it for it in map(library.found, cited) if it]
+    file = sources.files.get((crate, "src/laws.rt"))
+    clauses = [it for it in file.items if it.kind == "clause" and it.function.word == name] if file else []
+    return [one for it in clauses
+            for one in sorted((one for one in it.inner if one.kind == "specs"), key=lambda one: it.body.find(one.name))]
 
 
-def theorems(top: Path, document: Document, library: Library) -> Iterator[Tuple[str, Dict[str, List[Definition]]]]:
+def theorems(document: Document, sources: Sources) -> Iterator[Tuple[str, Dict[str, List[Item]]]]:
     """Each section that links to laws: its heading, and for each law the definitions that its contract cites. Laws of
     one name in several crates are one."""
     for heading, first, end in document.innermost_sections():
-        laws: Dict[str, List[Definition]] = {}
+        laws: Dict[str, List[Item]] = {}
         for name, crate in dict.fromkeys(LAW.findall(" ".join(document.lines[first:end - 1]))):
-            laws.setdefault(name, []).extend(law_of(top, crate, name, library))
+            laws.setdefault(name, []).extend(law_of(sources, crate, name))
         if laws:
             yield heading, laws
 
 
-def order_of(top: Path, cone: Dict[Key, Definition], library: Library) -> List[str]:
+def order_of(cone: Set[Item], sources: Sources) -> List[Place]:
     """The modules of a list, each after those that its definitions are made of; crates lowest first if that is all
     the same."""
-    rank = {name: at for at, name in enumerate(crates(top))}
-    below: Dict[str, Set[str]] = {key[0]: set() for key in cone}
-    for definition in cone.values():
-        below[definition.key[0]] |= {it.key[0] for it in library.parts(definition) if it.key in cone}
-    found: List[str] = []
+    rank = {name: at for at, name in enumerate(sources.crates)}
+    below: Dict[Place, Set[Place]] = {(it.crate, it.path): set() for it in cone}
+    for item in cone:
+        below[item.crate, item.path] |= {(it.crate, it.path) for it in parts_of(item) if it in cone}
+    found: List[Place] = []
 
-    def visit(module: str, above: Tuple[str, ...]) -> None:
-        if module not in found and module not in above:
-            for it in sorted(below[module], key=lambda it: (rank[it.split("/")[1]], it)):
-                visit(it, (*above, module))
-            found.append(module)
+    def visit(modules: Iterable[Place], above: Tuple[Place, ...]) -> None:
+        for it in sorted(modules, key=lambda it: (rank[it[0]], it)):
+            if it not in found and it not in above:
+                visit(below[it], (*above, it))
+                found.append(it)
 
-    for module in sorted(below, key=lambda it: (rank[it.split("/")[1]], it)):
-        visit(module, ())
+    visit(below, ())
     return found
 
 
-def list_of(top: Path, cone: Dict[Key, Definition], library: Library) -> List[str]:
+def lines_of(items: Iterable[Item]) -> int:
+    """How many lines definitions have, without comments."""
+    return sum(not COMMENT.match(line) for it in items for line in f"{it.head}\n{it.body}".split("\n"))
+
+
+def list_of(cone: Set[Item], sources: Sources) -> List[str]:
     """The lines of one list."""
     lines = []
-    for module in order_of(top, cone, library):
-        found = sorted((it for it in cone.values() if it.key[0] == module), key=lambda it: it.at)
-        names = ", ".join(f"`{it.key[1]}`" for it in found)
-        _, crate, part, *rest = module.split("/")
-        of_code = " (types)" if part == "src" else ""
-        entry = f"`{crate}`, `{'/'.join(rest)}`{of_code}, {count(sum(it.lines for it in found), 'line')}: {names}"
+    for crate, path in order_of(cone, sources):
+        found = sorted((it for it in cone if (it.crate, it.path) == (crate, path)), key=lambda it: it.first)
+        part, _, module = path.rpartition(".")[0].partition("/")
+        entry = (f"`{crate}`, `{module}`{' (types)' if part == 'src' else ''}, {count(lines_of(found), 'line')}: "
+                 f"{', '.join(f'`{it.name}`' for it in found)}")
         lines += textwrap.wrap(entry, 120, initial_indent="- ", subsequent_indent="  ", break_on_hyphens=False)
     return lines
 
@@ -91,48 +119,55 @@ def count(number: int, what: str) -> str:
     return f"{number:,} {what}{'' if number == 1 else 's'}"
 
 
-def section(top: Path, heading: str, said: str, cone: Dict[Key, Definition], library: Library) -> str:
+def section(heading: str, said: str, cone: Set[Item], sources: Sources) -> str:
     """One section: the heading, what it is, how much, and the list."""
-    total = sum(it.lines for it in cone.values())
-    modules = len({it.key[0] for it in cone.values()})
-    how_much = f"{count(len(cone), 'definition')} of {count(modules, 'module')}, {count(total, 'line')}"
-    text = textwrap.fill(f"{said}{how_much}{'.' if not cone else ':'}", 120, break_on_hyphens=False)
-    return "\n".join([f"## {heading}", "", text, *([""] + list_of(top, cone, library) if cone else []), ""])
+    modules = len({(it.crate, it.path) for it in cone})
+    how_much = f"{count(len(cone), 'definition')} of {count(modules, 'module')}, {count(lines_of(cone), 'line')}"
+    text = textwrap.fill(f"{said}{how_much}{':' if cone else '.'}", 120, break_on_hyphens=False)
+    return "\n".join([f"## {heading}", "", text, *(["", *list_of(cone, sources)] if cone else []), ""])
 
 
-def page(top: Path, found: List[Document], library: Library) -> str:
+def page(found: Dict[str, Document], sources: Sources) -> str:
     """The whole page, from the files."""
-    known: Dict[Key, Definition] = {}
+    known: Set[Item] = set()
     pieces = [INTRODUCTION]
-    for heading, keys in STEPS:
-        begin = [it for it in map(library.found, keys) if it]
-        cone = {key: it for key, it in library.cone(begin).items() if key not in known}
-        said = " and ".join(f"`{it.key[1]}` of `{it.key[0].split('/')[-1]}`" for it in begin)
-        pieces.append(section(top, heading, f"{said}, with what they are made of: ", cone, library))
-        known.update(cone)
-    document = next(it for it in found if it.path == THEOREMS)
-    for heading, laws in theorems(top, document, library):
+    for heading, places in STEPS:
+        begin = [sources.files[crate, path].names[name] for crate, path, name in places]
+        said = " and ".join(f"`{it.name}` of `{module_of(it)}`" for it in begin)
+        cone = cone_of(begin) - known
+        pieces.append(section(heading, f"{said}, with what they are made of: ", cone, sources))
+        known |= cone
+    for heading, laws in theorems(found[THEOREMS], sources):
         begin = [it for cited in laws.values() for it in cited]
-        cone = {key: it for key, it in library.cone(begin).items() if key not in known}
         stated = ", ".join(dict.fromkeys(called(it, begin) for it in begin))
         said = f"{' and '.join(f'`{it}`' for it in laws)} states {stated}; beyond the events: "
-        pieces.append(section(top, heading, said, cone, library))
+        pieces.append(section(heading, said, cone_of(begin) - known, sources))
     return "\n".join(pieces)
 
 
-def called(definition: Definition, others: List[Definition]) -> str:
+def module_of(item: Item) -> str:
+    return Path(item.path).stem
+
+
+def called(definition: Item, others: List[Item]) -> str:
     """A definition's name, with its module if another one is called so."""
-    is_alone = {it.key for it in others if it.key[1] == definition.key[1]} == {definition.key}
-    return f"`{definition.key[1]}`" + ("" if is_alone else f" of `{definition.key[0].split('/')[-1]}`")
+    is_alone = {it for it in others if it.name == definition.name} == {definition}
+    return f"`{definition.name}`" + ("" if is_alone else f" of `{module_of(definition)}`")
 
 
-def check(top: Path, found: List[Document]) -> Iterator[Finding]:
+def check(top: Path, found: Dict[str, Document]) -> Iterator[Finding]:
     """The page can be made: each theorem has a statement, and each definition that one is made of is found."""
-    library = Library(top)
-    document = next(it for it in found if it.path == THEOREMS)
-    for heading, laws in theorems(top, document, library):
-        for law in (name for name, cited in laws.items() if not cited):
-            yield Finding(THEOREMS, 1, f"{heading}: no definition is stated by {law}")
-    page(top, found, library)
-    for file, name in sorted(library.lost):
-        yield Finding(THEOREMS, 1, f"{name} of {file} is imported but not found there")
+    sources = sources_of(top)
+    page(found, sources)
+    begin: List[Item] = []
+    for heading, laws in theorems(found[THEOREMS], sources):
+        for law, cited in laws.items():
+            begin += cited
+            if not cited:
+                yield Finding(THEOREMS, 1, f"{heading}: no definition is stated by {law}")
+    places = {(it.crate, it.path) for it in cone_of(begin)}
+    for path in sorted({tuple(it) for place in places for it in sources.files[place].imports.values()}):
+        is_ours = path[0] == "Rattle" and path[1] in sources.crates and path[2] == "specs"
+        if is_ours and path[3] not in ("declared", "contracts") and not sources.home_of([*path[:-1]], path[-1]):
+            file = "/".join(("crates", *path[1:-1]))
+            yield Finding(THEOREMS, 1, f"{path[-1]} of {file} is imported but not found there")

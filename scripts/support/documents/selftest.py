@@ -34,7 +34,7 @@ APPENDED = (
     ("blanks ", "blanks at the end of the line"),
     ("it is in /" + "work/there", "a path of a machine: /" + "work"),
 )
-# A file, a text in it, what is put in its place, and what must be told of it.
+# A file, a text in it, what is put in its place, and what must be told of it; {line} is the line of the text.
 CHANGED = (
     ("docs/PROVED.md", "seen new = Reacts old k (after_fetch q)", "seen new = Reacts old q (after_fetch q)",
      "not so in crates/nvme_machine/specs/Subsystems.antt"),
@@ -90,30 +90,30 @@ CHANGED = (
      "FIGURES.md:4: 'behind': write after"),
     # Comments of each language: of a crate and its proofs, a docstring, whole lines of a script, of Rust and of C.
     ("crates/nvme_ring/src/cq_tail.rt", "for which there must be room.", "for a ring with so many slots.",
-     "cq_tail.rt:103: 'so many': write the quantity's name"),
+     "cq_tail.rt:{line}: 'so many': write the quantity's name"),
     ("crates/nvme_ring/proofs/Turns.antt", "by cases, the", "by cases, in place of the",
-     "Turns.antt:1: 'in place of': write instead of"),
+     "Turns.antt:{line}: 'in place of': write instead of"),
     ("clients/python/nvmesim/looks.py", "The next word, after its label", "The next word, behind its label",
-     "looks.py:140: 'behind': write after"),
-    ("scripts/closed-streams", "# ", "# It stands\n# on others. ", "closed-streams:2: 'stands': write is"),
+     "looks.py:{line}: 'behind': write after"),
+    ("scripts/first-run", "# ", "# It stands\n# on others. ", "first-run:{line}: 'stands': write is"),
     ("clients/nvme-tcp/src/transport/output.rs", "/// Number of bytes sent.", "/// So many bytes were sent.",
-     "output.rs:35: 'So many': write the quantity's name"),
+     "output.rs:{line}: 'So many': write the quantity's name"),
     ("clients/c/nvmesim.h", "Borrowed bytes are yours again", "Lent bytes are yours again", "'Lent': write borrowed"),
     # Words of clients and scripts alone: a docstring, messages of each language, trailing comments, a help text.
     ("clients/fence/nvmefence/keys.py", "Keys of nodes, made from names.", "Keys of nodes, or an empty text.",
-     "keys.py:1: 'empty text': write empty string"),
+     "keys.py:{line}: 'empty text': write empty string"),
     ("clients/python/nvmesim/session.py", '"the session was not started"', '"the session is under way"',
-     "session.py:78: 'under way': write in progress"),
+     "session.py:{line}: 'under way': write in progress"),
     ("clients/rust/src/refusal.rs", '"the bytes are not a whole number of blocks"', '"the bytes are what came of a Read"',
      "'what came of': write result"),
-    ("clients/nvme-cli/tests/client/support.c", "instead of %#llx", "in place of %#llx", "support.c:23: 'in place of'"),
-    ("scripts/clients", "there is no pytest;", "it goes on without pytest;", "clients:30: 'goes on': write continue"),
+    ("clients/nvme-cli/tests/client/support.c", "instead of %#llx", "in place of %#llx", "support.c:{line}: 'in place of'"),
+    ("scripts/clients", "there is no pytest;", "it goes on without pytest;", "clients:{line}: 'goes on': write continue"),
     ("clients/python/examples/fencing.py", "what it has fetched in any order", "its commands where there are some",
-     "fencing.py:77: 'where there are': write if"),
+     "fencing.py:{line}: 'where there are': write if"),
     ("clients/c/nvmesim.h", "/* there was no command to fetch */", "/* blocks, one at least */",
-     "nvmesim.h:50: 'one at least'"),
+     "nvmesim.h:{line}: 'one at least'"),
     ("clients/python/nvmesim/conform/command.py", "the number of the first scene", "the scene that shall be first",
-     "command.py:35: 'shall': write must"),
+     "command.py:{line}: 'shall': write must"),
     (PICTURE, ">nvme_ring<", ">nvme_rings<", "nvme_rings is there twice, or is no crate"),
     (PICTURE, 'x="433" y="120">controller_tests', 'x="311" y="120">controller_tests',
      "controller_tests covers another crate"),
@@ -151,14 +151,17 @@ def copy_of(top: Path, room: Path) -> Path:
 
 def spoil(copy: Path) -> List[str]:
     """Puts the faults into a copy; what must be told of them."""
-    for file, old, new, _ in CHANGED:
-        text = (copy / file).read_text(encoding="utf-8")
-        if old not in text:
-            raise ValueError(f"the self-test finds no {old!r} in {file}")
-        (copy / file).write_text(text.replace(old, new, 1), encoding="utf-8")
+    wanted = [what for _, what in APPENDED]
+    for name, old, new, what in CHANGED:
+        text = (copy / name).read_text(encoding="utf-8")
+        before, found, after = text.partition(old)
+        if not found:
+            raise ValueError(f"the self-test finds no {old!r} in {name}")
+        (copy / name).write_text(before + new + after, encoding="utf-8")
+        wanted.append(what.replace("{line}", str(before.count("\n") + 1)))
     with open(copy / "README.md", "a", encoding="utf-8") as file:
         file.write("".join(f"\n{text}\n" for text, _ in APPENDED))
-    return [it[-1] for it in (*APPENDED, *CHANGED)]
+    return wanted
 
 
 def run(top: Path, findings: Callable[[Path], Iterator[Finding]]) -> int:

@@ -14,9 +14,8 @@ MOST_BODY = 39
 MOST_PARAMETERS = 6
 SUFFIXES = ("*.rt", "*.py", "*.c", "*.h", "*.rs")
 FOLDERS = ("crates", "clients", "scripts", "bench")
-# Files that have more lines, and functions whose bodies have, or that have more parameters: their numbers, and why.
-# These lists only become shorter, and their numbers smaller, except for exports: C hands over one field at a time.
-LONG_FILES: Dict[str, Tuple[int, str]] = {}
+# Functions whose bodies have more lines, or that have more parameters: their numbers, and why. These lists only become
+# shorter, and their numbers smaller, except for exports: C hands over one field at a time.
 TABLE = "a table, of a line or two for each case"
 LONG_BODIES: Dict[Tuple[str, str], Tuple[int, str]] = {
     ("crates/nvme_grammar/src/keyword.rt", "Keyword::places"): (67, TABLE),
@@ -123,11 +122,10 @@ def known_still(known: Dict, seen: Dict) -> Iterator[Finding]:
             yield Finding(HERE, 1, f"{name} has {seen.get(name, 'no more than others')}, and {size} are allowed")
 
 
-def check(top: Path) -> Iterator[Finding]:
+def check(top: Path, _found: object) -> Iterator[Finding]:
     """Files have fewer than 500 lines, functions fewer than 40 lines and at most six parameters; lines at most 120
     columns."""
     yield from check_widths(top)
-    files: Dict[str, int] = {}
     bodies: Dict[Tuple[str, str], int] = {}
     heads: Dict[Tuple[str, str], int] = {}
     paths: List[Path] = sorted(path for folder in FOLDERS for it in SUFFIXES for path in (top / folder).glob(f"**/{it}")
@@ -135,11 +133,10 @@ def check(top: Path) -> Iterator[Finding]:
     for path in paths:
         name, text = str(path.relative_to(top)), path.read_text(encoding="utf-8")
         size = text.count("\n")
-        if too_large(name, size, MOST_LINES, LONG_FILES, files):
+        if size > MOST_LINES:
             yield Finding(name, 1, f"{size} lines; at most {MOST_LINES} are allowed")
     for crate in crates(top):
         for path in sorted((top / "crates" / crate / "src").glob("**/*.rt")):
             yield from check_functions(str(path.relative_to(top)), path.read_text(encoding="utf-8"), bodies, heads)
-    yield from known_still(LONG_FILES, files)
     yield from known_still(LONG_BODIES, bodies)
     yield from known_still(MANY_PARAMETERS, heads)

@@ -227,7 +227,7 @@ def owned_by(top: Path, found: Dict[str, Source]) -> Owned:
     return owned
 
 
-def check(top: Path) -> Iterator[Finding]:
+def check(top: Path, _found: object) -> Iterator[Finding]:
     """No type ends in a way of its own, and memory is taken where the lists say."""
     given, found = lists(), sources(top)
     owned = owned_by(top, found)

@@ -3,10 +3,10 @@ import re
 from dataclasses import dataclass, field
 from functools import cached_property
 from pathlib import Path
-from typing import Iterator, List, Optional, Tuple
+from typing import Dict, Iterator, List, Optional, Tuple
 
 # Texts that people read: these at the top, and all files with these endings in these folders.
-TOP_TEXTS = ("README.md", "CONTRIBUTING.md", "CHANGELOG.md", "nvmesim", "nvmelive", "crates.txt")
+TOP_TEXTS = ("README.md", "CONTRIBUTING.md", "CHANGELOG.md", "nvmesim", "nvmelive", "nvmetcp", "crates.txt")
 FOLDERS = ("docs", "man", "scripts", "bench", ".ci", "clients")
 CRATE_PARTS = ("src", "specs", "proofs")
 # Crates that are programs or tests.
@@ -99,6 +99,10 @@ class Document:
                 end = next((m for m, other, _ in heads[at + 1:] if other <= level), len(self.lines) + 1)
                 yield heading, n, end
 
+    def section(self, wanted: str) -> Tuple[int, int]:
+        """The line of a heading, and the line after its section; no lines without such a heading."""
+        return next(((first, end) for heading, first, end in self.sections() if heading == wanted), (0, 0))
+
     def innermost_sections(self) -> Iterator[Tuple[str, int, int]]:
         """Each section that has no section within it."""
         found = list(self.sections())
@@ -127,12 +131,11 @@ def anchor_of(heading: str) -> str:
     return re.sub(r"[^\w\- ]", "", heading.lower()).replace(" ", "-")
 
 
-def documents(top: Path) -> List[Document]:
-    """All documents of the repository, in order."""
+def documents(top: Path) -> Dict[str, Document]:
+    """All documents of the repository by their paths, in order."""
     folders = ("*.md", "docs/**/*.md", "clients/**/*.md", "bench/*.md", "crates/*/*.md")
-    found = (top.glob(it) for it in folders)
-    paths = [it for some in found for it in sorted(some)]
-    return [Document(str(it.relative_to(top)), it.read_text(encoding="utf-8")) for it in paths]
+    paths = ((str(it.relative_to(top)), it) for some in folders for it in sorted(top.glob(some)))
+    return {path: Document(path, it.read_text(encoding="utf-8")) for path, it in paths}
 
 
 def texts(top: Path) -> Iterator[Tuple[str, str]]:

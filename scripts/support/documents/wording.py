@@ -6,44 +6,14 @@ A rule has a pattern, the better form, and a sentence that it must find. Text in
 import re
 from dataclasses import dataclass
 from pathlib import Path
-from typing import Iterator, List, Tuple
+from typing import Dict, Iterator, List, Tuple
 
-from support.documents import comments, manual, messages
+from support.documents import manual, prose
 from support.documents.texts import SPAN, Document, Finding
 
-# The texts that are checked. Add each document once it is rewritten; a manual page may be here too.
-CHECKED = (
-    "CHANGELOG.md",
-    "CONTRIBUTING.md",
-    "README.md",
-    "bench/FIGURES.md",
-    "clients/README.md",
-    "clients/fence/README.md",
-    "clients/nvme-cli/README.md",
-    "clients/nvme-tcp/README.md",
-    "clients/python/README.md",
-    "clients/rust/README.md",
-    "docs/ARCHITECTURE.md",
-    "docs/CLIENTS.md",
-    "docs/CONTRIBUTING.md",
-    "docs/DECISIONS.md",
-    "docs/LIBRARY.md",
-    "docs/LINUX.md",
-    "docs/PROOFS.md",
-    "docs/PROVED.md",
-    "docs/README.md",
-    "docs/THEOREMS.md",
-    "docs/TUTORIAL.md",
-    "docs/USING.md",
-    "man/fence_nvme_pr.8",
-    "man/nvmelive.1",
-    "man/nvmesim.1",
-    "man/nvmetcp.1",
-)
 # Sources that the rules for code do not hold for yet.
 DOCUMENT_RULES_ONLY = ("crates/", "scripts/support/definitions/", "scripts/support/test_definitions.py",
-                       "scripts/support/test_copies.py",
-                       "scripts/wrong-definitions")
+                       "scripts/support/test_copies.py")
 TARGET = re.compile(r"\]\([^()\s]+\)")
 
 
@@ -155,11 +125,11 @@ def rules_for(path: str) -> Tuple[Rule, ...]:
     return RULES if path.startswith(DOCUMENT_RULES_ONLY) else RULES + CODE_RULES
 
 
-def check(top: Path) -> Iterator[Finding]:
-    """The checked documents, and comments, docstrings and messages of sources, have none of these words."""
-    documents = ((path, first, piece, RULES) for path in CHECKED for first, piece in pieces_of(top, path))
-    sources = ((path, first, piece, rules_for(path))
-               for path, first, piece in (*comments.pieces(top), *messages.pieces(top)))
+def check(top: Path, found: Dict[str, Document]) -> Iterator[Finding]:
+    """Documents, manual pages, and comments, docstrings and messages of sources have none of these words."""
+    pages = (*found, *(f"man/{it.name}" for it in sorted((top / "man").iterdir())))
+    documents = ((path, first, piece, RULES) for path in pages for first, piece in pieces_of(top, path))
+    sources = ((path, first, piece, rules_for(path)) for path, first, piece in prose.pieces(top))
     for path, first, piece, rules in (*documents, *sources):
         for line, what in faults_of(piece, rules):
             yield Finding(path, first + line, what)

@@ -1,4 +1,5 @@
 """Builds the library for C of the crates nvme_library and nvme_tcp_library."""
+import math
 import os
 import shutil
 import subprocess
@@ -16,11 +17,11 @@ PKGCONFIG = """prefix=${{pcfiledir}}/../..
 includedir=${{prefix}}/include
 libdir=${{prefix}}/lib
 
-Name: nvmesim
-Description: A proved NVMe subsystem that several hosts share
+Name: {name}
+Description: {description}
 Version: {version}
 Cflags: -I${{includedir}}
-Libs: -L${{libdir}} -lnvmesim
+Libs: -L${{libdir}} -l{name}
 """
 
 
@@ -70,21 +71,27 @@ def is_newer(archive, sources):
     return archive.is_file() and archive.stat().st_mtime > sources
 
 
-def built_archives(top):
-    """What is built and newer than its sources, as lists of archives: the proved ones first, if they are there."""
+def kept_archives(top, names):
+    """The proved archives of crates, without any if one is not built or older than its sources; and when a source was
+    last changed."""
     try:
         rt = toolchain.load(top)
     except toolchain.NoToolchain:
-        return []
+        return [], math.inf
     known = toolchain.crates_of(rt, str(top))
-    crates = [known[it] for it in CRATES]
+    crates = [known[it] for it in names]
     newest = [max(proving.newest_source(it) for it in [*crate.below(), crate]) for crate in crates]
+    found = [Path(it.folder, "out", f"lib{it.name}.a") for it in crates]
+    return found if all(map(is_newer, found, newest)) else [], max(newest)
+
+
+def built_archives(top):
+    """What is built and newer than its sources, as lists of archives: the proved ones first, if they are there."""
+    proved, newest = kept_archives(top, CRATES)
     # The unproved archive also depends on the headers, and on these scripts.
     makers = [*(top / "clients/c" / it for it in HEADERS), *Path(__file__).parent.glob("*.py")]
-    proved, unproved = [Path(it.folder, "out", f"lib{it.name}.a") for it in crates], unproved_archive(top)
-    found = [proved] if all(map(is_newer, proved, newest)) else []
-    is_last = is_newer(unproved, max(*newest, *(it.stat().st_mtime for it in makers)))
-    return [*found, [unproved]] if is_last else found
+    is_last = is_newer(unproved_archive(top), max(newest, *(it.stat().st_mtime for it in makers)))
+    return [it for it in (proved, [unproved_archive(top)] if is_last else []) if it]
 
 
 def whole_object(archive, room, prefix="nvmesim"):
@@ -112,26 +119,31 @@ def objects_of(archives, room):
     return made
 
 
-def put(top, archives, prefix):
-    """Installs the library of these archives under a folder."""
+def put_interface(folder, headers, prefix, **fields):
+    """Installs headers of a folder, and the file for pkg-config, under a folder."""
     for part in ("include", "lib/pkgconfig"):
         (prefix / part).mkdir(parents=True, exist_ok=True)
+    for name in headers:
+        shutil.copyfile(folder / name, prefix / "include" / name)
+    text = PKGCONFIG.format(**fields)
+    (prefix / "lib/pkgconfig" / f"{fields['name']}.pc").write_text(text, encoding="utf-8")
+
+
+def put(top, archives, prefix):
+    """Installs the library of these archives under a folder."""
     with tempfile.TemporaryDirectory(prefix="nvmesim-object-") as place:
         room = Path(place)
         made = objects_of(archives, room)
         call(["ar", "rcs", "libnvmesim.a", *made], room)
         shared = f"libnvmesim.so.{VERSION}"
         call(["cc", "-shared", "-o", shared, f"-Wl,-soname,{shared}", *made], room)
+        put_interface(top / "clients/c", HEADERS, prefix, name="nvmesim", version=VERSION,
+                      description="A proved NVMe subsystem that several hosts share")
         for name in ("libnvmesim.a", shared):
             shutil.copyfile(room / name, prefix / "lib" / name)
     link = prefix / "lib" / "libnvmesim.so"
-    if link.is_symlink() or link.exists():
-        link.unlink()
-    os.symlink(shared, link)
-    for name in HEADERS:
-        shutil.copyfile(top / "clients" / "c" / name, prefix / "include" / name)
-    text = PKGCONFIG.format(version=VERSION)
-    (prefix / "lib" / "pkgconfig" / "nvmesim.pc").write_text(text, encoding="utf-8")
+    link.unlink(missing_ok=True)
+    link.symlink_to(shared)
 
 
 def put_examples(top, prefix):

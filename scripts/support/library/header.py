@@ -1,135 +1,134 @@
-"""Compares nvmesim.h, nvmesim_texts.h and nvmetcp.h with their crates: exports, their parameters, structs and numbers."""
+"""Compares the headers for C with their crates: exports, their parameters, structs and numbers."""
 import re
+from dataclasses import dataclass
+from typing import Sequence
 
 from support.library.building import CRATES, HEADERS
 
-# What a parameter or a result of an export is in C.
-TYPES = {
-    "Global": [], "&mut Handle": ["nvmesim *"], "u8": ["uint8_t"], "u16": ["uint16_t"], "u32": ["uint32_t"],
-    "u64": ["uint64_t"], "usize": ["size_t"], "bool": ["bool"], "&[u8]": ["const uint8_t *", "size_t"],
-    "&mut [u8]": ["uint8_t *", "size_t"], "&[Controller]": ["const nvmesim_controller *", "size_t"],
-    "&[Namespace]": ["const nvmesim_namespace *", "size_t"], "&[Attached]": ["const nvmesim_attached *", "size_t"],
-    "LentBytes": ["nvmesim_bytes"], "Answer": ["nvmesim_answer"], "()": ["void"],
-    "&[u8; 64]": ["const uint8_t *"], "&mut [u8; 16]": ["uint8_t *"], "[u8; 64]": ["uint8_t[64]"],
-    "Queue": ["nvmesim_queue"], "Command": ["nvmesim_command"], "Needed": ["nvmesim_needed"], "Hold": ["nvmesim_hold"],
-    "Registrant": ["nvmesim_registered"],
-    "&mut [Controller]": ["nvmesim_controller *", "size_t"], "&mut [Namespace]": ["nvmesim_namespace *", "size_t"],
-    "&mut [Attached]": ["nvmesim_attached *", "size_t"], "&Event": ["const nvmesim_event *"],
-    "&Answer": ["const nvmesim_answer *"], "Written": ["nvmesim_written"], "Read": ["nvmesim_read"],
-    "HostView": ["nvmesim_host_view"], "Disk": ["nvmesim_disk"], "ExecutedOver": ["nvmesim_executed_over"], "Placed": ["nvmesim_placed"],
-    "Completed": ["nvmesim_completed"], "CompletedOver": ["nvmesim_completed_over"],
-    "&HostView": ["const nvmesim_host_view *"], "&Change": ["const nvmesim_change *"],
-    "&RawNotices": ["const nvmesim_notices *"], "&mut RawNotices": ["nvmesim_notices *"], "&mut [u8; 64]": ["uint8_t *"],
-    "[Notice; 64]": ["nvmesim_notice[64]"], "[u32; 8]": ["uint32_t[8]"],
-    "&Agreed": ["const nvmesim_pdu_agreed *"], "Agreed": ["nvmesim_pdu_agreed"], "LayoutSeen": ["nvmesim_pdu_layout"],
-    "PduFields": ["nvmesim_pdu_fields"], "&[u8; 8]": ["const uint8_t *"], "&[u8; 16]": ["const uint8_t *"],
-    "&[u8; 2]": ["const uint8_t *"], "&[u8; 24]": ["const uint8_t *"], "&[u8; 128]": ["const uint8_t *"], "&mut [u8; 24]": ["uint8_t *"],
-    "&mut [u8; 128]": ["uint8_t *"], "&mut [u8; 248]": ["uint8_t *"], "&[u8; 1024]": ["const uint8_t *"], "[u8; 128]": ["uint8_t[128]"],
-    "[u8; 256]": ["uint8_t[256]"], "[u32; 16]": ["uint32_t[16]"], "&[HostId]": ["const nvmesim_host_id *", "size_t"],
-    "&RawConnection": ["const nvmesim_connection *"], "&mut RawConnection": ["nvmesim_connection *"],
-    "&mut Responses": ["nvmesim_responses *"], "&RawReply": ["const nvmesim_reply *"], "[u16; 64]": ["uint16_t[64]"],
-    "Taken": ["nvmesim_taken"], "Verdict": ["nvmesim_verdict"], "&mut FabricsHandle": ["nvmesim_fabrics *"],
-    "&RawSession": ["const nvmesim_session *"], "&mut RawSession": ["nvmesim_session *"],
-    "RawRequest": ["nvmesim_request"], "&RawRequest": ["const nvmesim_request *"],
-    "&RawJudged": ["const nvmesim_judged *"], "FabricsAnswer": ["nvmesim_fabrics_answer"],
-    "Admitted": ["nvmesim_admitted"], "Executed": ["nvmesim_executed"], "LiveSession": ["nvmesim_live_session"],
-    "QueueConnection": ["nvmesim_queue_connection"], "&mut TransfersHandle": ["nvmesim_transfers *"],
-    "&Part": ["const nvmesim_part *"], "PartTaken": ["nvmesim_part_taken"], "NextRequest": ["nvmesim_next_request"],
-    "&Capsule": ["const nvmesim_capsule *"], "CapsuleTaken": ["nvmesim_capsule_taken"],
-    "&LiveSession": ["const nvmesim_live_session *"], "DestinationSeen": ["nvmesim_destination"],
-}
-# The structs that C sees whole, by their names there.
-STRUCTS = {"Answer": "nvmesim_answer", "Controller": "nvmesim_controller", "Namespace": "nvmesim_namespace",
-           "Attached": "nvmesim_attached", "Queue": "nvmesim_queue", "Command": "nvmesim_command",
-           "Needed": "nvmesim_needed", "Hold": "nvmesim_hold", "Registrant": "nvmesim_registered", "Event": "nvmesim_event",
-           "Written": "nvmesim_written", "Read": "nvmesim_read", "HostView": "nvmesim_host_view",
-           "Change": "nvmesim_change", "Disk": "nvmesim_disk", "ExecutedOver": "nvmesim_executed_over", "Placed": "nvmesim_placed",
-           "Completed": "nvmesim_completed", "CompletedOver": "nvmesim_completed_over", "Notice": "nvmesim_notice", "RawNotices": "nvmesim_notices",
-           "Agreed": "nvmesim_pdu_agreed", "LayoutSeen": "nvmesim_pdu_layout", "PduFields": "nvmesim_pdu_fields",
-           "RawConnection": "nvmesim_connection", "Taken": "nvmesim_taken", "Verdict": "nvmesim_verdict",
-           "Responses": "nvmesim_responses", "RawReply": "nvmesim_reply",
-           "HostId": "nvmesim_host_id", "RawRequest": "nvmesim_request", "RawSession": "nvmesim_session",
-           "RawJudged": "nvmesim_judged", "FabricsAnswer": "nvmesim_fabrics_answer", "Admitted": "nvmesim_admitted",
-           "Executed": "nvmesim_executed", "LiveSession": "nvmesim_live_session",
-           "QueueConnection": "nvmesim_queue_connection", "Part": "nvmesim_part", "PartTaken": "nvmesim_part_taken",
-           "NextRequest": "nvmesim_next_request", "Capsule": "nvmesim_capsule",
-           "CapsuleTaken": "nvmesim_capsule_taken", "DestinationSeen": "nvmesim_destination"}
-# Structs of another crate that C holds.
-OTHERS = ("nvme_brought/src/disk.rt", "nvme_notices/src/notice.rt", "nvme_notices/src/raw.rt",
-          "nvme_pdu/src/agreed.rt", "nvme_connection/src/raw.rt", "nvme_responses/src/responses.rt",
-          "nvme_transfers/src/part.rt", "nvme_capsules/src/capsule.rt")
 EXPORT = re.compile(r'#\[unsafe\(no_mangle\)\]\s*pub extern "C" fn (\w+)\(([^)]*)\)(?: -> (\w+))?')
-NUMBER = re.compile(r"^pub const (\w+): u(?:32|8) = (\d+);", re.M)
-
-
-def sources(top):
-    """The text of the crates, and of the structs of others."""
-    files = [it for name in CRATES for it in sorted((top / "crates" / name / "src").glob("*.rt"))]
-    return "\n".join(it.read_text(encoding="utf-8") for it in [*files, *(top / "crates" / it for it in OTHERS)])
-
-
-def text_of(folder):
-    """The text of the headers in a folder."""
-    return "\n".join((folder / it).read_text(encoding="utf-8") for it in HEADERS)
+NUMBER = r"^pub const (\w+): u(?:32|8) = (\d+);"
+# A reference: whether it may be written to, the type of the items of a slice or array, the array's size, another type.
+STRUCT = re.compile(r"pub struct (\w+) \{(.*?)\n\}", re.S)
+REFERENCE = re.compile(r"&(mut )?(?:\[(\w+)(; \d+)?\]|(\w+))")
+ARRAY = re.compile(r"\[(\w+); (\d+)\]")
+PLAIN = {"u8": "uint8_t", "u16": "uint16_t", "u32": "uint32_t", "u64": "uint64_t", "usize": "size_t", "bool": "bool",
+         "()": "void"}
+# Structs whose name in C does not follow from their own: what is after the prefix.
+NAMED = {"Handle": "", "FabricsHandle": "_fabrics", "TransfersHandle": "_transfers", "LentBytes": "_bytes",
+         "Registrant": "_registered", "Agreed": "_pdu_agreed", "LayoutSeen": "_pdu_layout",
+         "DestinationSeen": "_destination"}
+# Those that C only passes on, so that their fields are not compared.
+PASSED_ON = ("Handle", "FabricsHandle", "TransfersHandle", "LentBytes")
+# Fields whose names in C are keywords of Rattle.
+FIELDS = {"event_type": "type"}
 
 
 def without_comments(text):
     return re.sub(r"/\*.*?\*/", " ", text, flags=re.S)
 
 
-def exports(text):
-    """The exports of the crates, as C declares them: the result's type and those of the parameters, by their names."""
-    found = {}
-    for name, parameters, result in EXPORT.findall(text):
-        kinds = [it.split(":", 1)[1].strip() for it in parameters.split(",") if it.strip()]
-        found[name] = (TYPES[result or "()"][0], [it for kind in kinds for it in TYPES[kind]] or ["void"])
-    return found
+@dataclass(frozen=True)
+class Interface:
+    """What C sees of some crates: the beginning of its names, the crates, their headers, sources of other crates with
+    structs that C holds, the word before the name of a struct, and the numbers that are not compared."""
+    prefix: str
+    crates: Sequence[str]
+    headers: Sequence[str]
+    others: Sequence[str] = ()
+    word: str = ""
+    unchecked: str = ""
+
+    def files(self, top):
+        """The sources of the crates, and those of others with the structs."""
+        found = [it for name in self.crates for it in sorted((top / "crates" / name / "src").glob("*.rt"))]
+        return [*found, *(top / "crates" / it for it in self.others)]
+
+    def text_of(self, folder):
+        """The text of the headers in a folder."""
+        return "\n".join((folder / it).read_text(encoding="utf-8") for it in self.headers)
+
+    def struct(self, name):
+        """The name that a struct of the crates has in C: without `Raw`, in small letters."""
+        plain = re.sub(r"(?<=.)([A-Z])", r"_\1", name.removeprefix("Raw")).lower()
+        return self.prefix + NAMED.get(name, f"_{plain}")
+
+    def value(self, kind):
+        """What C declares for a type that is passed by value, or is that of a field."""
+        array = ARRAY.fullmatch(kind)
+        if array:
+            return f"{self.value(array[1])}[{array[2]}]"
+        return PLAIN.get(kind) or self.word + self.struct(kind)
+
+    def parameter(self, kind):
+        """What C declares for a parameter: a slice is a pointer and a length, and an allocator is nothing."""
+        found = REFERENCE.fullmatch(kind)
+        if not found:
+            return [] if kind == "Global" else [self.value(kind)]
+        pointer = f"{'' if found[1] else 'const '}{self.value(found[2] or found[4])} *"
+        return [pointer, "size_t"] if found[2] and not found[3] else [pointer]
+
+    def exports(self, text):
+        """The exports of the crates by their names, as C declares them: the types of the result and the parameters."""
+        found = {}
+        for name, parameters, result in EXPORT.findall(text):
+            kinds = [it.split(":", 1)[1].strip() for it in parameters.split(",") if it.strip()]
+            given = [it for kind in kinds for it in self.parameter(kind)]
+            found[name] = (self.value(result or "()"), given or ["void"])
+        return found
+
+    def declarations(self, header):
+        """The functions that the headers declare, in the same form."""
+        declared = re.compile(rf"^((?:struct )?\w+) ({self.prefix}_\w+)\(([^)]*)\);", re.M)
+        found = {}
+        for result, name, parameters in declared.findall(re.sub(r" (\w+)\[\d+\]", r" *\1", without_comments(header))):
+            kinds = [re.sub(r"\s*\w+$", "", " ".join(it.split())) or it.strip() for it in parameters.split(",")]
+            found[name] = (result, [re.sub(r"\s*\*$", " *", it) for it in kinds])
+        return found
+
+    def fields(self, text):
+        """The fields of each struct of the crates, in order, and their types in C, by the struct's name there."""
+        found = {}
+        for name, body in STRUCT.findall(text):
+            # C has no field for what only proofs read.
+            fields = [(FIELDS.get(it, it), self.value(kind)) for it, kind in
+                      re.findall(r"^\s*pub (\w+): (.+),$", body, re.M) if kind != "DiskContent"]
+            found.setdefault(self.struct(name), fields)
+        return found
+
+    def header_fields(self, header):
+        """The fields of each struct of the headers, in the same form."""
+        end = "" if self.word else r" \1"
+        form = rf"^{'' if self.word else 'typedef '}struct ({self.prefix}\w*) \{{(.*?)\}}{end};"
+        return {name: [(field.strip(), kind + size)
+                       for kind, fields, size in re.findall(r"(\w+) ([\w, ]+)((?:\[\d+\])?);", body)
+                       for field in fields.split(",")]
+                for name, body in re.findall(form, without_comments(header), re.S | re.M)}
+
+    def numbers(self, pattern, text):
+        """The numbers of the crates or the headers that are compared."""
+        return {name: int(number) for name, number in re.findall(pattern, text, re.M)
+                if not re.fullmatch(self.unchecked, name)}
+
+    def differences(self, top, header):
+        """The differences between the headers and the crates, line by line."""
+        text = "\n".join(it.read_text(encoding="utf-8") for it in self.files(top))
+        own = rf"^(?:\s*|#define ){self.prefix.upper()}_(\w+)(?: =)? (\d+)"
+        exports, fields, c = self.exports(text), self.fields(text), self.header_fields(header)
+        seen = {it: fields.get(it) for it in c if it not in map(self.struct, PASSED_ON)}
+        named = set(re.findall(rf"{self.prefix}\w*", str([*exports.values(), *seen.values()])))
+        pairs = [("exports", exports, self.declarations(header)), ("structs", named, set(c)),
+                 ("numbers", self.numbers(NUMBER, text), self.numbers(own, without_comments(header)))]
+        for what, of_crates, of_c in [*pairs, *((it, seen[it], c[it]) for it in seen)]:
+            if not of_crates:
+                yield f"{what}: the crates have none"
+            elif of_crates != of_c:
+                yield f"{what}: the crates have {of_crates}, the headers {of_c}"
 
 
-def declarations(header):
-    """The functions that the headers declare, in the same form."""
-    found = {}
-    for result, name, parameters in re.findall(r"^(\w+) (nvmesim_\w+)\(([^)]*)\);", without_comments(header), re.M):
-        kinds = [re.sub(r"\s*\w+$", "", " ".join(it.split())) or it.strip() for it in parameters.split(",")]
-        found[name] = (result, [re.sub(r"\s*\*$", " *", it) for it in kinds])
-    return found
-
-
-def rattle_fields(text, name):
-    """The fields of a struct of the crate, and their types in C."""
-    body = re.search(rf"pub struct {name} \{{(.*?)\n\}}", text, re.S).group(1)
-    # C has no field for what only proofs read.
-    return [(field, TYPES[kind][0]) for field, kind in re.findall(r"^\s*pub (\w+): (.+),$", body, re.M)
-            if kind != "DiskContent"]
-
-
-def c_fields(header, name):
-    """The fields of a struct of the header, and their types."""
-    body = re.search(rf"typedef struct {name} \{{(.*?)\}} {name};", without_comments(header), re.S).group(1)
-    return [(field.strip(), kind + size) for kind, fields, size in re.findall(r"(\w+) ([\w, ]+)((?:\[\d+\])?);", body)
-            for field in fields.split(",")]
-
-
-def numbers(text):
-    return {name: int(number) for name, number in NUMBER.findall(text)}
-
-
-def header_numbers(header):
-    text = without_comments(header)
-    found = {name: int(number) for name, number in re.findall(r"^\s*NVMESIM_(\w+) = (\d+)", text, re.M)}
-    found.update((name, int(number)) for name, number in re.findall(r"^#define NVMESIM_(\w+) (\d+)$", text, re.M))
-    return found
-
-
-def differences(top, header):
-    """The differences between the headers and the crates, line by line."""
-    text = sources(top)
-    pairs = [("exports", exports(text), declarations(header)), ("numbers", numbers(text), header_numbers(header))]
-    pairs += [(it, dict(rattle_fields(text, it)), dict(c_fields(header, STRUCTS[it]))) for it in STRUCTS]
-    pairs += [(f"the order in {it}", list(rattle_fields(text, it)), list(c_fields(header, STRUCTS[it])))
-              for it in STRUCTS]
-    for what, crate, c in pairs:
-        if not crate:
-            yield f"{what}: the crates have none"
-        elif crate != c:
-            yield f"{what}: the crates have {crate}, the headers {c}"
+LIBRARY = Interface("nvmesim", CRATES, HEADERS, (
+    "nvme_brought/src/disk.rt", "nvme_notices/src/notice.rt", "nvme_notices/src/raw.rt", "nvme_pdu/src/agreed.rt",
+    "nvme_connection/src/raw.rt", "nvme_responses/src/responses.rt", "nvme_transfers/src/part.rt",
+    "nvme_capsules/src/capsule.rt"))
+# The kinds of events tests/reservations.c compares; lengths are in C alone.
+HOST = Interface("nvmehost", ("nvme_host",), ("nvmehost.h",), word="struct ",
+                 unchecked=r"EVENT_\w+|ACTIONS|WINDOW|BUFFER")

@@ -11,44 +11,25 @@ import tempfile
 from pathlib import Path
 from typing import Dict, List, Set, Tuple
 
-from support.building import unproved
-from support.library import header
+from support import building, unproved
 from support.library.building import CRATES, HEADERS, NotBuilt, call, put, unproved_archive
+from support.library.header import EXPORT, LIBRARY, STRUCT
 
 # The crate that gets the `main`, and the other crate with exports.
 CRATE, TCP = CRATES
 LENT = "nvme_lent"
 # What the header declares of a call: its result, and its parameters.
 Declared = Tuple[str, List[str]]
-EXPORT = re.compile(r'pub extern "C" fn (nvmesim_\w+)\(([^)]*)\)')
 # The values of the calls. None is known before the program runs, so that nothing is computed from them.
-VALUES = {"Global": "alloc", "&mut Handle": "&mut sim", "u8": "n as u8", "u16": "n as u16", "u32": "n as u32",
-          "u64": "n as u64", "usize": "n", "bool": "n == 3", "&[u8]": "&bytes", "&mut [u8]": "&mut room",
-          "&[u8; 64]": "&entry", "&[u8; 2]": "&[n as u8; 2]", "&mut [u8; 16]": "&mut completion", "&[Controller]": "&controllers",
-          "&[Namespace]": "&namespaces", "&[Attached]": "&attached",
-          "&mut [Controller]": "&mut controllers", "&mut [Namespace]": "&mut namespaces",
-          "&mut [Attached]": "&mut attached", "&Event": "&event", "&Answer": "&answer",
-          "&Change": "&change", "&HostView": "&view", "&RawNotices": "&notices", "&mut RawNotices": "&mut notices",
-          "&mut [u8; 64]": "&mut page", "&Agreed": "&agreed", "&[u8; 8]": "&head", "&[u8; 16]": "&posted",
-          "&[u8; 24]": "&header", "&[u8; 128]": "&request", "&mut [u8; 24]": "&mut header",
-          "&mut [u8; 128]": "&mut request", "&mut [u8; 248]": "&mut list", "&[u8; 1024]": "&data", "&[HostId]": "&hosts",
-          "&RawConnection": "&connection", "&mut RawConnection": "&mut connection",
-          "&mut Responses": "&mut responses", "&RawReply": "&reply",
-          "&mut FabricsHandle": "&mut fabrics", "&RawSession": "&session", "&mut RawSession": "&mut session",
-          "&RawRequest": "&asked", "&RawJudged": "&judged", "&mut TransfersHandle": "&mut transfers",
-          "&Part": "&part", "&Capsule": "&capsule", "&LiveSession": "&live",
-          "LentBytes": "LentBytes { at: ptr::null_mut(), len: n }",
-          "Disk": "Disk { blocks: n as u64, content: DiskContent {} }"}
+VALUES = {"Global": "alloc", "usize": "n", "bool": "n == 3", "Handle": "Handle::closed(alloc)",
+          "FabricsHandle": f"{TCP}::FabricsHandle::closed(alloc)",
+          "TransfersHandle": f"{TCP}::TransfersHandle::closed(alloc)",
+          "LentBytes": f"{LENT}::LentBytes {{ at: ptr::null_mut(), len: n }}",
+          "DiskContent": "nvme_brought::DiskContent {}"}
+REFERENCE = re.compile(r"(&(?:mut )?)(.+)")
+LIST = re.compile(r"\[(\w+)(; \d+)?\]")
+FIELD = re.compile(r"^    pub (\w+): (.+),$", re.M)
 MAIN = """
-use nvme_brought::{{Disk, DiskContent}};
-use nvme_capsules::Capsule;
-use nvme_connection::RawConnection;
-use nvme_lent::LentBytes;
-use nvme_notices::{{Notice, RawNotices}};
-use nvme_pdu::Agreed;
-use nvme_responses::Responses;
-use nvme_tcp_library::{{FabricsHandle, HostId, LiveSession, RawJudged, RawReply, RawRequest, RawSession, TransfersHandle}};
-use nvme_transfers::Part;
 use std::process::ExitCode;
 use std::rt::Env;
 use std::{{env, io, ptr}};
@@ -56,40 +37,6 @@ use std::{{env, io, ptr}};
 fn main(rt: HostRuntime) -> io::Result<ExitCode> {{
     let alloc = rt.alloc();
     let n = env::args(&rt)?.count();
-    let mut sim = Handle::closed(alloc);
-    let (bytes, mut room, entry, mut completion) = ([0u8; 512], [0u8; 512], [0u8; 64], [0u8; 16]);
-    let mut controllers = [Controller {{ host_low: n as u64, host_high: n as u64, cntlid: n as u16, raw: n == 3 }}];
-    let mut namespaces = [Namespace {{ blocks: n as u64, nsid: n as u32, shared: n == 3 }}];
-    let mut attached = [Attached {{ nsid: n as u32, cntlid: n as u16 }}];
-    let event = Event {{ at: n as u64, kind: n as u32, value: n as u32, cntlid: n as u16, qid: n as u16 }};
-    let answer = Answer {{ value: n as u32, what: n as u32, sct: n as u8, sc: n as u8, rule: n as u8 }};
-    let change = Change {{ nsid: n as u32, action: n as u32, issuer: n as u16 }};
-    let view = HostView {{ what: n as u32, rtype: n as u8, is_registrant: n == 3 }};
-    let notice = Notice {{ count: n as u64, nsid: n as u32, kind: n as u8 }};
-    let mut notices = RawNotices {{ count: n as u64, places: [notice; 64], masks: [n as u32; 8], kept: n as u32 }};
-    let mut page = [0u8; 64];
-    let agreed = Agreed {{ header_digests: n == 3, data_digests: n == 4, alignment: n as u8 }};
-    let (head, posted, mut header, mut request) = ([n as u8; 8], [n as u8; 16], [n as u8; 24], [n as u8; 128]);
-    let mut list = [n as u8; 248];
-    let (data, hosts) = ([n as u8; 1024], [HostId {{ low: n as u64, high: n as u64 }}]);
-    let mut connection = RawConnection {{ count: n, length: n as u32, data_offset: n as u32, data_length: n as u32,
-        kind: n as u8, header: n as u8, stage: n as u8, is_last: n == 3, header_digest: n == 4, data_digest: n == 5,
-        is_open: n == 6, agreed, kept: [n as u8; 128] }};
-    let mut responses = Responses {{ sqsize: n as u16, head: n as u16, count: n as u16, stage: n as u8,
-        is_flow_control_disabled: n == 3, outstanding: [n as u16; 64] }};
-    let reply = RawReply {{ dw0: n as u32, dw1: n as u32, cid: n as u16, sct: n as u8, sc: n as u8 }};
-    let mut fabrics = FabricsHandle::closed(alloc);
-    let asked = RawRequest {{ host_low: n as u64, host_high: n as u64, host_nqn: [n as u8; 256], cntlid: n as u16,
-        qid: n as u16, entries: n as u16 }};
-    let mut session = RawSession {{ connection: n as u64, request: asked, kind: n as u32, index: n as u16,
-        qid: n as u16 }};
-    let judged = RawJudged {{ authenticating: [n as u32; 16], subsystem: n as u32, is_whole: n == 3, is_known: n == 4,
-        is_allowed: n == 5, is_enabled: n == 6, created_sct: n as u8, created_sc: n as u8 }};
-    let mut transfers = TransfersHandle::closed(alloc);
-    let part = Part {{ cid: n as u16, tag: n as u16, offset: n as u32, length: n as u32, is_last: n == 3,
-        is_sound: n == 4 }};
-    let capsule = Capsule {{ entry: [n as u8; 64], data_length: n as u32, is_sound: n == 3 }};
-    let live = LiveSession {{ what: n as u32, kind: n as u32, index: n as u16, qid: n as u16 }};
 {calls}
     Ok(ExitCode::from(0))
 }}
@@ -106,16 +53,39 @@ BEHIND = "rattle_"
 IN_REGISTERS = ("nvmesim_written", "nvmesim_queue_connection")
 
 
-def calls(sources: Path, before: str) -> List[str]:
+def structs(top: Path) -> Dict[str, Tuple[str, str]]:
+    """The structs that calls take, by their names: with the crate before them, and the text of their fields."""
+    found: Dict[str, Tuple[str, str]] = {}
+    for path in LIBRARY.files(top):
+        crate = path.relative_to(top / "crates").parts[0]
+        for name, body in STRUCT.findall(path.read_text(encoding="utf-8")):
+            found[name] = name if crate == CRATE else f"{crate}::{name}", body
+    return found
+
+
+def value(kind: str, known: Dict[str, Tuple[str, str]]) -> str:
+    """A value of a type."""
+    if kind in VALUES:
+        return VALUES[kind]
+    if kind in ("u8", "u16", "u32", "u64"):
+        return f"n as {kind}"
+    if found := REFERENCE.fullmatch(kind):
+        return found[1] + value(found[2], known)
+    if found := LIST.fullmatch(kind):
+        return f"[{value(found[1], known)}{found[2] or ''}]"
+    if kind not in known:
+        raise NotBuilt(f"a call takes {kind}, which is not known here")
+    name, body = known[kind]
+    return f"{name} {{ {', '.join(f'{it}: {value(of, known)}' for it, of in FIELD.findall(body))} }}"
+
+
+def calls(top: Path, sources: Path, before: str) -> List[str]:
     """A call of each export of a crate, whose path has these words before it."""
-    found = []
+    found, known = [], structs(top)
     for path in sorted(sources.glob("*.rt")):
-        for name, words in EXPORT.findall(path.read_text(encoding="utf-8")):
+        for name, words, _ in EXPORT.findall(path.read_text(encoding="utf-8")):
             kinds = [" ".join(it.split(":", 1)[1].split()) for it in words.split(",") if ":" in it]
-            unknown = [it for it in kinds if it not in VALUES]
-            if unknown:
-                raise NotBuilt(f"{name} takes {unknown[0]}, which is not known here")
-            found.append(f"    let _ = {before}{path.stem}::{name}({', '.join(VALUES[it] for it in kinds)});")
+            found.append(f"    let _ = {before}{path.stem}::{name}({', '.join(value(it, known) for it in kinds)});")
     return found
 
 
@@ -130,7 +100,7 @@ def copies(top: Path, room: Path) -> Dict[str, Path]:
     for handle in tcp / "handle.rt", tcp / "transfers_handle.rt":
         handle.write_text(handle.read_text(encoding="utf-8").replace("pub(crate) fn", "pub fn"), encoding="utf-8")
     root = room / CRATE / "src" / "lib.rt"
-    made = [*calls(root.parent, ""), *calls(tcp, f"{TCP}::")]
+    made = [*calls(top, root.parent, ""), *calls(top, tcp, f"{TCP}::")]
     text = root.read_text(encoding="utf-8") + MAIN.format(calls="\n".join(made))
     root.with_name("main.rt").write_text(text, encoding="utf-8")
     root.unlink()
@@ -191,7 +161,7 @@ def exported(module: str, behind: List[str]) -> str:
 
 def compiled(kit: unproved.Kit, room: Path, top: Path) -> Path:
     """The archive of the module that is kept in the room."""
-    declared = header.declarations(header.text_of(top / "clients/c"))
+    declared = LIBRARY.declarations(LIBRARY.text_of(top / "clients/c"))
     words = (room / unproved.WORDS).read_text(encoding="utf-8").splitlines()
     words = [it for it in words if not it.startswith(("-fsanitize", "-O", "--sysroot=", "-fPIE"))]
     words = words[:words.index("-o")] + words[words.index("-o") + 2:]
@@ -214,14 +184,13 @@ def archive(top: Path) -> Path:
         room = Path(place)
         try:
             kit = unproved.Kit(top)
-            kit.is_free.set()
             for name, folder in copies(top, room).items():
                 kit.crates[name].folder = str(folder)
             used = (TCP, "nvme_pdu", "nvme_connection", "nvme_transfers", "nvme_responses", "nvme_data_buffers",
                     "nvme_journal", "nvme_capsules")
             kit.crates[CRATE].deps += [kit.crates[it] for it in used]
-            unproved.kept_module(kit, CRATE, room)
-        except (unproved.NotBuilt, unproved.toolchain.NoToolchain) as error:
+            unproved.keep_module(kit, CRATE, room)
+        except (building.NotBuilt, unproved.toolchain.NoToolchain) as error:
             raise NotBuilt(str(error)) from error
         kept = unproved_archive(top)
         kept.parent.mkdir(parents=True, exist_ok=True)

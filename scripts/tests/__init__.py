@@ -1,0 +1,1 @@
+"""The tests of the built programs, which scripts/test runs."""
