@@ -29,7 +29,7 @@ use Rattle.nvme_driver.specs.declared.faults.PollFault.{PollFault}
 use Rattle.nvme_driver.specs.declared.faults.PollFault.TheVariants as poll_fault
 use Rattle.nvme_driver.specs.declared.ticket.Ticket.{Ticket}
 use Rattle.nvme_driver.specs.Drivers.{Driver}
-use Rattle.nvme_driver.specs.Polls.{IsNotBelow, IsOldest, IsPolled, aborted_at, freed, polled}
+use Rattle.nvme_driver.specs.Polls.{IsNotBelow, IsOldest, IsPolledOver, aborted_at, freed, polled}
 use Rattle.nvme_driver.specs.Calls.{Calls}
 use Rattle.definition_examples.specs.DriverExamples.{aborted_driver, aborted_slots, bare_driver, counts}
 
@@ -78,28 +78,28 @@ oldest-is (Some (suc (suc (suc zero)))) x = absurd (no-ticket x.0 x.1)
 oldest-is (Some (suc (suc (suc (suc k))))) x = absurd (no-ticket x.0 x.1)
 
 pub poll_when_down : (window buffer : List ℕ)
-    → IsPolled counts bare_driver window 3 (Err poll_fault.NotUp) bare_driver 3 buffer
+    → IsPolledOver counts bare_driver window 3 (Err poll_fault.NotUp) bare_driver 3 buffer
 poll_when_down window buffer = (None, none-there, refl, refl, refl, refl)
 
 pub aborted_result : (window buffer : List ℕ) → (result : Result (Option Answer) PollFault) → (after : Driver)
-    → (made : ℕ) → IsPolled counts aborted_driver window 3 result after made buffer
+    → (made : ℕ) → IsPolledOver counts aborted_driver window 3 result after made buffer
     → result ≡ Ok (Some (answer.Aborted (record { 0 = 7 })))
 aborted_result window buffer result after made x =
     x.2 ∙ ap (λ (o : Option ℕ). (polled aborted_driver o window).answer) (oldest-is x.0 x.1)
 
 pub aborted_freed : (window buffer : List ℕ) → (result : Result (Option Answer) PollFault) → (after : Driver)
-    → (made : ℕ) → IsPolled counts aborted_driver window 3 result after made buffer
+    → (made : ℕ) → IsPolledOver counts aborted_driver window 3 result after made buffer
     → after ≡ freed aborted_driver 2
 aborted_freed window buffer result after made x =
     x.3 ∙ ap (λ (o : Option ℕ). (polled aborted_driver o window).driver) (oldest-is x.0 x.1)
 
 pub aborted_calls : (window buffer : List ℕ) → (result : Result (Option Answer) PollFault) → (after : Driver)
-    → (made : ℕ) → IsPolled counts aborted_driver window 3 result after made buffer
+    → (made : ℕ) → IsPolledOver counts aborted_driver window 3 result after made buffer
     → made ≡ 3
 aborted_calls window buffer result after made x =
     subst (λ (o : Option ℕ). Calls counts 3 (polled aborted_driver o window).calls made) (oldest-is x.0 x.1) x.4
 
 pub polled_front : (d : Driver) → (window buffer : List ℕ) → (result : Result (Option Answer) PollFault)
-    → (after : Driver) → (made : ℕ) → (x : IsPolled counts d window 3 result after made buffer)
+    → (after : Driver) → (made : ℕ) → (x : IsPolledOver counts d window 3 result after made buffer)
     → take (length (polled d x.0 window).bytes) buffer ≡ (polled d x.0 window).bytes
 polled_front d window buffer result after made x = x.5

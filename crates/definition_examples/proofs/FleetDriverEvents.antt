@@ -20,7 +20,7 @@ use Rattle.nvme_fleet.specs.FleetStates.{Layers}
 use Rattle.nvme_fleet.specs.Layers.{Happens}
 use Rattle.nvme_fleet.specs.DriverEvents.{ReturnsWhatIsSeen, Rings, Consumes, Ran, Resets}
 
-pub fleet_port_results_law : (given : List Seen) → ReturnsWhatIsSeen (Reads 0x1c 1) given → given ≡ Value 1 ∷ []
+pub fleet_port_results_law : (given : List Seen) → ReturnsWhatIsSeen (Reads 0x1c 1) [] given → given ≡ Value 1 ∷ []
 fleet_port_results_law given x = x
 
 pub fleet_refused_rings_driver : (tells : Bool) → (k : ℕ) → (d e : Driver) → (before after : Subsystem)

@@ -7,11 +7,13 @@ mod CoreNotices
 mod CoreRegisters
 mod CoreReservations
 mod CoreTargets
+mod DriverLooks
 mod DriverPlacings
 mod DriverPolls
 mod FleetCalls
 mod FleetDriverCalls
 mod FleetDriverEvents
+mod FleetLooks
 mod FleetRuns
 mod MachineCalls
 mod MachineStates

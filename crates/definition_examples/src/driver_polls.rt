@@ -29,7 +29,7 @@ ghost use Rattle.nvme_driver.specs.Examples.{reading_driver, up_driver};
 ghost use Rattle.nvme_driver.specs.Polls.{
   IsNotBelow,
   IsOldest,
-  IsPolled,
+  IsPolledOver,
   answer_len,
   answered_poll,
   freed,
@@ -101,26 +101,26 @@ fn driver_poll_answers()
 /// A poll of a driver that is down answers so, without a call.
 fn driver_polls_when_down()
     ensures down { (window buffer : List ℕ)
-        → IsPolled counts bare_driver window 3 (Err poll_fault.NotUp) bare_driver 3 buffer }
+        → IsPolledOver counts bare_driver window 3 (Err poll_fault.NotUp) bare_driver 3 buffer }
 {}
 
 /// A poll of a driver with aborted requests delivers the oldest one, frees its slot, and makes no call.
 fn driver_polls_of_aborted()
     ensures result { (window buffer : List ℕ) → (result : Result (Option Answer) PollFault) → (after : Driver)
         → (made : ℕ)
-        → IsPolled counts aborted_driver window 3 result after made buffer
+        → IsPolledOver counts aborted_driver window 3 result after made buffer
         → result ≡ Ok (Some (answer.Aborted (record { 0 = 7 }))) }
     ensures driver { (window buffer : List ℕ) → (result : Result (Option Answer) PollFault) → (after : Driver)
         → (made : ℕ)
-        → IsPolled counts aborted_driver window 3 result after made buffer → after ≡ freed aborted_driver 2 }
+        → IsPolledOver counts aborted_driver window 3 result after made buffer → after ≡ freed aborted_driver 2 }
     ensures calls { (window buffer : List ℕ) → (result : Result (Option Answer) PollFault) → (after : Driver)
         → (made : ℕ)
-        → IsPolled counts aborted_driver window 3 result after made buffer → made ≡ 3 }
+        → IsPolledOver counts aborted_driver window 3 result after made buffer → made ≡ 3 }
 {}
 
 /// The front of the buffer is the bytes of the answer.
 fn driver_polled_bytes()
     ensures front { (d : Driver) → (window buffer : List ℕ) → (result : Result (Option Answer) PollFault)
-        → (after : Driver) → (made : ℕ) → (x : IsPolled counts d window 3 result after made buffer)
+        → (after : Driver) → (made : ℕ) → (x : IsPolledOver counts d window 3 result after made buffer)
         → take (length (polled d x.0 window).bytes) buffer ≡ (polled d x.0 window).bytes }
 {}

@@ -38,11 +38,11 @@ fn fleet_port_events()
 
 /// A read of a register returns the value of its event. Other calls return nothing.
 fn fleet_port_results()
-    ensures store { ReturnsWhatIsSeen (Stores 4096 []) (Wrote ∷ []) }
-    ensures written { ReturnsWhatIsSeen (Writes 0x14 0) (Wrote ∷ []) }
-    ensures turn { ReturnsWhatIsSeen Turns [] }
-    ensures value { ReturnsWhatIsSeen (Reads 0x1c 1) (Value 1 ∷ []) }
-    ensures law { (given : List Seen) → ReturnsWhatIsSeen (Reads 0x1c 1) given → given ≡ Value 1 ∷ [] }
+    ensures store { ReturnsWhatIsSeen (Stores 4096 []) [] (Wrote ∷ []) }
+    ensures written { ReturnsWhatIsSeen (Writes 0x14 0) [] (Wrote ∷ []) }
+    ensures turn { ReturnsWhatIsSeen Turns [] [] }
+    ensures value { ReturnsWhatIsSeen (Reads 0x1c 1) [] (Value 1 ∷ []) }
+    ensures law { (given : List Seen) → ReturnsWhatIsSeen (Reads 0x1c 1) [] given → given ≡ Value 1 ∷ [] }
 {}
 
 /// A refused ringing is no event.

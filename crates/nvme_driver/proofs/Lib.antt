@@ -11,3 +11,7 @@ pub mod Moving
 pub mod Mapped
 pub mod Rising
 pub mod Unaborted
+pub mod Looking
+pub mod Still
+pub mod Snapshots
+pub mod Moments

@@ -41,6 +41,7 @@ use Rattle.nvme_driver.specs.declared.found.Found.{Found}
 use Rattle.nvme_driver.specs.declared.slots.Waiting.{Waiting}
 use Rattle.nvme_driver.specs.declared.ticket.Ticket.{Ticket}
 use Rattle.nvme_driver.specs.declared.faults.PollFault.TheVariants.{NotUp}
+use Rattle.nvme_driver.specs.Calls.{Call}
 use Rattle.nvme_driver.specs.Layout.{queue_id}
 use Rattle.nvme_driver.specs.Drivers.{
   Driver,
@@ -88,6 +89,7 @@ use Rattle.nvme_driver.specs.Once.{
   borne,
   HandsUpOutstanding,
   HandsUpOnce,
+  PollsAreEvents,
 }
 
 -- a request is removed from its slot
@@ -312,3 +314,10 @@ hands_up_once first events tickets d t h =
     let k = run t events (new_driver first) tickets d h in
     let few = at-most-one (nat_lt t first) in
     omega (arith, k, few)
+
+pub polls_are_events : {S : Type 0} (step : S → Call → S → Type 0) → PollsAreEvents step
+polls_are_events step d d' old new result buffer p = record {
+  event = Polls p.oldest p.window;
+  happens = (p.is_oldest, p.driver);
+  delivers = ap handed_by (sym p.gives);
+}

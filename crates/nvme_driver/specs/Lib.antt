@@ -14,6 +14,9 @@ pub mod Tickets
 pub mod Drivers
 pub mod HostCommands
 pub mod Polls
+pub mod Ports
+pub mod Snapshots
+pub mod Moments
 pub mod Rises
 pub mod Once
 pub mod FaultNames

@@ -25,7 +25,8 @@ use Rattle.nvme_driver.specs.declared.answer.Answer.TheVariants.{Done, Aborted}
 use Rattle.nvme_driver.specs.declared.faults.PollFault.{PollFault}
 use Rattle.nvme_driver.specs.Drivers.{Driver, new_driver, free_slot, placed, after_reset}
 use Rattle.nvme_driver.specs.HostCommands.{placed_command}
-use Rattle.nvme_driver.specs.Polls.{IsOldest, polled}
+use Rattle.nvme_driver.specs.Calls.{Call}
+use Rattle.nvme_driver.specs.Polls.{IsOldest, IsPolled, polled}
 use Rattle.nvme_driver.specs.Requests.{Asked}
 
 -- The effect of a call on the requests: a request, or a command, is placed in a slot; a poll of a window, with this
@@ -90,3 +91,14 @@ abbrev pub HandsUpOnce : Type 0
 HandsUpOnce =
     (first : ℕ) (events : List Event) (tickets : List ℕ) (d : Driver) (t : ℕ)
     → Run events (new_driver first) tickets d → times t tickets ≤ 1
+
+-- A poll over any port, whatever its device writes meanwhile, is such an event, and delivers the ticket of its answer.
+pub record IsEvent (d : Driver) (result : Result (Option Answer) PollFault) (d' : Driver) : Type 0 where
+  pub event : Event
+  pub happens : Happens event d d'
+  pub delivers : handed event d ≡ handed_by result
+
+abbrev pub PollsAreEvents : {S : Type 0} → (S → Call → S → Type 0) → Type 0
+PollsAreEvents {S} step =
+    (d d' : Driver) (old new : S) (result : Result (Option Answer) PollFault) (buffer : List ℕ)
+    → IsPolled step d old result d' new buffer → IsEvent d result d'

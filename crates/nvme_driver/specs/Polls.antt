@@ -8,6 +8,7 @@ use Rattle.std.specs.Prelude.{
   slice_set,
   ℕ,
   ◌+◌,
+  ◌*◌,
   ◌==◌,
   Bool,
   not,
@@ -16,6 +17,7 @@ use Rattle.std.specs.Prelude.{
   List,
   [],
   ◌∷◌,
+  ◌++◌,
   length,
   take,
   Option,
@@ -39,8 +41,8 @@ use Rattle.nvme_driver.specs.declared.answer.Answer.{Answer}
 use Rattle.nvme_driver.specs.declared.answer.Answer.TheVariants.{Done, Aborted}
 use Rattle.nvme_driver.specs.declared.faults.PollFault.{PollFault}
 use Rattle.nvme_driver.specs.declared.faults.PollFault.TheVariants.{NotUp, UnknownCommand}
-use Rattle.nvme_driver.specs.Calls.{Call, Writes, Calls}
-use Rattle.nvme_driver.specs.Layout.{completion_entries, queue_id, completion_place_in, head_doorbell, data_area}
+use Rattle.nvme_driver.specs.Calls.{Call, Writes, Sees, Loads, Calls}
+use Rattle.nvme_driver.specs.Layout.{completion_entries, queue_id, completion_queue, head_doorbell, data_area}
 use Rattle.nvme_driver.specs.Drivers.{Ends, Driver, is_up, ends, with_ends}
 
 -- the request in a slot
@@ -70,19 +72,36 @@ IsOldest slots (Some slot) =
 
 -- Completions.
 
--- the entry of the next completion of a lane
-abbrev pub next_entry : Lane → Ends → List ℕ → List ℕ
-next_entry lane e window =
-    slice_range window (completion_place_in lane e.head.consumed) (completion_place_in lane e.head.consumed + 16)
+-- the entry in a slot of a lane's completion queue
+abbrev pub entry_at : Lane → ℕ → List ℕ → List ℕ
+entry_at lane head window =
+    slice_range window (completion_queue lane + 16 * head) (completion_queue lane + 16 * head + 16)
 
--- it is new: its phase tag is the expected one
+-- it has this phase tag
+abbrev pub has_phase : Bool → List ℕ → Bool
+has_phase expected entry = if phase entry then expected else not expected
+
+-- what a look at a slot finds in a window: the entry, if it has the expected phase tag
+abbrev pub seen_in : Lane → ℕ → Bool → List ℕ → Option (List ℕ)
+seen_in lane head expected window =
+    if has_phase expected (entry_at lane head window) then Some (entry_at lane head window) else None
+
+-- the slot of the next completion, and its phase tag
+abbrev pub head_of : Ends → ℕ
+head_of e = slot_of completion_entries e.head.consumed
+
+abbrev pub phase_of : Ends → Bool
+phase_of e = phase_tag completion_entries e.head.consumed
+
+-- the entry of the next completion of a lane; it is new if its phase tag is the expected one
+abbrev pub next_entry : Lane → Ends → List ℕ → List ℕ
+next_entry lane e window = entry_at lane (head_of e) window
+
 abbrev pub is_new : Ends → List ℕ → Bool
-is_new e entry =
-    if phase entry then phase_tag completion_entries e.head.consumed
-    else not (phase_tag completion_entries e.head.consumed)
+is_new e entry = has_phase (phase_of e) entry
 
 abbrev pub new_in : Lane → Ends → List ℕ → Option (List ℕ)
-new_in lane e window = if is_new e (next_entry lane e window) then Some (next_entry lane e window) else None
+new_in lane e window = seen_in lane (head_of e) (phase_of e) window
 
 -- the first new completion: of the admin lane, then of the I/O lane
 abbrev pub found_in : Lane → Option (List ℕ) → Option Found
@@ -112,9 +131,6 @@ answered d lane entry =
 -- the ends of a lane after a completion with this head was consumed
 abbrev pub consumed_ends : Ends → ℕ → Ends
 consumed_ends e head = record { tail = after_head e.tail head; head = after_consumption e.head }
-
-abbrev pub head_of : Ends → ℕ
-head_of e = slot_of completion_entries e.head.consumed
 
 -- the number of bytes of an answer: those of its request if the command succeeded
 abbrev pub is_success : Status → Bool
@@ -149,14 +165,27 @@ aborted_poll d slot = without_calls (Ok (Some (Aborted (ticket_of (aborted_at d.
 abbrev pub consumed : Driver → Lane → List ℕ → Driver
 consumed d lane entry = with_ends lane (consumed_ends (ends lane d) (sq_head entry)) (freed d (cid entry))
 
-abbrev pub answered_poll : Driver → List ℕ → Lane → List ℕ → Option Waiting → Poll
-answered_poll d window lane entry None = without_calls (Err UnknownCommand) (record d { state = Failed })
-answered_poll d window lane entry (Some w) = record {
+-- with these data of the request, which are at the front of the buffer
+abbrev pub delivered : Driver → Lane → List ℕ → List ℕ → Option Waiting → Poll
+delivered d lane entry part None = without_calls (Err UnknownCommand) (record d { state = Failed })
+delivered d lane entry part (Some w) = record {
   answer = Ok (Some (Done w.ticket (status entry) (dw0 entry) (answer_len w.received (status entry))));
   driver = consumed d lane entry;
   calls = Writes (head_doorbell lane) (head_of (consumed_ends (ends lane d) (sq_head entry))) ∷ [];
-  bytes = slice_range window (data_area (cid entry)) (data_area (cid entry) + answer_len w.received (status entry));
+  bytes = part;
 }
+
+abbrev pub handed_up : Driver → Found → List ℕ → Poll
+handed_up d f part = delivered d f.lane f.entry part (answered d f.lane f.entry)
+
+-- those in a window
+abbrev pub data_in : List ℕ → List ℕ → Option Waiting → List ℕ
+data_in window entry None = []
+data_in window entry (Some w) =
+    slice_range window (data_area (cid entry)) (data_area (cid entry) + answer_len w.received (status entry))
+
+abbrev pub answered_poll : Driver → List ℕ → Lane → List ℕ → Option Waiting → Poll
+answered_poll d window lane entry request = delivered d lane entry (data_in window entry request) request
 
 abbrev pub entry_poll : Driver → List ℕ → Lane → List ℕ → Poll
 entry_poll d window lane entry = answered_poll d window lane entry (answered d lane entry)
@@ -176,13 +205,56 @@ abbrev pub handed_len : Result (Option Answer) PollFault → ℕ
 handed_len (Ok (Some (Done ticket status dw0 len))) = len
 handed_len other = 0
 
--- A poll of a driver over a window, with its calls of the port. The outcome is that for the slot of the oldest aborted
--- request, if there is one: the answer, the driver afterwards, the calls, and the front of the buffer.
-abbrev pub IsPolled :
+-- The looks of a poll: at the next completion of the admin lane, and if that is not new, at the next one of the I/O
+-- lane. Then the data of the request that a new one answers are loaded.
+abbrev pub look : Lane → Ends → Option (List ℕ) → Call
+look lane e seen = Sees lane (head_of e) (phase_of e) seen
+
+abbrev pub looks_at : Driver → Lane → List ℕ → List Call
+looks_at d Admin entry = look Admin d.admin (Some entry) ∷ []
+looks_at d Io entry = look Admin d.admin None ∷ look Io d.io (Some entry) ∷ []
+
+abbrev pub looks : Driver → Option Found → List Call
+looks d None = look Admin d.admin None ∷ look Io d.io None ∷ []
+looks d (Some f) = looks_at d f.lane f.entry
+
+abbrev pub loads : List ℕ → List ℕ → Option Waiting → List Call
+loads entry part None = []
+loads entry part (Some w) = Loads (data_area (cid entry)) part ∷ []
+
+abbrev pub entry_loads : Driver → List ℕ → Lane → List ℕ → List Call
+entry_loads d window lane entry =
+    loads entry (data_in window entry (answered d lane entry)) (answered d lane entry)
+
+abbrev pub found_loads : Driver → List ℕ → Option Found → List Call
+found_loads d window None = []
+found_loads d window (Some f) = entry_loads d window f.lane f.entry
+
+abbrev pub poll_looks : Driver → Option ℕ → List ℕ → List Call
+poll_looks d (Some slot) window = []
+poll_looks d None window =
+    if is_up d.state then looks d (found d window) ++ found_loads d window (found d window) else []
+
+-- A poll of a driver. Some bytes of a window have what its looks and loads return; the device may write others before
+-- and after each call. The outcome is that for the slot of the oldest aborted request, if there is one: the answer, the
+-- driver afterwards, the calls, and the front of the buffer.
+pub record IsPolled {S : Type 0} (step : S → Call → S → Type 0) (d : Driver) (old : S)
+    (result : Result (Option Answer) PollFault) (d' : Driver) (new : S) (buffer : List ℕ) : Type 0 where
+  pub window : List ℕ
+  pub oldest : Option ℕ
+  pub is_oldest : IsOldest d.slots oldest
+  pub gives : result ≡ (polled d oldest window).answer
+  pub driver : d' ≡ (polled d oldest window).driver
+  pub calls : Calls step old (poll_looks d oldest window ++ (polled d oldest window).calls) new
+  pub front : take (length (polled d oldest window).bytes) buffer ≡ (polled d oldest window).bytes
+  pub size : length (polled d oldest window).bytes ≡ handed_len result
+
+-- The same over a window that only the driver and its calls change: it is that window, and looks and loads leave it.
+abbrev pub IsPolledOver :
     {S : Type 0} → (S → Call → S → Type 0) → Driver → List ℕ → S → Result (Option Answer) PollFault → Driver → S
     → List ℕ
     → Type 0
-IsPolled step d window old result d' new buffer =
+IsPolledOver step d window old result d' new buffer =
     (oldest : Option ℕ) × IsOldest d.slots oldest
     × (result ≡ (polled d oldest window).answer)
     × (d' ≡ (polled d oldest window).driver)

@@ -3,6 +3,8 @@
 use Rattle.std.specs.Prelude.{
   ◌≡◌,
   ℕ,
+  zero,
+  suc,
   ◌+◌,
   ◌-◌,
   ◌*◌,
@@ -21,6 +23,7 @@ use Rattle.std.specs.Prelude.{
   Option,
   None,
   Some,
+  MatchOption,
   Result,
   Ok,
   Err,
@@ -37,7 +40,7 @@ use Rattle.nvme_driver.specs.declared.state.State.{State}
 use Rattle.nvme_driver.specs.declared.state.State.TheVariants.{Down, Up}
 use Rattle.nvme_driver.specs.declared.faults.UpFault.{UpFault}
 use Rattle.nvme_driver.specs.declared.faults.UpFault.TheVariants.{NotReady, NoAnswer, Refused}
-use Rattle.nvme_driver.specs.Calls.{Call, Stores, Writes, Reads, Calls, Awaits}
+use Rattle.nvme_driver.specs.Calls.{Call, Stores, Writes, Reads, Turns, Calls}
 use Rattle.nvme_driver.specs.Layout.{
   submission_entries,
   completion_entries,
@@ -50,7 +53,7 @@ use Rattle.nvme_driver.specs.Layout.{
   head_doorbell,
 }
 use Rattle.nvme_driver.specs.Drivers.{Ends, Driver, empty_ends, put_ends, tail_of, cc}
-use Rattle.nvme_driver.specs.Polls.{new_in, consumed_ends, head_of, is_success}
+use Rattle.nvme_driver.specs.Polls.{look, consumed_ends, head_of, is_success}
 
 -- the registers besides Controller Configuration: Controller Status, Admin Queue Attributes, and the two halves of the
 -- Admin Submission and Completion Queue Base Addresses
@@ -161,8 +164,12 @@ abbrev pub own_of : Ends → Option (List ℕ) → Option (List ℕ)
 own_of e None = None
 own_of e (Some entry) = if answers_own e entry then Some entry else None
 
-abbrev pub own_answer : Ends → List ℕ → Option (List ℕ)
-own_answer e window = own_of e (new_in Admin e window)
+-- the device gets at most this number of turns, until a look after one of them finds the answer to such a command
+unfoldable pub Awaits : {S : Type 0} → (S → Call → S → Type 0) → Ends → ℕ → S → Option (List ℕ) → S → Type 0
+Awaits step e zero old answer new = (answer ≡ None) × (new ≡ old)
+Awaits {S} step e (suc n) old answer new =
+    (mid : S) × (seen : Option (List ℕ)) × Calls step old (Turns ∷ look Admin e seen ∷ []) mid
+    × MatchOption (own_of e seen) (Awaits step e n mid answer new) (λ found. (answer ≡ Some found) × (new ≡ mid))
 
 -- it is consumed, and its head doorbell is written
 abbrev pub heard_own : Driver → List ℕ → Driver
@@ -180,12 +187,11 @@ Hears step d (Some entry) old result d' new =
 -- Such a command is put and rung; the driver waits for its answer for at most four turns, and consumes it. The result
 -- is the answer's status, if one came.
 unfoldable pub Creates :
-    {S : Type 0} → (S → Call → S → Type 0) → (S → List ℕ) → SqeFields → Driver → S → Option Status → Driver → S
-    → Type 0
-Creates {S} step bytes command d old result d' new =
+    {S : Type 0} → (S → Call → S → Type 0) → SqeFields → Driver → S → Option Status → Driver → S → Type 0
+Creates {S} step command d old result d' new =
     (rung : S) × (answer : Option (List ℕ)) × (seen : S)
     × Calls step old (send_calls d.admin command) rung
-    × Awaits step (λ p. own_answer (sent d).admin (bytes p)) 4 rung answer seen
+    × Awaits step (sent d).admin 4 rung answer seen
     × Hears step (sent d) answer seen result d' new
 
 -- the fault of the answer to such a command, unless it succeeded
@@ -199,22 +205,21 @@ Concludes None result d d' = (result ≡ Ok tt) × (d' ≡ record d { state = Up
 Concludes (Some fault) result d d' = (result ≡ Err fault) × (d' ≡ d)
 
 abbrev pub CreatesSubmissions :
-    {S : Type 0} → (S → Call → S → Type 0) → (S → List ℕ) → Option UpFault → Driver → S → Result (Unit {0}) UpFault
-    → Driver → S → Type 0
-CreatesSubmissions step bytes (Some fault) d old result d' new = (result ≡ Err fault) × (d' ≡ d) × (new ≡ old)
-CreatesSubmissions step bytes None d old result d' new =
-    (answer : Option Status) × (left : Driver) × Creates step bytes create_submission_queue d old answer left new
+    {S : Type 0} → (S → Call → S → Type 0) → Option UpFault → Driver → S → Result (Unit {0}) UpFault → Driver → S
+    → Type 0
+CreatesSubmissions step (Some fault) d old result d' new = (result ≡ Err fault) × (d' ≡ d) × (new ≡ old)
+CreatesSubmissions step None d old result d' new =
+    (answer : Option Status) × (left : Driver) × Creates step create_submission_queue d old answer left new
     × Concludes (fault_of answer) result left d'
 
 -- a ready controller creates both queues, on command
 abbrev pub CreatesBoth :
-    {S : Type 0} → (S → Call → S → Type 0) → (S → List ℕ) → Bool → Driver → S → Result (Unit {0}) UpFault
-    → Driver → S → Type 0
-CreatesBoth step bytes false d old result d' new = (result ≡ Err NotReady) × (d' ≡ d) × (new ≡ old)
-CreatesBoth {S} step bytes true d old result d' new =
+    {S : Type 0} → (S → Call → S → Type 0) → Bool → Driver → S → Result (Unit {0}) UpFault → Driver → S → Type 0
+CreatesBoth step false d old result d' new = (result ≡ Err NotReady) × (d' ≡ d) × (new ≡ old)
+CreatesBoth {S} step true d old result d' new =
     (answer : Option Status) × (left : Driver) × (mid : S)
-    × Creates step bytes create_completion_queue d old answer left mid
-    × CreatesSubmissions step bytes (fault_of answer) left mid result d' new
+    × Creates step create_completion_queue d old answer left mid
+    × CreatesSubmissions step (fault_of answer) left mid result d' new
 
 -- the state of the driver, which was down, after that
 abbrev pub risen_state : Result (Unit {0}) UpFault → State
@@ -223,8 +228,7 @@ risen_state (Err fault) = Down
 
 -- a driver that is down comes up, or returns why not
 unfoldable pub Rises :
-    {S : Type 0} → (S → Call → S → Type 0) → (S → List ℕ) → Driver → S → Result (Unit {0}) UpFault → Driver → S
-    → Type 0
-Rises {S} step bytes d old result d' new =
+    {S : Type 0} → (S → Call → S → Type 0) → Driver → S → Result (Unit {0}) UpFault → Driver → S → Type 0
+Rises {S} step d old result d' new =
     (value : ℕ) × (on : S) × Calls step old (start_calls value) on
-    × CreatesBoth step bytes (is_ready value) (started d) on result d' new
+    × CreatesBoth step (is_ready value) (started d) on result d' new

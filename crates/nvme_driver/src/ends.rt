@@ -1,10 +1,10 @@
 //! The host's ends of the two queues of a lane (queue pair).
 
 ghost use Rattle.std.specs.Prelude.{◌≡◌, ◌<◌, ◌==◌, true};
-ghost use Rattle.nvme_spec.specs.Queues.{submission_room, can_be_heard, phase_tag};
+ghost use Rattle.nvme_spec.specs.Queues.{submission_room, can_be_heard};
 ghost use Rattle.nvme_driver.specs.Layout.{completion_entries};
 ghost use Rattle.nvme_driver.specs.Drivers.{empty_ends, put_ends, tail_of};
-ghost use Rattle.nvme_driver.specs.Polls.{consumed_ends, head_of};
+ghost use Rattle.nvme_driver.specs.Polls.{consumed_ends, head_of, phase_of};
 
 use crate::layout::{COMPLETION_ENTRIES, SUBMISSION_ENTRIES};
 use nvme_ring::{CqHead, SqTail};
@@ -75,7 +75,7 @@ impl Ends {
 
     /// The phase tag of the next completion.
     pub fn phase(&self) -> bool
-        ensures { result ≡ phase_tag completion_entries self.now.head.consumed }
+        ensures { result ≡ phase_of self.now }
     {
         self.head.phase()
     }

@@ -9,9 +9,13 @@ ghost use Rattle.nvme_driver.specs.Pointers.{
   StoresKeepLists,
   ListsKeepOthers,
 };
-ghost use Rattle.nvme_driver.specs.Once.{HandsUpOutstanding, HandsUpOnce};
+ghost use Rattle.nvme_driver.specs.Moments.{PollsAreOfMoments};
+ghost use Rattle.nvme_driver.specs.Once.{HandsUpOutstanding, HandsUpOnce, PollsAreEvents};
 ghost use Rattle.nvme_driver.specs.Drivers.{EntriesMoveTheirData};
 ghost use Rattle.nvme_driver.specs.HostCommands.{RequestsAreCommands};
+ghost use Rattle.nvme_driver.specs.Snapshots.{SnapshotsAreOfOneMoment, PollsAreOfOneMoment};
+
+use crate::port::Port;
 
 /// The parts of the window: each is in it, no two have a common byte, and entries are in their queue's page.
 #[tactic(auto, using(crate::proofs::Areas::areas_lie_in_window, crate::proofs::Areas::areas_are_apart, crate::proofs::Areas::entries_lie_in_their_pages))]
@@ -41,6 +45,26 @@ pub fn lists()
 pub fn tickets()
     ensures outstanding { HandsUpOutstanding }
     ensures once { HandsUpOnce }
+{}
+
+/// So it is of the polls over any port, whatever its device writes, and whenever: each is an event of such a run.
+pub fn polls<P: Port>()
+    ensures { PollsAreEvents P.step }
+{}
+
+/// A poll over memory that a device writes while it is read is a poll of one lane (queue pair) of that memory at one
+/// moment, or has found nothing new: if the port reads the double word with the phase tag first, and the device leaves
+/// a new completion, and the data of the request that it answers, until it is consumed.
+#[tactic(auto, using(crate::proofs::Moments::polls_are_of_moments))]
+pub fn moments<P: Port>()
+    ensures { PollsAreOfMoments P.step }
+{}
+
+/// So is a poll over a window into which a completion was copied from such memory, phase tag first, and then its data.
+#[tactic(auto, using(crate::proofs::Snapshots::snapshots_are_of_one_moment, crate::proofs::Snapshots::polls_are_of_one_moment))]
+pub fn snapshots()
+    ensures entry { SnapshotsAreOfOneMoment }
+    ensures poll { PollsAreOfOneMoment }
 {}
 
 /// A controller that reads the entry of a request transfers as many bytes as the request.

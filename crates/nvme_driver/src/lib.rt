@@ -30,6 +30,7 @@ mod ticket;
 pub use answer::Answer;
 pub use driver::Driver;
 pub use faults::{NotUp, PlaceRefusal, PollFault, UpFault};
+pub use found::entry_seen;
 pub use host_command::{HostCommand, HostData};
 pub use lane::Lane;
 pub use port::Port;

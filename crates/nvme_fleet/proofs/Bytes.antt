@@ -35,6 +35,8 @@ use Rattle.nvme_fleet.proofs.Words.{
   UpFault,
   Call,
   Turns,
+  Sees,
+  Loads,
   Driver,
   stores_of,
   Rises,
@@ -211,6 +213,8 @@ ran-window tells k j events given old new other own run = absurd run
 
 of-call : (k : ℕ) (one : Call) → AreOf k (events_of k one)
 of-call k Turns = (refl, (refl, tt))
+of-call k (Sees lane head expected seen) = tt
+of-call k (Loads at part) = tt
 of-call k one = (refl, tt)
 
 of-calls : (k : ℕ) (calls : List Call) → AreOf k (events_of_calls k calls)
@@ -219,16 +223,15 @@ of-calls k (one ∷ calls) = all-joined (λ e. machine.controller_of e ≡ k) (e
     (of-call k one) (of-calls k calls)
 
 rises-window : (tells : Bool) (k j : ℕ) (d d' : Driver) (old new : Subsystem) (result : Result (Unit {0}) UpFault)
-    → j ≢ k → Rises (CallStep tells k) (λ s. window_at s k) d old result d' new → window_at new j ≡ window_at old j
+    → j ≢ k → Rises (CallStep tells k) d old result d' new → window_at new j ≡ window_at old j
 rises-window tells k j d d' old new result other h =
-    let m : IsMapped (λ (s : Subsystem). s) (CallStep tells k) (CallStep tells k) (λ s. window_at s k)
-    (λ s. window_at s k) (λ s. window_at s j ≡ window_at old j) = record {
+    let m : IsMapped (λ (s : Subsystem). s) (CallStep tells k) (CallStep tells k)
+    (λ s. window_at s j ≡ window_at old j) = record {
       call = λ one p q fact over.
           (over, ran-window tells k j (events_of k one) over.given p q other (of-call k one) over.run ∙ fact);
-      same = λ p fact. refl;
     } in
-    let r = rises-mapped (λ (s : Subsystem). s) (CallStep tells k) (CallStep tells k) (λ s. window_at s k)
-    (λ s. window_at s k) (λ s. window_at s j ≡ window_at old j) m d d' old new result refl h in
+    let r = rises-mapped (λ (s : Subsystem). s) (CallStep tells k) (CallStep tells k)
+    (λ s. window_at s j ≡ window_at old j) m d d' old new result refl h in
     r.1
 
 does-window : (tells : Bool) (k j : ℕ) (what : DriverCall) (d d' : Driver) (old new : Subsystem) (x : FleetSeen)

@@ -42,6 +42,7 @@ use Rattle.nvme_fleet.proofs.Words.{
   Result,
   Rings,
   Rises,
+  Seen,
   Setting,
   Some,
   Sound,
@@ -80,7 +81,6 @@ use Rattle.nvme_fleet.proofs.Words.{
   tail_of,
   take,
   window_at,
-  window_in,
   ℕ,
   ◌+◌,
   ◌∙◌,
@@ -97,6 +97,9 @@ use Rattle.nvme_driver.specs.declared.answer.Answer.TheVariants.{Done}
 use Rattle.nvme_driver.specs.declared.state.State.{State}
 use Rattle.nvme_driver.specs.Drivers as driver
 use Rattle.nvme_driver.specs.Polls as poll
+use Rattle.nvme_driver.specs.Ports.{IsStill}
+use Rattle.nvme_driver.proofs.Still.{polls-still}
+use Rattle.nvme_machine.specs.Subsystems.{Run}
 use Rattle.nvme_event.specs.declared.seen.FleetSeen.TheVariants as seen
 use Rattle.nvme_mailbox.specs.Deliveries as mail
 use Rattle.nvme_refinement.proofs.AdminTurns.{IsAdmin}
@@ -107,6 +110,7 @@ use Rattle.nvme_fleet.proofs.LinkCalls.{
   calls-made,
   done,
   fresh-call,
+  none-ran,
   fresh-start,
   window-there,
 }
@@ -195,18 +199,42 @@ for-polled tells k d window oldest old new =
     (λ answer u e h. undone-consumes tells k answer old new u (nothing-ran tells old new h))
     (λ v e lane entry w h. (lane, head_of (consumed_ends (ends lane e) (sq_head entry)), h)) d oldest window
 
+-- Looks and loads leave the link, and return what is in the window of its controller.
+abbrev window_of_link : {M : Type 0} → OverMedium Linked M → List ℕ
+window_of_link p = window_at p.state.subsystem (p.state.place + 1)
+
+stays : {M : Type 0} (tells : Bool) (p q : OverMedium Linked M) (given : List Seen)
+    → Run tells p.state.subsystem [] given q.state.subsystem → q.state.place ≡ p.state.place
+    → q.state.name ≡ p.state.name → q.medium ≡ p.medium → q ≡ p
+stays tells p q given run place name medium =
+    let same = none-ran tells p.state.subsystem q.state.subsystem given run in
+    λ i. record { state = record { subsystem = same i; place = place i; name = name i }; medium = medium i }
+
+still : {M : Type 0} (step : M → MediumCall → M → Type 0) (tells : Bool)
+    → IsStill (CallOverMedium step tells) window_of_link
+still step tells = record {
+  sees = λ lane head expected seen p q h. (
+    h.over.step.answers,
+    stays tells p q h.over.step.given h.over.step.run h.over.place h.over.name h.medium,
+  );
+  loads = λ at part p q h. (
+    h.over.step.answers,
+    stays tells p q h.over.step.given h.over.step.run h.over.place h.over.name h.medium,
+  );
+}
+
 -- with the bytes of the mailbox's reply at the front of the buffer
-pub polls : {M : Type 0} (step : M → MediumCall → M → Type 0) (tells : Bool)
+polls-over : {M : Type 0} (step : M → MediumCall → M → Type 0) (tells : Bool)
     (d e : Driver) (p q : OverMedium Linked M) (result : Result (Option Answer) PollFault) (buffer : List ℕ)
     → Sound d (linked_controller p.state) → Reaches p.state
     → IsSameName p q
-    → poll.IsPolled (CallOverMedium step tells) d (linked_controller p.state).window p result e q buffer
+    → poll.IsPolledOver (CallOverMedium step tells) d (linked_controller p.state).window p result e q buffer
     → HasDone (mail.polled (mailbox d (linked_controller p.state))) e p q
     (record { seen = seen.Polled result; bytes = (mail.polled (mailbox d (linked_controller p.state))).reply.bytes })
     (Polls tells (p.state.place + 1) d p.state.subsystem result e q.state.subsystem)
     × (take (length (mail.polled (mailbox d (linked_controller p.state))).reply.bytes) buffer
     ≡ (mail.polled (mailbox d (linked_controller p.state))).reply.bytes)
-polls step tells d e p q result buffer s at name (oldest, is, gives, after, calls, front) =
+polls-over step tells d e p q result buffer s at name (oldest, is, gives, after, calls, front) =
     let a : Subsystem = p.state.subsystem in
     let k : ℕ = p.state.place + 1 in
     let w : List ℕ = (linked_controller p.state).window in
@@ -229,6 +257,23 @@ polls step tells d e p q result buffer s at name (oldest, is, gives, after, call
           }),
       subst (λ xs. take (length xs) buffer ≡ xs) (sym bytes) front,
     )
+
+pub polls : {M : Type 0} (step : M → MediumCall → M → Type 0) (tells : Bool)
+    (d e : Driver) (p q : OverMedium Linked M) (result : Result (Option Answer) PollFault) (buffer : List ℕ)
+    → Sound d (linked_controller p.state) → Reaches p.state
+    → IsSameName p q
+    → poll.IsPolled (CallOverMedium step tells) d p result e q buffer
+    → HasDone (mail.polled (mailbox d (linked_controller p.state))) e p q
+    (record { seen = seen.Polled result; bytes = (mail.polled (mailbox d (linked_controller p.state))).reply.bytes })
+    (Polls tells (p.state.place + 1) d p.state.subsystem result e q.state.subsystem)
+    × (take (length (mail.polled (mailbox d (linked_controller p.state))).reply.bytes) buffer
+    ≡ (mail.polled (mailbox d (linked_controller p.state))).reply.bytes)
+polls step tells d e p q result buffer s at name h =
+    let same : (linked_controller p.state).window ≡ window_of_link p =
+    sym (window-there p.state.subsystem (p.state.place + 1) p.state.place refl at.0) in
+    polls-over step tells d e p q result buffer s at name
+    (subst (λ w. poll.IsPolledOver (CallOverMedium step tells) d w p result e q buffer) (sym same)
+    (polls-still (CallOverMedium step tells) window_of_link (still step tells) d e p q result buffer h))
 
 -- Resetting writes 0 to Controller Configuration.
 pub resets : {M : Type 0} (step : M → MediumCall → M → Type 0) (tells : Bool) (d e : Driver) (p q : OverMedium Linked M)
@@ -266,35 +311,27 @@ stays-up step tells d e p q result s at name up is same h =
     (subst (λ r. ComesUp tells (p.state.place + 1) d p.state.subsystem r e q.state.subsystem) (sym is)
     (same, nothing-ran tells p.state.subsystem q.state.subsystem made.ran))
 
-abbrev window_over : {M : Type 0} → OverMedium Linked M → List ℕ
-window_over p = (linked_controller p.state).window
-
 comes-up : {M : Type 0} (step : M → MediumCall → M → Type 0) (tells : Bool) (d e : Driver) (p q : OverMedium Linked M)
     (result : Result (Unit {0}) UpFault) → Sound d (linked_controller p.state) → Reaches p.state → IsSameName p q
-    → d.state ≡ Down → Rises (CallOverMedium step tells) window_over d p result e q → HasRisen tells d e p q result
+    → d.state ≡ Down → Rises (CallOverMedium step tells) d p result e q → HasRisen tells d e p q result
 comes-up {M} step tells d e p q result s at name down h =
     let k : ℕ = p.state.place + 1 in
     let fresh : IsFresh p p =
     fresh-start p at (subst (AllByRecursion IsAdmin) (sym (s.down (ap is_up down)).fetched) tt) in
     let setting : OverMedium Linked M → Setting = λ x. linked_setting x.state in
     let subsystem : OverMedium Linked M → Subsystem = λ x. x.state.subsystem in
-    let there : IsMapped setting (CallOverMedium step tells) (LinkStep tells) window_over window_in (IsFresh p) =
-    record {
-      call = λ call x y f one. fresh-call step tells p call x y f one;
-      same = λ x f. refl;
-    } in
-    let below : IsMapped subsystem (CallOverMedium step tells) (CallStep tells k) window_over (λ z. window_at z k)
-    (IsFresh p) = record {
+    let there : IsMapped setting (CallOverMedium step tells) (LinkStep tells) (IsFresh p) =
+    record { call = λ call x y f one. fresh-call step tells p call x y f one } in
+    let below : IsMapped subsystem (CallOverMedium step tells) (CallStep tells k) (IsFresh p) = record {
       call = λ call x y f one. (
         subst (λ n. CallStep tells (n + 1) x.state.subsystem call y.state.subsystem) f.place one.over.step,
         (fresh-call step tells p call x y f one).1,
       );
-      same = λ x f. window-there x.state.subsystem k x.state.place (ap (λ n. n + 1) (sym f.place)) f.reaches.0;
     } in
-    let one = rises-mapped setting (CallOverMedium step tells) (LinkStep tells) window_over window_in
-    (IsFresh p) there d e p q result fresh h in
-    let two = rises-mapped subsystem (CallOverMedium step tells) (CallStep tells k) window_over (λ z. window_at z k)
-    (IsFresh p) below d e p q result fresh h in
+    let one =
+    rises-mapped setting (CallOverMedium step tells) (LinkStep tells) (IsFresh p) there d e p q result fresh h in
+    let two =
+    rises-mapped subsystem (CallOverMedium step tells) (CallStep tells k) (IsFresh p) below d e p q result fresh h in
     let r = bring_up_is_a_step tells d e (linked_setting p.state) (linked_setting q.state) result s down one.0 in
     let says : (mail.brought_up (mailbox d (linked_controller p.state))).reply ≡ mail.plain (seen.Up (Ok tt)) =
     rw (ap is_up down) refl in
@@ -310,7 +347,7 @@ comes-up {M} step tells d e p q result s at name down h =
         name = cc (name);
       };
       below = subst (λ x. ComesUp tells k d p.state.subsystem x e q.state.subsystem) (sym r.answered)
-          (subst (λ x. Rises (CallStep tells k) (λ z. window_at z k) d p.state.subsystem x e q.state.subsystem)
+          (subst (λ x. Rises (CallStep tells k) d p.state.subsystem x e q.state.subsystem)
           r.answered two.0);
       medium = one.1.medium;
     }
@@ -319,7 +356,7 @@ rises-by : {M : Type 0} (step : M → MediumCall → M → Type 0) (tells : Bool
     (p q : OverMedium Linked M) (result : Result (Unit {0}) UpFault) (state : State)
     → d.state ≡ state → Sound d (linked_controller p.state) → Reaches p.state
     → IsSameName p q → (is_down state ≡ false → (result ≡ Err AlreadyUp) × (e ≡ d) × (q ≡ p))
-    → (is_down state ≡ true → Rises (CallOverMedium step tells) window_over d p result e q)
+    → (is_down state ≡ true → Rises (CallOverMedium step tells) d p result e q)
     → HasRisen tells d e p q result
 rises-by step tells d e p q result Down is s at name already rises =
     comes-up step tells d e p q result s at name is (rises refl)
@@ -331,7 +368,7 @@ rises-by step tells d e p q result Failed is s at name already rises =
 pub rises : {M : Type 0} (step : M → MediumCall → M → Type 0) (tells : Bool) (d e : Driver) (p q : OverMedium Linked M)
     (result : Result (Unit {0}) UpFault) → Sound d (linked_controller p.state) → Reaches p.state → IsSameName p q
     → (is_down d.state ≡ false → (result ≡ Err AlreadyUp) × (e ≡ d) × (q ≡ p))
-    → (is_down d.state ≡ true → Rises (CallOverMedium step tells) window_over d p result e q)
+    → (is_down d.state ≡ true → Rises (CallOverMedium step tells) d p result e q)
     → HasRisen tells d e p q result
 rises step tells d e p q result s at name already up =
     rises-by step tells d e p q result d.state refl s at name already up

@@ -81,6 +81,9 @@ use Rattle.nvme_fleet.proofs.Words.{
   Stores,
   Writes,
   Reads,
+  Sees,
+  Loads,
+  seen_in,
   Value,
   Reaction,
   after_store,
@@ -94,6 +97,8 @@ use Rattle.nvme_fleet.proofs.Words.{
   window_at,
   window_of,
 }
+use Rattle.std.specs.Prelude.{slice_range}
+use Rattle.nvme_driver.specs.declared.lane.Lane.{Lane}
 use Rattle.nvme_mailbox.proofs.Lists.{all-get}
 use Rattle.nvme_spec.specs.MediumCalls.{Calls as CallsMade}
 use Rattle.nvme_machine.specs.declared.event.Event.TheVariants.{Fetch, Execute}
@@ -177,6 +182,21 @@ is-put a b i s there h =
     ap (λ c. setting c s.world s.device) (get_or-set_same a.controllers i s.controller (new_controller 0) there) in
     subst (λ x. IsPut a x i s) (sym h) (record { setting_is = same; others = ap (with_setting a i) (sym same) })
 
+same-put : (a : Subsystem) (i : ℕ) → a ≡ with_controller_at a i (controller_in a i)
+same-put a i = ap (λ cs. (let s : Subsystem = record a { controllers = cs } in s))
+    (sym (set-get_or a.controllers i (new_controller 0)))
+
+-- the window of a controller
+pub window-there : (s : Subsystem) (k i : ℕ) → k ≡ i + 1 → i < length s.controllers
+    → window_at s k ≡ (controller_in s i).window
+window-there s k i at there = ap window_of
+    (numbers.at-place s k i (controller_in s i) at (slice_get-get_or s.controllers i (new_controller 0) there))
+
+-- no events
+pub none-ran : (tells : Bool) (a b : Subsystem) (given : List Seen) → Run tells a [] given b → b ≡ a
+none-ran tells a b [] r = r
+none-ran tells a b (x ∷ given) r = absurd r
+
 -- A call is a step of the setting, and the others stay.
 pub record IsStepThere (tells : Bool) (call : Call) (a b : Subsystem) (i : ℕ) : Type 0 where
   pub step : LinkStep tells (setting_in a i) call (setting_in b i)
@@ -206,6 +226,23 @@ plain-there tells (Reads offset v) a b i plain there s =
     let q = is-put a b i (with_controller (setting_in a i) (controller_in a i)) there p.leaves in
     record { step = (value-is r.gives v _ s.given r.alone s.answers p.gives, q.setting_is); others = q.others }
 plain-there tells Turns a b i plain there s = absurd plain
+plain-there tells (Sees lane head expected seen) a b i plain there s =
+    let same = none-ran tells a b s.given s.run in
+    let q = is-put a b i (setting_in a i) there (same ∙ same-put a i) in
+    record {
+      step = (s.answers ∙ ap (seen_in lane head expected) (window-there a (i + 1) i refl there), q.setting_is);
+      others = q.others;
+    }
+plain-there tells (Loads at part) a b i plain there s =
+    let same = none-ran tells a b s.given s.run in
+    let q = is-put a b i (setting_in a i) there (same ∙ same-put a i) in
+    record {
+      step = (
+        s.answers ∙ ap (λ w. slice_range w at (at + length part)) (window-there a (i + 1) i refl there),
+        q.setting_is,
+      );
+      others = q.others;
+    }
 
 -- an execution that marks nothing leaves every controller
 none-marked : (w : World) (x : Executed) (cs : List Controller) → marks_in x ≡ no_marks → marks_after w x cs ≡ cs
@@ -243,12 +280,6 @@ turns-there tells a b i admin there named s =
       );
       others = q.others;
     }
-
--- the window of a controller
-pub window-there : (s : Subsystem) (k i : ℕ) → k ≡ i + 1 → i < length s.controllers
-    → window_at s k ≡ (controller_in s i).window
-window-there s k i at there = ap window_of
-    (numbers.at-place s k i (controller_in s i) at (slice_get-get_or s.controllers i (new_controller 0) there))
 
 -- An admin command makes no call.
 
@@ -310,6 +341,43 @@ kept-admin step tells Turns i a b before after admin there h =
     subst (λ cs. CallsMade step before cs after) (turn-none tells a b i h.are.0 h.calls admin there h.are.1) h.made
 kept-admin step tells call i a b before after admin there h = h
 
+-- A look and a load are calls over a link that leave it.
+pub seen-over : {M : Type 0} (step : M → MediumCall → M → Type 0) (tells : Bool) (p : OverMedium Linked M) (lane : Lane)
+    (head : ℕ) (expected : Bool) (seen : Option (List ℕ)) → p.state.place < length p.state.subsystem.controllers
+    → seen ≡ seen_in lane head expected (linked_controller p.state).window
+    → CallOverMedium step tells p (Sees lane head expected seen) p
+seen-over step tells p lane head expected seen there is = record {
+  over = record {
+    step = record {
+      given = [];
+      run = refl;
+      answers = is ∙ ap (seen_in lane head expected)
+          (sym (window-there p.state.subsystem (p.state.place + 1) p.state.place refl there));
+    };
+    place = refl;
+    name = refl;
+  };
+  medium = refl;
+}
+
+pub loaded-over : {M : Type 0} (step : M → MediumCall → M → Type 0) (tells : Bool) (p : OverMedium Linked M) (at : ℕ)
+    (part : List ℕ) → p.state.place < length p.state.subsystem.controllers
+    → part ≡ slice_range (linked_controller p.state).window at (at + length part)
+    → CallOverMedium step tells p (Loads at part) p
+loaded-over step tells p at part there is = record {
+  over = record {
+    step = record {
+      given = [];
+      run = refl;
+      answers = is ∙ ap (λ w. slice_range w at (at + length part))
+          (sym (window-there p.state.subsystem (p.state.place + 1) p.state.place refl there));
+    };
+    place = refl;
+    name = refl;
+  };
+  medium = refl;
+}
+
 -- Consecutive runs.
 runs-both : (tells : Bool) (a b c : Subsystem) (es fs : List Event) (xs ys : List Seen)
     → Run tells a es xs b → Run tells b fs ys c → Run tells a (es ++ fs) (xs ++ ys) c
@@ -326,10 +394,6 @@ pub record AreMade {M : Type 0} (tells : Bool) (calls : List Call) (p q : OverMe
       (after_calls calls (linked_controller p.state))
   pub place : q.state.place ≡ p.state.place
   pub medium : q.medium ≡ p.medium
-
-same-put : (a : Subsystem) (i : ℕ) → a ≡ with_controller_at a i (controller_in a i)
-same-put a i = ap (λ cs. (let s : Subsystem = record a { controllers = cs } in s))
-    (sym (set-get_or a.controllers i (new_controller 0)))
 
 put-twice : (a : Subsystem) (i : ℕ) (c : Controller) (f : Controller → Controller) → i < length a.controllers
     → with_controller_at (with_controller_at a i c) i (f (controller_in (with_controller_at a i c) i))

@@ -24,7 +24,7 @@ use Rattle.nvme_fleet.proofs.Words.{
 }
 use Rattle.std.specs.Borrow.{GName}
 use Rattle.nvme_machine.specs.Subsystems.{Run, Step}
-use Rattle.nvme_fleet.specs.DriverEvents.{ReturnsWhatIsSeen}
+use Rattle.nvme_fleet.specs.DriverEvents.{ReturnsWhatIsSeen, window_at}
 
 pub there-after : (tells : Bool) (old new : Subsystem) (event : Event) (given : Seen) (k : ℕ)
     → Step tells old event given new → IsThere old k → IsThere new k
@@ -34,7 +34,7 @@ there-after tells old new event given k step h = let e = step-count tells old ne
 -- a call that is these events of the controller
 pub called-over : {M : Type 0} (step : M → MediumCall → M → Type 0)
     (tells : Bool) (k : ℕ) (call : Call) (given : List Seen) (old new : Subsystem) (name : GName) (before after : M)
-    → 1 ≤ k → Run tells old (events_of k call) given new → ReturnsWhatIsSeen call given
+    → 1 ≤ k → Run tells old (events_of k call) given new → ReturnsWhatIsSeen call (window_at old k) given
     → ReachesMedium step tells k old new call before after
     → CallOverMedium step tells
     (record { state = record { subsystem = old; place = k - 1; name = name }; medium = before }) call

@@ -48,6 +48,8 @@ use Rattle.nvme_fleet.proofs.Words.{
   Writes,
   Reads,
   Turns,
+  Sees,
+  Loads,
   Calls,
   Driver,
   CreatesBoth,
@@ -96,7 +98,6 @@ use Rattle.nvme_fleet.proofs.Words.{
   scene_over,
   CallStep,
   events_of,
-  window_at,
   after_call,
 }
 use Rattle.nvme_mailbox.proofs.Lists.{all-get, all-removed}
@@ -118,7 +119,7 @@ use Rattle.nvme_machine.specs.Subsystems.{
 }
 use Rattle.nvme_machine.proofs.Staying.{replaced-same}
 use Rattle.nvme_refinement.proofs.PlainCalls.{IsPlain}
-use Rattle.nvme_fleet.proofs.LinkCalls.{one-ran, value-is}
+use Rattle.nvme_fleet.proofs.LinkCalls.{none-ran, one-ran, value-is}
 use Rattle.nvme_refinement.proofs.AdminTurns.{
   AreAdmin,
   IsAdmin,
@@ -191,6 +192,10 @@ call-at P Q tells (Reads offset v) k p q plain moves h known =
     let one = one-ran tells p q (event.Read32 k offset) h.given h.run in
     react-at P Q (controller_at p k) p q k _ one.gives moves refl one.step known
 call-at P Q tells Turns k p q plain moves h known = absurd plain
+call-at P Q tells (Sees lane head expected seen) k p q plain moves h known = λ c there.
+    moves c (known c (ap (λ s. controller_at s k) (sym (none-ran tells p q h.given h.run)) ∙ there))
+call-at P Q tells (Loads at part) k p q plain moves h known = λ c there.
+    moves c (known c (ap (λ s. controller_at s k) (sym (none-ran tells p q h.given h.run)) ∙ there))
 
 -- A start leaves no fetched I/O command, or a controller that is not ready.
 
@@ -392,9 +397,18 @@ record IsCallOver (k : ℕ) (call : Call) (p q : Subsystem) (m : Device) : Type 
 
 call-over : (k : ℕ) (m : Device) (call : Call) (p q : Subsystem) → At AreAdmin k p → CallStep true k p call q
     → IsCallOver k call p q m
+unfolding controller_at
 call-over k m Turns p q all h =
     let r = turn-run k h.given p q m all h.run in
     record { step = record { given = h.given; run = r.0; answers = h.answers }; admin = r.1 }
+call-over k m (Sees lane head expected seen) p q all h = record {
+  step = record { given = h.given; run = quiet-run true [] h.given p q m tt h.run; answers = h.answers };
+  admin = call-at AreAdmin AreAdmin true (Sees lane head expected seen) k p q tt (λ c is. is) h all;
+}
+call-over k m (Loads at part) p q all h = record {
+  step = record { given = h.given; run = quiet-run true [] h.given p q m tt h.run; answers = h.answers };
+  admin = call-at AreAdmin AreAdmin true (Loads at part) k p q tt (λ c is. is) h all;
+}
 call-over k m one p q all h = record {
   step = record {
     given = h.given;
@@ -406,8 +420,19 @@ call-over k m one p q all h = record {
 
 plain-calls : (k : ℕ) (m : Device) (calls : List Call) (p q : Subsystem)
     → IsPlain calls → Calls (CallStep true k) p calls q → Calls (CallStep true k) (over m p) calls (over m q)
+unfolding controller_at
 plain-calls k m [] p q plain h = ap (over m) h
 plain-calls k m (Turns ∷ calls) p q plain h = absurd plain
+plain-calls k m (Sees lane head expected seen ∷ calls) p q plain (mid, one, rest) = (
+  over m mid,
+  record { given = one.given; run = quiet-run true [] one.given p mid m tt one.run; answers = one.answers },
+  plain-calls k m calls mid q plain rest,
+)
+plain-calls k m (Loads at part ∷ calls) p q plain (mid, one, rest) = (
+  over m mid,
+  record { given = one.given; run = quiet-run true [] one.given p mid m tt one.run; answers = one.answers },
+  plain-calls k m calls mid q plain rest,
+)
 plain-calls k m (call ∷ calls) p q plain (mid, one, rest) = (
   over m mid,
   record {
@@ -419,23 +444,17 @@ plain-calls k m (call ∷ calls) p q plain (mid, one, rest) = (
 )
 
 both-over : (ready : Bool) (k : ℕ) (m : Device) (d d' : Driver) (p q : Subsystem) (result : Result (Unit {0}) UpFault)
-    → At AreAdmin k p ⊎ (ready ≡ false) → CreatesBoth (CallStep true k) (λ s. window_at s k) ready d p result d' q
-    → CreatesBoth (CallStep true k) (λ s. window_at s k) ready d (over m p) result d' (over m q)
-unfolding controller_at
+    → At AreAdmin k p ⊎ (ready ≡ false) → CreatesBoth (CallStep true k) ready d p result d' q
+    → CreatesBoth (CallStep true k) ready d (over m p) result d' (over m q)
 both-over ready k m d d' p q result (inl all) h =
-    let map : IsMapped (over m) (CallStep true k) (CallStep true k) (λ s. window_at s k) (λ s. window_at s k)
-    (At AreAdmin k) = record {
-      call = λ call r s there step. (let o = call-over k m call r s there step in (o.step, o.admin));
-      same = λ r there. refl;
-    } in
-    (both-mapped (over m) (CallStep true k) (CallStep true k) (λ s. window_at s k) (λ s. window_at s k)
-    (At AreAdmin k) map ready d d' p q result all h).0
+    let map : IsMapped (over m) (CallStep true k) (CallStep true k) (At AreAdmin k) =
+    record { call = λ call r s there step. (let o = call-over k m call r s there step in (o.step, o.admin)) } in
+    (both-mapped (over m) (CallStep true k) (CallStep true k) (At AreAdmin k) map ready d d' p q result all h).0
 both-over true k m d d' p q result (inr not) h = absurd (cc (not))
 both-over false k m d d' p q result (inr not) h = (h.0, h.1, ap (over m) h.2)
 
 pub rises-over : (k : ℕ) (m : Device) (d d' : Driver) (p q : Subsystem) (result : Result (Unit {0}) UpFault)
-    → Rises (CallStep true k) (λ s. window_at s k) d p result d' q
-    → Rises (CallStep true k) (λ s. window_at s k) d (over m p) result d' (over m q)
+    → Rises (CallStep true k) d p result d' q → Rises (CallStep true k) d (over m p) result d' (over m q)
 unfolding Rises
 rises-over k m d d' p q result (value, on, starts, both) = (
   value,

@@ -104,6 +104,8 @@ use Rattle.nvme_fleet.proofs.Words.{
   Rises,
   Seen,
   Turns,
+  Sees,
+  Loads,
   eqb,
   common_steps,
 }
@@ -139,7 +141,7 @@ same-slots d d' e = (ap (λ (x : Driver). x.slots) e, ap (λ (x : Driver). x.nex
 does-once : (tells : Bool) (k : ℕ) (what : DriverCall) (d d' : Driver) (old new : Subsystem) (x : FleetSeen)
     → Does tells k what d old x d' new → (e : once.Event) × once.Happens e d d'
 does-once tells k call.BringUp d d' old new x (Ok u, is, h) =
-    (once.Stays, rises-keeps (CallStep tells k) (λ s. window_at s k) d d' old new (Ok u) h)
+    (once.Stays, rises-keeps (CallStep tells k) d d' old new (Ok u) h)
 does-once tells k call.BringUp d d' old new x (Err fault, is, h) = (once.Stays, same-slots d d' h.0)
 does-once tells k (call.Place request) d d' old new x (Ok ticket, is, (slot, free, made, ran)) =
     (once.Places request slot, (free, made))
@@ -308,6 +310,7 @@ sure k base below = record {
       ∙ (machine.run_is_unique p r (event.Read32 k offset ∷ []) g.given g.run (e ∙ sym a) (low p base a below)).0
       ∙ sym (machine.run_is_unique p q (event.Read32 k offset ∷ []) h.given h.run (b ∙ sym a) (low p base a below)).0
       ∙ h.answers);
+  seen = λ lane head expected x y p q r a b e h g. g.answers ∙ sym h.answers;
 }
 
 -- A subsystem mapped to another one, in which all that executes nothing happens as well, and each bring-up.
@@ -318,12 +321,13 @@ pub record IsCarried (g : Subsystem → Subsystem) : Type 0 where
   pub run : (events : List Event) (given : List Seen) (p q : Subsystem)
       → AreQuiet events → machine_specs.Run true p events given q → machine_specs.Run true (g p) events given (g q)
   pub rises : (k : ℕ) (d d' : Driver) (p q : Subsystem) (result : Result (Unit {0}) UpFault)
-      → Rises (CallStep true k) (λ s. window_at s k) d p result d' q
-      → Rises (CallStep true k) (λ s. window_at s k) d (g p) result d' (g q)
+      → Rises (CallStep true k) d p result d' q → Rises (CallStep true k) d (g p) result d' (g q)
 
 quiet-calls : (k : ℕ) (calls : List Call) → IsPlain calls → AreQuiet (events_of_calls k calls)
 quiet-calls k [] plain = tt
 quiet-calls k (Turns ∷ calls) plain = absurd plain
+quiet-calls k (Sees lane head expected seen ∷ calls) plain = quiet-calls k calls plain
+quiet-calls k (Loads at part ∷ calls) plain = quiet-calls k calls plain
 quiet-calls k (one ∷ calls) plain = (tt, quiet-calls k calls plain)
 
 -- The mapped events have the same outcome.
@@ -343,7 +347,7 @@ up-alone : (g : Subsystem → Subsystem)
     → AreCalm (g old) (g new) other → ComesUp true k d old result d' new → ComesUp true k d (g old) result d'' other
     → Same g d' d'' new other
 up-alone g c k d d' d'' old new other (Ok u) calm h also =
-    let r = rises-alone (CallStep true k) count (count (g old)) (sure k (count (g old)) calm.below) (λ s. window_at s k)
+    let r = rises-alone (CallStep true k) count (count (g old)) (sure k (count (g old)) calm.below)
     d d' d'' (g old) (g new) other (Ok u) (Ok u) refl calm.one calm.two (c.rises k d d' old new (Ok u) h) also in
     (r.1, r.2)
 up-alone g c k d d' d'' old new other (Err fault) calm h also = (also.0 ∙ sym h.0, also.1 ∙ sym (ap g h.1))

@@ -43,6 +43,7 @@ pub use Rattle.nvme_refinement.proofs.Words.{
   Polled,
   QueuePair,
   Queues,
+  Loads,
   Reads,
   RegEffect,
   Registers,
@@ -54,6 +55,7 @@ pub use Rattle.nvme_refinement.proofs.Words.{
   Site,
   Some,
   Sound,
+  Sees,
   Stores,
   Ticket,
   Turns,
@@ -146,7 +148,6 @@ pub use Rattle.nvme_refinement.proofs.Words.{
   take,
   true,
   waiting_at,
-  window_in,
   window_size,
   with_admin_queues,
   with_bytes,
@@ -282,7 +283,7 @@ pub use Rattle.nvme_subsys.specs.Marked.{marks_after}
 pub use Rattle.nvme_subsys.specs.OverMedium.{OverMedium}
 pub use Rattle.nvme_driver.proofs.Mapped.{IsMapped, both-mapped, rises-mapped}
 pub use Rattle.nvme_driver.specs.Drivers.{is_down, ring_calls}
-pub use Rattle.nvme_driver.specs.Polls.{IsNotBelow, IsOldest, aborted_at, head_of}
+pub use Rattle.nvme_driver.specs.Polls.{IsNotBelow, IsOldest, aborted_at, head_of, seen_in}
 pub use Rattle.nvme_driver.specs.declared.faults.NotUp.{NotUp}
 pub use Rattle.nvme_driver.specs.declared.state.State.TheVariants.{Failed}
 pub use Rattle.nvme_event.specs.Bare.{seen_with}

@@ -1,5 +1,22 @@
 -- The events of the subsystem that each call of a driver is: exactly these events of its controller, in this order.
-use Rattle.std.specs.Prelude.{◌≡◌, ◌+◌, ℕ, Bool, List, [], ◌∷◌, ◌++◌, Option, Some, None, Result, Ok, Err}
+use Rattle.std.specs.Prelude.{
+  ◌≡◌,
+  ◌+◌,
+  ℕ,
+  Bool,
+  List,
+  [],
+  ◌∷◌,
+  ◌++◌,
+  length,
+  slice_range,
+  Option,
+  Some,
+  None,
+  Result,
+  Ok,
+  Err,
+}
 use Rattle.nvme_driver.specs.declared.request.Request.{Request}
 use Rattle.nvme_driver.specs.declared.ticket.Ticket.{Ticket}
 use Rattle.nvme_driver.specs.declared.answer.Answer.{Answer}
@@ -10,10 +27,10 @@ use Rattle.nvme_driver.specs.declared.faults.PollFault.{PollFault}
 use Rattle.nvme_driver.specs.declared.faults.UpFault.{UpFault}
 use Rattle.nvme_driver.specs.declared.lane.Lane.{Lane}
 use Rattle.nvme_driver.specs.declared.lane.Lane.TheVariants.{Admin, Io}
-use Rattle.nvme_driver.specs.Calls.{Call, Stores, Writes, Reads, Turns}
+use Rattle.nvme_driver.specs.Calls.{Call, Stores, Writes, Reads, Turns, Sees, Loads}
 use Rattle.nvme_driver.specs.Drivers.{Driver, free_slot, placed, stores_of, tail_of, after_reset, cc}
 use Rattle.nvme_driver.specs.Layout.{tail_doorbell, head_doorbell}
-use Rattle.nvme_driver.specs.Polls.{IsOldest, polled}
+use Rattle.nvme_driver.specs.Polls.{IsOldest, polled, seen_in}
 use Rattle.nvme_driver.specs.Rises.{Rises}
 use Rattle.nvme_machine.specs.declared.event.Event.{Event}
 use Rattle.nvme_machine.specs.declared.event.Event.TheVariants.{Store, Write32, Read32, Fetch, Execute}
@@ -41,19 +58,23 @@ events_of k (Stores address bytes) = Store k address (record { ref_ptr = (0, 0);
 events_of k (Writes offset v) = Write32 k offset v ∷ []
 events_of k (Reads offset v) = Read32 k offset ∷ []
 events_of k Turns = Fetch k 0 ∷ Execute k 0 ∷ []
+events_of k (Sees lane head expected seen) = []
+events_of k (Loads at part) = []
 
--- a read returns the value of its event
-abbrev pub ReturnsWhatIsSeen : Call → List Seen → Type 0
-ReturnsWhatIsSeen (Stores address bytes) given = Unit {0}
-ReturnsWhatIsSeen (Writes offset v) given = Unit {0}
-ReturnsWhatIsSeen (Reads offset v) given = given ≡ Value v ∷ []
-ReturnsWhatIsSeen Turns given = Unit {0}
+-- a read returns the value of its event; a look and a load return what the window has
+abbrev pub ReturnsWhatIsSeen : Call → List ℕ → List Seen → Type 0
+ReturnsWhatIsSeen (Stores address bytes) window given = Unit {0}
+ReturnsWhatIsSeen (Writes offset v) window given = Unit {0}
+ReturnsWhatIsSeen (Reads offset v) window given = given ≡ Value v ∷ []
+ReturnsWhatIsSeen Turns window given = Unit {0}
+ReturnsWhatIsSeen (Sees lane head expected seen) window given = seen ≡ seen_in lane head expected window
+ReturnsWhatIsSeen (Loads at part) window given = part ≡ slice_range window at (at + length part)
 
 -- a call at controller k is a run of the subsystem over exactly its events, and returns their result
 pub record CallStep (tells : Bool) (k : ℕ) (old : Subsystem) (call : Call) (new : Subsystem) : Type 0 where
   pub given : List Seen
   pub run : Run tells old (events_of k call) given new
-  pub answers : ReturnsWhatIsSeen call given
+  pub answers : ReturnsWhatIsSeen call (window_at old k) given
 
 -- a call over a link, which reaches the same controller afterwards, in the same way
 pub record CallOver (tells : Bool) (old : Linked) (call : Call) (new : Linked) : Type 0 where
@@ -112,7 +133,7 @@ Resets tells k d old d' new = (d' ≡ after_reset d) × Ran tells old (reset_eve
 
 -- A driver comes up by calls that are each exactly their events; one that is up stays up.
 abbrev pub ComesUp : Bool → ℕ → Driver → Subsystem → Result (Unit {0}) UpFault → Driver → Subsystem → Type 0
-ComesUp tells k d old (Ok u) d' new = Rises (CallStep tells k) (λ s. window_at s k) d old (Ok u) d' new
+ComesUp tells k d old (Ok u) d' new = Rises (CallStep tells k) d old (Ok u) d' new
 ComesUp tells k d old (Err fault) d' new = (d' ≡ d) × (new ≡ old)
 
 -- The result of a call of controller k's driver, and its effect on the driver and the subsystem.

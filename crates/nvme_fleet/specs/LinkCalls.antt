@@ -2,7 +2,7 @@
 -- of its two events.
 use Rattle.std.specs.Prelude.{◌≡◌, ◌+◌, ℕ, Bool, List}
 use Rattle.nvme_spec.specs.MediumCalls.{MediumCall, MakesCalls}
-use Rattle.nvme_driver.specs.Calls.{Call, Stores, Writes, Reads, Turns}
+use Rattle.nvme_driver.specs.Calls.{Call, Stores, Writes, Reads, Turns, Sees, Loads}
 use Rattle.nvme_machine.specs.declared.seen.Seen.{Seen}
 use Rattle.nvme_machine.specs.Subsystems.{Subsystem}
 use Rattle.nvme_machine.specs.EventCalls.{AreCallsOfRun}
@@ -19,6 +19,8 @@ abbrev pub ReachesMedium :
 ReachesMedium step tells k old new (Stores address bytes) before after = after ≡ before
 ReachesMedium step tells k old new (Writes offset v) before after = after ≡ before
 ReachesMedium step tells k old new (Reads offset v) before after = after ≡ before
+ReachesMedium step tells k old new (Sees lane head expected seen) before after = after ≡ before
+ReachesMedium step tells k old new (Loads at part) before after = after ≡ before
 ReachesMedium step tells k old new Turns before after = MakesCalls step (AreCallsOfTurn tells k old new) before after
 
 pub record CallOverMedium {M : Type 0} (step : M → MediumCall → M → Type 0) (tells : Bool) (old : OverMedium Linked M)

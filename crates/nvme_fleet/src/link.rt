@@ -1,15 +1,16 @@
 //! A host's access to its controller.
 
-ghost use Rattle.std.specs.Prelude.{◌≡◌, length};
+ghost use Rattle.std.specs.Prelude.{◌≡◌, ◌<◌, length};
 ghost use Rattle.nvme_spec.specs.Memory.{window_size};
 ghost use Rattle.nvme_fleet.specs.Linked.{linked_controller};
 
-use nvme_driver::Port;
+use nvme_driver::{Lane, Port, entry_seen};
 use nvme_machine::{BareSeen, Event};
 use nvme_medium::Medium;
 use nvme_mem::Window;
 use nvme_spec::Piece;
 use nvme_subsys::Subsystem;
+use nvme_wire::Cqe;
 use std::marker::Model;
 
 /// A controller of a subsystem, as its host's driver reaches it: each call is events of that controller. A turn is a
@@ -36,6 +37,15 @@ impl<'a, M: Medium> Model for Link<'a, M> {
 }
 
 impl<M: Medium> Link<'_, M> {
+    /// The window of its controller.
+    #[inline(always)]
+    fn window(&self) -> &Window
+        ensures bytes { result.now ≡ (linked_controller self.now.state).window }
+        ensures there { self.now.state.place < length self.now.state.subsystem.controllers }
+    {
+        self.subsystem.controller(self.cntlid).unwrap().window()
+    }
+
     /// Its window has its whole length, like every window.
     #[inline(always)]
     fn is_whole(&self)
@@ -55,11 +65,6 @@ impl<M: Medium> Port for Link<'_, M> {
     ghost step = { CallOverMedium M.step M.tells };
 
     ghost links = { λ p. p.state.name ∷ [] };
-
-    #[inline(always)]
-    fn window(&self) -> &Window {
-        self.subsystem.controller(self.cntlid).unwrap().window()
-    }
 
     #[inline(always)]
     fn store(&mut self, addr: u64, part: &[u8]) {
@@ -84,5 +89,19 @@ impl<M: Medium> Port for Link<'_, M> {
     fn turn(&mut self) {
         self.subsystem.apply(Event::Fetch(self.cntlid, 0));
         self.subsystem.apply(Event::Execute(self.cntlid, 0));
+    }
+
+    #[inline(always)]
+    fn sees(&mut self, lane: Lane, head: u16, phase: bool) -> Option<Cqe> {
+        entry_seen(self.window(), lane, head, phase)
+    }
+
+    #[inline(always)]
+    fn loads(&mut self, addr: u64, part: &mut [u8]) {
+        let place = Piece {
+            address: addr,
+            len: part.len() as u64,
+        };
+        part.copy_from_slice(self.window().bytes(place));
     }
 }

@@ -378,7 +378,7 @@ driver-brings-up : (b : Bool) (old new other : OpenDriver) (r s : Result (Unit {
 driver-brings-up true old new other r s down p q =
     let start = same-port _ p.start q.start p.begun q.begun in
     rises old.driver q.start new.port other.port r s new.driver other.driver
-    (subst (λ (m : RecordingPort). Rises Records (λ r. r.window) old.driver m r new.driver new.port) start
+    (subst (λ (m : RecordingPort). Rises Records old.driver m r new.driver new.port) start
     (p.rises down)) (q.rises down)
 driver-brings-up false old new other r s down p q =
     let start = same-port _ p.start q.start p.begun q.begun in

@@ -44,14 +44,15 @@ use Rattle.nvme_driver.specs.declared.request.Request.{Request}
 use Rattle.nvme_driver.specs.declared.request.Request.TheVariants.{Identify}
 use Rattle.nvme_driver.specs.declared.slots.Waiting.{Waiting}
 use Rattle.nvme_driver.specs.declared.ticket.Ticket.{Ticket}
-use Rattle.nvme_driver.specs.Calls.{Writes, Calls, Awaits}
+use Rattle.nvme_driver.specs.Calls.{Writes, Turns, Calls}
 use Rattle.nvme_driver.specs.Layout.{tail_doorbell}
-use Rattle.nvme_driver.specs.Drivers.{Driver, IsPlaced, with_ends, put_ends, ends, is_up, is_down, tail_of}
+use Rattle.nvme_driver.specs.Drivers.{Driver, Ends, IsPlaced, with_ends, put_ends, ends, is_up, is_down, tail_of}
 use Rattle.nvme_driver.specs.HostCommands.{IsCommandPlaced}
 use Rattle.nvme_driver.specs.Requests.{Asked, asked_of}
-use Rattle.nvme_driver.specs.Polls.{polled, found, found_poll, answered, answered_poll, without_calls}
+use Rattle.nvme_driver.specs.Polls.{polled, found, found_poll, answered, answered_poll, without_calls, look}
 use Rattle.nvme_driver.specs.Rises.{
   Rises,
+  Awaits,
   Creates,
   CreatesBoth,
   CreatesSubmissions,
@@ -62,7 +63,7 @@ use Rattle.nvme_driver.specs.Rises.{
   started,
   is_ready,
   fault_of,
-  own_answer,
+  own_of,
 }
 use Rattle.nvme_host.specs.declared.doorbells.Doorbells.{Doorbells}
 use Rattle.nvme_host.specs.declared.outcome.Outcome.{Outcome}
@@ -315,21 +316,25 @@ expiring None t old new code e f = by-waiting (waits t old.driver.slots) e
     by-waiting false e = unchanged old new e.1 f
 
 -- a bring-up
-found_same : (o : Option (List ℕ)) (look : RecordingPort → Option (List ℕ)) (n : ℕ) (mid new : RecordingPort)
-    (answer : Option (List ℕ))
-    → (Awaits Records look n mid answer new → SameHeads mid.doorbells new.doorbells)
-    → MatchOption o (Awaits Records look n mid answer new) (λ found. (answer ≡ Some found) × (new ≡ mid))
+found_same : (o : Option (List ℕ)) (e : Ends) (n : ℕ) (mid new : RecordingPort) (answer : Option (List ℕ))
+    → (Awaits Records e n mid answer new → SameHeads mid.doorbells new.doorbells)
+    → MatchOption o (Awaits Records e n mid answer new) (λ found. (answer ≡ Some found) × (new ≡ mid))
     → SameHeads mid.doorbells new.doorbells
-found_same None look n mid new answer k m = k m
-found_same (Some x) look n mid new answer k m = same_heads mid.doorbells new.doorbells (port_bells mid new m.1)
+found_same None e n mid new answer k m = k m
+found_same (Some x) e n mid new answer k m = same_heads mid.doorbells new.doorbells (port_bells mid new m.1)
 
-awaits_same : (look : RecordingPort → Option (List ℕ)) (n : ℕ) (old new : RecordingPort) (answer : Option (List ℕ))
-    → Awaits Records look n old answer new → SameHeads old.doorbells new.doorbells
+turned_same : (e : Ends) (old new : RecordingPort) (seen : Option (List ℕ))
+    → Calls Records old (Turns ∷ look Admin e seen ∷ []) new → SameHeads old.doorbells new.doorbells
+turned_same e old new seen (mid, turn, (last, sees, same)) =
+    same_heads old.doorbells new.doorbells (port_bells mid new (same ∙ sees.1) ∙ turn.doorbells)
+
+awaits_same : (e : Ends) (n : ℕ) (old new : RecordingPort) (answer : Option (List ℕ))
+    → Awaits Records e n old answer new → SameHeads old.doorbells new.doorbells
 unfolding Awaits
-awaits_same look zero old new answer a = same_heads old.doorbells new.doorbells (port_bells old new a.1)
-awaits_same look (suc n) old new answer (mid, turn, next) =
-    joined old.doorbells mid.doorbells new.doorbells (same_heads old.doorbells mid.doorbells turn.doorbells)
-    (found_same (look mid) look n mid new answer (awaits_same look n mid new answer) next)
+awaits_same e zero old new answer a = same_heads old.doorbells new.doorbells (port_bells old new a.1)
+awaits_same e (suc n) old new answer (mid, seen, calls, next) =
+    joined old.doorbells mid.doorbells new.doorbells (turned_same e old mid seen calls)
+    (found_same (own_of e seen) e n mid new answer (awaits_same e n mid new answer) next)
 
 hears_follow : (d d' : Driver) (answer : Option (List ℕ)) (old new : RecordingPort) (result : Option Status)
     → Hears Records d answer old result d' new → Follows d old.doorbells → Follows d' new.doorbells
@@ -345,7 +350,7 @@ hears_follow d d' (Some entry) old new result h f =
     }
 
 creates_follow : (command : SqeFields) (d d' : Driver) (old new : RecordingPort) (result : Option Status)
-    → Creates Records (λ p. p.window) command d old result d' new → Follows d old.doorbells → Follows d' new.doorbells
+    → Creates Records command d old result d' new → Follows d old.doorbells → Follows d' new.doorbells
 unfolding Creates
 creates_follow command d d' old new result (rung, answer, seen, sends, awaits, hears) f =
     let doorbells = port_bells sends.2.0 rung sends.2.2 ∙ sends.2.1.doorbells in
@@ -356,7 +361,7 @@ creates_follow command d d' old new result (rung, answer, seen, sends, awaits, h
     let one : SameHeads old.doorbells rung.doorbells =
     joined old.doorbells sends.0.doorbells rung.doorbells
     (same_heads old.doorbells sends.0.doorbells sends.1.doorbells) put in
-    let two = awaits_same (λ p. own_answer (sent d).admin p.window) 4 rung seen answer awaits in
+    let two = awaits_same (sent d).admin 4 rung seen answer awaits in
     let both : SameHeads old.doorbells seen.doorbells = joined old.doorbells rung.doorbells seen.doorbells one two in
     hears_follow (sent d) d' answer seen new result hears
     (carried d (sent d) old.doorbells seen.doorbells (record { admin = refl; io = refl }) both f)
@@ -375,7 +380,7 @@ concludes_follow (Some fault) result d d' b c f =
     }
 
 submissions_follow : (o : Option UpFault) (d d' : Driver) (old new : RecordingPort) (result : Result (Unit {0}) UpFault)
-    → CreatesSubmissions Records (λ p. p.window) o d old result d' new → Follows d old.doorbells
+    → CreatesSubmissions Records o d old result d' new → Follows d old.doorbells
     → Follows d' new.doorbells
 submissions_follow (Some fault) d d' old new result c f =
     carried d d' old.doorbells new.doorbells (same_ends d d' c.1) (same_heads old.doorbells new.doorbells
@@ -385,7 +390,7 @@ submissions_follow None d d' old new result (answer, left, creates, concludes) f
     (creates_follow _ d left old new answer creates f)
 
 both_follow : (b : Bool) (d d' : Driver) (old new : RecordingPort) (result : Result (Unit {0}) UpFault)
-    → CreatesBoth Records (λ p. p.window) b d old result d' new → Follows d old.doorbells → Follows d' new.doorbells
+    → CreatesBoth Records b d old result d' new → Follows d old.doorbells → Follows d' new.doorbells
 both_follow false d d' old new result c f =
     carried d d' old.doorbells new.doorbells (same_ends d d' c.1) (same_heads old.doorbells new.doorbells
     (port_bells old new c.2)) f
@@ -402,7 +407,7 @@ starts_empty value old on c =
     (c.2.2.2.1.doorbells ∙ (c.2.2.1.doorbells ∙ (c.2.1.doorbells ∙ c.1.doorbells)))))))))))
 
 rises_follow : (d d' : Driver) (old new : RecordingPort) (result : Result (Unit {0}) UpFault)
-    → Rises Records (λ p. p.window) d old result d' new → Follows d' new.doorbells
+    → Rises Records d old result d' new → Follows d' new.doorbells
 unfolding Rises
 rises_follow d d' old new result (value, on, calls, both) =
     let empty = starts_empty value old on calls in

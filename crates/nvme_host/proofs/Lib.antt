@@ -12,6 +12,6 @@ pub mod Naming
 pub mod PendingCalls
 pub mod Recorded
 pub mod RunExamples
-pub mod Snapshots
 pub mod Tickets
 pub mod Values
+pub mod Windows

@@ -17,6 +17,7 @@ use Rattle.std.proofs.Common.{
   Result,
   refl,
   sym,
+  ap,
   subst,
   ◌∙◌,
 }
@@ -24,12 +25,14 @@ use Rattle.std.specs.Prelude.{MatchOption}
 use Rattle.nvme_wire.specs.declared.sqe.fields.SqeFields.{SqeFields}
 use Rattle.nvme_wire.specs.declared.status.Status.{Status}
 use Rattle.nvme_driver.specs.declared.faults.UpFault.{UpFault}
-use Rattle.nvme_driver.specs.Calls.{Call, Stores, Writes, Reads, Turns, Calls, Awaits}
+use Rattle.nvme_driver.specs.Calls.{Call, Stores, Writes, Reads, Turns, Sees, Loads, Calls}
 use Rattle.nvme_driver.specs.Layout.{submission_queue, completion_queue}
 use Rattle.nvme_driver.specs.declared.lane.Lane.TheVariants.{Admin, Io}
-use Rattle.nvme_driver.specs.Drivers.{Driver, cc as configuration}
+use Rattle.nvme_driver.specs.Drivers.{Driver, Ends, cc as configuration}
+use Rattle.nvme_driver.specs.Polls.{head_of, look, phase_of, seen_in}
 use Rattle.nvme_driver.specs.Rises.{
   Rises,
+  Awaits,
   Creates,
   CreatesBoth,
   CreatesSubmissions,
@@ -42,7 +45,7 @@ use Rattle.nvme_driver.specs.Rises.{
   fault_of,
   heard_calls,
   send_calls,
-  own_answer,
+  own_of,
   zero_page,
   aqa,
   admin_sizes,
@@ -84,6 +87,8 @@ one-call (Stores at part) old p q a b = same-port _ p q a b
 one-call (Writes offset v) old p q a b = same-port _ p q a b
 one-call (Reads offset v) old p q a b = same-port _ p q a.1 b.1
 one-call Turns old p q a b = same-port _ p q a b
+one-call (Sees lane head expected seen) old p q a b = a.1 ∙ sym b.1
+one-call (Loads at part) old p q a b = a.1 ∙ sym b.1
 
 pub all-calls : (calls : List Call) (old p q : RecordingPort) → Calls Records old calls p
     → Calls Records old calls q → p ≡ q
@@ -99,24 +104,34 @@ calls-split (x ∷ xs) ys old new c =
     let rest = calls-split xs ys c.0 new c.2 in (rest.0, (c.0, c.1, rest.1), rest.2)
 
 -- a bring-up
-waits-by : (o : Option (List ℕ)) (look : RecordingPort → Option (List ℕ)) (n : ℕ) (mid p q : RecordingPort)
-    (a b : Option (List ℕ))
-    → (Awaits Records look n mid a p → Awaits Records look n mid b q → (a ≡ b) × (p ≡ q))
-    → MatchOption o (Awaits Records look n mid a p) (λ found. (a ≡ Some found) × (p ≡ mid))
-    → MatchOption o (Awaits Records look n mid b q) (λ found. (b ≡ Some found) × (q ≡ mid))
+looks-alike : (e : Ends) (old p q : RecordingPort) (a b : Option (List ℕ))
+    → Calls Records old (Turns ∷ look Admin e a ∷ []) p → Calls Records old (Turns ∷ look Admin e b ∷ []) q
     → (a ≡ b) × (p ≡ q)
-waits-by None look n mid p q a b k x y = k x y
-waits-by (Some entry) look n mid p q a b k x y = (x.0 ∙ sym y.0, x.1 ∙ sym y.1)
+looks-alike e old p q a b (m, turn, (r, sees, same)) (k, turned, (s, saw, alike)) =
+    let mid : m ≡ k = one-call Turns old m k turn turned in (
+      sees.0 ∙ (ap (λ (x : RecordingPort). seen_in Admin (head_of e) (phase_of e) x.window) mid ∙ sym saw.0),
+      same ∙ (sees.1 ∙ (mid ∙ sym (alike ∙ saw.1))),
+    )
 
-waits : (look : RecordingPort → Option (List ℕ)) (n : ℕ) (old p q : RecordingPort) (a b : Option (List ℕ))
-    → Awaits Records look n old a p → Awaits Records look n old b q → (a ≡ b) × (p ≡ q)
+waits-by : (o : Option (List ℕ)) (e : Ends) (n : ℕ) (mid p q : RecordingPort) (a b : Option (List ℕ))
+    → (Awaits Records e n mid a p → Awaits Records e n mid b q → (a ≡ b) × (p ≡ q))
+    → MatchOption o (Awaits Records e n mid a p) (λ found. (a ≡ Some found) × (p ≡ mid))
+    → MatchOption o (Awaits Records e n mid b q) (λ found. (b ≡ Some found) × (q ≡ mid))
+    → (a ≡ b) × (p ≡ q)
+waits-by None e n mid p q a b k x y = k x y
+waits-by (Some entry) e n mid p q a b k x y = (x.0 ∙ sym y.0, x.1 ∙ sym y.1)
+
+waits : (e : Ends) (n : ℕ) (old p q : RecordingPort) (a b : Option (List ℕ))
+    → Awaits Records e n old a p → Awaits Records e n old b q → (a ≡ b) × (p ≡ q)
 unfolding Awaits
-waits look zero old p q a b x y = (x.0 ∙ sym y.0, x.1 ∙ sym y.1)
-waits look (suc n) old p q a b (m, turn, next) (k, turned, later) =
-    let mid : m ≡ k = one-call Turns old m k turn turned in
-    waits-by (look k) look n k p q a b (waits look n k p q a b)
-    (subst (λ (r : RecordingPort). MatchOption (look r) (Awaits Records look n r a p)
-    (λ found. (a ≡ Some found) × (p ≡ r))) mid next) later
+waits e zero old p q a b x y = (x.0 ∙ sym y.0, x.1 ∙ sym y.1)
+waits e (suc n) old p q a b (m, seen, calls, next) (k, saw, called, later) =
+    let c = looks-alike e old m k seen saw calls called in
+    waits-by (own_of e saw) e n k p q a b (waits e n k p q a b)
+    (subst (λ (r : RecordingPort). MatchOption (own_of e saw) (Awaits Records e n r a p)
+    (λ found. (a ≡ Some found) × (p ≡ r))) c.1
+    (subst (λ (o : Option (List ℕ)). MatchOption (own_of e o) (Awaits Records e n m a p)
+    (λ found. (a ≡ Some found) × (p ≡ m))) c.0 next)) later
 
 -- what a part of a bring-up leaves
 pub record SameStep {A : Type 0} (a b : A) (d e : Driver) (p q : RecordingPort) : Type 0 where
@@ -135,15 +150,14 @@ hears d (Some entry) old p q a b e f x y = record {
 }
 
 creates : (command : SqeFields) (d : Driver) (old p q : RecordingPort) (a b : Option Status) (e f : Driver)
-    → Creates Records (λ r. r.window) command d old a e p → Creates Records (λ r. r.window) command d old b f q
+    → Creates Records command d old a e p → Creates Records command d old b f q
     → SameStep a b e f p q
 unfolding Creates
 creates command d old p q a b e f (rung, answer, seen, sends, awaits, hears-it)
     (ring, other, saw, sent_, awaited, heard) =
     let one = all-calls (send_calls d.admin command) old rung ring sends sent_ in
-    let two = waits (λ r. own_answer (sent d).admin r.window) 4 ring seen saw answer other
-    (subst (λ (r : RecordingPort). Awaits Records (λ p. own_answer
-    (sent d).admin p.window) 4 r answer seen) one awaits) awaited in
+    let two = waits (sent d).admin 4 ring seen saw answer other
+    (subst (λ (r : RecordingPort). Awaits Records (sent d).admin 4 r answer seen) one awaits) awaited in
     hears (sent d) other saw p q a b e f
     (subst (λ (r : RecordingPort). Hears Records (sent d) other r a e p) two.1
     (subst (λ (x : Option (List ℕ)). Hears Records (sent d) x seen a e p) two.0 hears-it)) heard
@@ -155,8 +169,8 @@ concludes (Some fault) r s d e f x y = (x.0 ∙ sym y.0, x.1 ∙ sym y.1)
 
 submissions : (o : Option UpFault) (d : Driver) (old p q : RecordingPort) (r s : Result (Unit {0}) UpFault)
     (e f : Driver)
-    → CreatesSubmissions Records (λ r. r.window) o d old r e p
-    → CreatesSubmissions Records (λ r. r.window) o d old s f q
+    → CreatesSubmissions Records o d old r e p
+    → CreatesSubmissions Records o d old s f q
     → SameStep r s e f p q
 submissions (Some fault) d old p q r s e f x y =
     record { result = x.0 ∙ sym y.0; driver = x.1 ∙ sym y.1; port = x.2 ∙ sym y.2 }
@@ -168,16 +182,16 @@ submissions None d old p q r s e f (answer, left, made, ends_so) (other, rest, m
     record { result = k.0; driver = k.1; port = c.port }
 
 both-queues : (b : Bool) (d : Driver) (old p q : RecordingPort) (r s : Result (Unit {0}) UpFault) (e f : Driver)
-    → CreatesBoth Records (λ r. r.window) b d old r e p → CreatesBoth Records (λ r. r.window) b d old s f q
+    → CreatesBoth Records b d old r e p → CreatesBoth Records b d old s f q
     → SameStep r s e f p q
 both-queues false d old p q r s e f x y =
     record { result = x.0 ∙ sym y.0; driver = x.1 ∙ sym y.1; port = x.2 ∙ sym y.2 }
 both-queues true d old p q r s e f (answer, left, mid, made, more) (other, rest, middle, makes, others) =
     let c = creates _ d old mid middle answer other left rest made makes in
     submissions (fault_of other) rest middle p q r s e f
-    (subst (λ (m : RecordingPort). CreatesSubmissions Records (λ r. r.window) (fault_of other) rest m r e p) c.port
-    (subst (λ (l : Driver). CreatesSubmissions Records (λ r. r.window) (fault_of other) l mid r e p) c.driver
-    (subst (λ (x : Option Status). CreatesSubmissions Records (λ r. r.window) (fault_of x) left mid r e p) c.result
+    (subst (λ (m : RecordingPort). CreatesSubmissions Records (fault_of other) rest m r e p) c.port
+    (subst (λ (l : Driver). CreatesSubmissions Records (fault_of other) l mid r e p) c.driver
+    (subst (λ (x : Option Status). CreatesSubmissions Records (fault_of x) left mid r e p) c.result
     more))) others
 
 -- the calls of a start before the status is read
@@ -211,11 +225,11 @@ starts v w old p q a b =
     )
 
 pub rises : (d : Driver) (old p q : RecordingPort) (r s : Result (Unit {0}) UpFault) (e f : Driver)
-    → Rises Records (λ r. r.window) d old r e p → Rises Records (λ r. r.window) d old s f q
+    → Rises Records d old r e p → Rises Records d old s f q
     → SameStep r s e f p q
 unfolding Rises
 rises d old p q r s e f (value, on, calls, made) (status, ready, begins, makes) =
     let c = starts value status old on ready calls begins in
     both-queues (is_ready status) (started d) ready p q r s e f
-    (subst (λ (m : RecordingPort). CreatesBoth Records (λ r. r.window) (is_ready status) (started d) m r e p) c.1
-    (subst (λ (n : ℕ). CreatesBoth Records (λ r. r.window) (is_ready n) (started d) on r e p) c.0 made)) makes
+    (subst (λ (m : RecordingPort). CreatesBoth Records (is_ready status) (started d) m r e p) c.1
+    (subst (λ (n : ℕ). CreatesBoth Records (is_ready n) (started d) on r e p) c.0 made)) makes

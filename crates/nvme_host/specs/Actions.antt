@@ -1,7 +1,7 @@
 -- The actions of a placing: no store of the driver is lost on the way to the device.
 use Rattle.std.specs.Prelude.{◌≡◌, ℕ, [], map}
 use Rattle.nvme_driver.specs.declared.request.Request.{Request}
-use Rattle.nvme_driver.specs.Calls.{Call, Stores, Writes, Reads, Turns}
+use Rattle.nvme_driver.specs.Calls.{Call, Stores, Writes, Reads, Turns, Sees, Loads}
 use Rattle.nvme_driver.specs.Drivers.{IsPlaced, stores_of}
 use Rattle.nvme_host.specs.declared.open_driver.OpenDriver.{OpenDriver}
 use Rattle.nvme_host.specs.declared.recording_port.Action.{Action}
@@ -13,6 +13,8 @@ action_of (Stores at part) = storing at part
 action_of (Writes offset v) = writing offset v
 action_of (Reads offset v) = writing offset v
 action_of Turns = writing 0 0
+action_of (Sees lane head expected seen) = writing 0 0
+action_of (Loads at part) = writing 0 0
 
 -- A program that has performed all actions gets those of a placing: the stores of the request in its slot, in order.
 abbrev pub PlacingRecordsItsStores : Type 0

@@ -63,7 +63,7 @@ use Rattle.nvme_driver.specs.Drivers.{
 }
 use Rattle.nvme_driver.specs.HostCommands.{command_refusal, IsCommandPlaced, HoldsItsCommand}
 use Rattle.nvme_driver.specs.Requests.{Asked}
-use Rattle.nvme_driver.specs.Polls.{IsPolled, handed_len}
+use Rattle.nvme_driver.specs.Polls.{IsPolledOver, handed_len}
 use Rattle.nvme_driver.specs.Rises.{Rises as RisesOver}
 use Rattle.nvme_host.specs.declared.devices.Limits.{Limits}
 use Rattle.nvme_host.specs.declared.outcome.Outcome.{Outcome}
@@ -106,7 +106,7 @@ pub record Polled (old : OpenDriver) (before : List ℕ) (outcome : Outcome) (ne
     (buffer : List ℕ) : Type 0 where
   pub answer : Result (Option Answer) PollFault
   pub gives : outcome ≡ outcome_of answer
-  pub polled : IsPolled Records old.driver old.port.window old.port answer new.driver new.port buffer
+  pub polled : IsPolledOver Records old.driver old.port.window old.port answer new.driver new.port buffer
   pub behind : drop (handed_len answer) buffer ≡ drop (handed_len answer) before
   pub facts : new.facts ≡ learned old.facts outcome buffer
   pub stage : new.stage ≡ old.stage
@@ -322,7 +322,7 @@ pub record DriverBringsUp (old : OpenDriver) (result : Result (Unit {0}) UpFault
   pub already : is_down old.driver.state ≡ false
       → (result ≡ Err AlreadyUp) × (new.driver ≡ old.driver) × (new.port ≡ start)
   pub rises : is_down old.driver.state ≡ true
-      → RisesOver Records (λ p. p.window) old.driver start result new.driver new.port
+      → RisesOver Records old.driver start result new.driver new.port
   pub slots : new.driver.slots ≡ old.driver.slots
   pub next : new.driver.next ≡ old.driver.next
   pub stage : new.stage ≡ old.stage

@@ -14,7 +14,6 @@ pub mod Health
 pub mod Holding
 pub mod Facts
 pub mod Completions
-pub mod Snapshots
 pub mod Recording
 pub mod RunExamples
 pub mod Runs

@@ -10,6 +10,7 @@ use Rattle.std.specs.Prelude.{
   ◌++◌,
   drop,
   slice_get,
+  slice_range,
   nat_lt,
   ◌==◌,
   Bool,
@@ -20,7 +21,8 @@ use Rattle.std.specs.Prelude.{
   Some,
 }
 use Rattle.nvme_spec.specs.Bytes.{with_bytes}
-use Rattle.nvme_driver.specs.Calls.{Call, Stores, Writes, Reads, Turns}
+use Rattle.nvme_driver.specs.Calls.{Call, Stores, Writes, Reads, Turns, Sees, Loads}
+use Rattle.nvme_driver.specs.Polls.{seen_in}
 use Rattle.nvme_driver.specs.declared.lane.Lane.TheVariants.{Admin}
 use Rattle.nvme_host.specs.Doorbells.{initial_doorbells, after_write, repeats_tail, register_at, next_place}
 use Rattle.nvme_host.specs.declared.recording_port.Action.{Action}
@@ -126,13 +128,16 @@ pub record IsSamePort (old new : RecordingPort) : Type 0 where
   pub need : new.need ≡ old.need
   pub handed_out : new.handed_out ≡ old.handed_out
 
--- The effect of a call on the port. A turn may bring bytes of the device into the window.
+-- The effect of a call on the port. A turn may bring bytes of the device into the window. Looks and loads return what
+-- is in the window, and leave it.
 abbrev pub Records : RecordingPort → Call → RecordingPort → Type 0
 Records old (Stores at part) new = IsSamePort (after_store old at part) new
 Records old (Writes offset v) new = IsSamePort (after_register old offset v) new
 Records old (Reads offset v) new =
     (v ≡ status_in (next_report old)) × IsSamePort (after_look (next_report old) Status old) new
 Records old Turns new = IsSamePort (after_turn (next_report old) old) new
+Records old (Sees lane head expected seen) new = (seen ≡ seen_in lane head expected old.window) × (new ≡ old)
+Records old (Loads at part) new = (part ≡ slice_range old.window at (at + length part)) × (new ≡ old)
 
 -- the port of a new driver, whose doorbells are 4 bytes apart until Controller Capabilities are judged
 abbrev pub new_port : List ℕ → RecordingPort

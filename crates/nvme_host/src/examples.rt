@@ -14,6 +14,7 @@ ghost use Rattle.nvme_driver.specs.declared.lane.Lane.TheVariants.{Admin};
 ghost use Rattle.nvme_driver.specs.declared.request.Request.TheVariants.{Flush};
 ghost use Rattle.nvme_driver.specs.Drivers.{new_driver};
 ghost use Rattle.nvme_driver.specs.Polls.{is_new};
+ghost use Rattle.nvme_driver.specs.Snapshots.{IsFirstSeen, next_of};
 ghost use Rattle.nvme_host.specs.RunExamples.{
   ResetAbortsAFlush,
   WithoutAResetItIsDone,
@@ -22,7 +23,6 @@ ghost use Rattle.nvme_host.specs.RunExamples.{
   aborted,
 };
 ghost use Rattle.nvme_host.specs.Runs.{Places, Polls, Resets, HasNoReset, IsAborted, no_tickets};
-ghost use Rattle.nvme_host.specs.Snapshots.{IsFirstSeen, next_of};
 ghost use Rattle.nvme_host.specs.Exports.{zeroing};
 ghost use Rattle.nvme_host.specs.Doorbells.{initial_doorbells, repeats_tail, register_at};
 ghost use Rattle.nvme_host.specs.Health.{health};

@@ -1,9 +1,11 @@
 //! Laws that follow from the contracts. Each is the contract of an empty function.
 
+ghost use Rattle.nvme_driver.specs.Ports.{IsStill};
 ghost use Rattle.nvme_host.specs.Actions.{PlacingRecordsItsStores};
 ghost use Rattle.nvme_host.specs.Determined.{CallsAreDetermined, RunsHaveDistinctTickets};
 ghost use Rattle.nvme_host.specs.ExportsDetermined.{ExportsAreDetermined};
-ghost use Rattle.nvme_host.specs.Snapshots.{SnapshotsAreOfOneMoment, PollsAreOfOneMoment};
+ghost use Rattle.nvme_driver.specs.Snapshots.{SnapshotsAreOfOneMoment, PollsAreOfOneMoment};
+ghost use Rattle.nvme_host.specs.Recording.{Records};
 ghost use Rattle.nvme_host.specs.Runs.{
   DeliversGivenTicketsOnce,
   DeliversNoneAgain,
@@ -15,10 +17,16 @@ ghost use Rattle.nvme_host.specs.Runs.{
 
 /// A device that writes while it is read: a poll over a window into which a completion was copied, phase tag first, is
 /// a poll of the memory of the device at one moment.
-#[tactic(auto, using(crate::proofs::Snapshots::snapshots_are_of_one_moment, crate::proofs::Snapshots::polls_are_of_one_moment))]
+#[tactic(auto, using(nvme_driver::proofs::Snapshots::snapshots_are_of_one_moment, nvme_driver::proofs::Snapshots::polls_are_of_one_moment))]
 pub fn moving()
     ensures entry { SnapshotsAreOfOneMoment }
     ensures poll { PollsAreOfOneMoment }
+{}
+
+/// The looks and loads of a driver return what is in the port's window, and leave it.
+#[tactic(auto, using(crate::proofs::Windows::looks_leave_the_window))]
+pub fn looks()
+    ensures { IsStill Records (λ p. p.window) }
 {}
 
 /// No ticket is delivered twice, and none that no placing gave, whatever C calls, and whatever bytes the device wrote.

@@ -203,6 +203,7 @@ impl OpenDriver {
     }
 
     #[inline(always)]
+    #[tactic(auto, using(crate::proofs::Windows::polls_its_window))]
     pub(crate) fn poll(&mut self, buffer: &mut [u8]) -> Outcome
         requires { most_bytes ≤ length buffer.old }
         ensures { Polling self.old buffer.old result self.new buffer.new }

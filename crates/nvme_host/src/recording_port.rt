@@ -18,9 +18,10 @@ ghost use Rattle.nvme_host.specs.Recording.{
 
 use crate::doorbells::{Doorbells, register_at};
 use arrayvec::ArrayVec;
-use nvme_driver::{Lane, Port};
+use nvme_driver::{Lane, Port, entry_seen};
 use nvme_mem::Window;
 use nvme_spec::Piece;
+use nvme_wire::Cqe;
 use std::mem;
 
 /// Bytes have to be stored, as they are in the driver's window.
@@ -181,11 +182,6 @@ impl Port for RecordingPort {
 
     ghost links = { λ p. [] };
 
-    #[inline(always)]
-    fn window(&self) -> &Window {
-        &self.window
-    }
-
     fn store(&mut self, addr: u64, part: &[u8]) {
         let place = Piece {
             address: addr,
@@ -226,5 +222,17 @@ impl Port for RecordingPort {
             let place = self.doorbells.place(Lane::Admin);
             let _ = self.window.store(place, &report.entry);
         }
+    }
+
+    fn sees(&mut self, lane: Lane, head: u16, phase: bool) -> Option<Cqe> {
+        entry_seen(&self.window, lane, head, phase)
+    }
+
+    fn loads(&mut self, addr: u64, part: &mut [u8]) {
+        let place = Piece {
+            address: addr,
+            len: part.len() as u64,
+        };
+        part.copy_from_slice(self.window.bytes(place));
     }
 }

@@ -56,7 +56,6 @@ use Rattle.nvme_refinement.proofs.Words.{
   LinkStep,
   BringUpIsAStep,
   with_controller,
-  window_in,
   part-there,
 }
 use Rattle.nvme_refinement.proofs.LaneWindows.{each-lane}
@@ -154,15 +153,15 @@ second-part : (tells : Bool) (k : ℕ) (d d' : Driver) (old mid new : Setting) (
     (left : Driver) → length old.controller.window ≡ 4194304
     → left ≡ with_admin (ends_at 1) (started d)
     → mid ≡ setting (running k 1 0 None made_completions 0 (first_window old.controller.window)) old.world old.device
-    → CreatesSubmissions (LinkStep tells) window_in None left mid result d' new → RoundsAre k d old result d' new
+    → CreatesSubmissions (LinkStep tells) None left mid result d' new → RoundsAre k d old result d' new
 unfolding after_queue_change
 second-part tells k d d' old mid new result left long l m (answer, over, creates, concludes) =
     let w : List ℕ = first_window old.controller.window in
     let e : List ℕ = submission_entry create_submission_queue in
     let z = first-size-of old.controller.window long in
-    let h = subst (λ z. Creates (LinkStep tells) window_in create_submission_queue z
+    let h = subst (λ z. Creates (LinkStep tells) create_submission_queue z
     (setting (running k 1 0 None made_completions 0 w) old.world old.device) answer over new) l
-    (subst (λ z. Creates (LinkStep tells) window_in create_submission_queue left z answer over new) m creates) in
+    (subst (λ z. Creates (LinkStep tells) create_submission_queue left z answer over new) m creates) in
     let r = round tells 1 k None made_submissions made_completions made_completions w old.world old.device
     create_submission_queue second_change (started d) over new answer (omega arith) z second-size second-cid
     (length-with_bytes w 64 e (omega (arith, z, second-size)) ∙ z) (part-there w e 64 64 second-size (omega (arith, z)))
@@ -177,30 +176,30 @@ second-part tells k d d' old mid new result left long l m (answer, over, creates
 both-parts : (tells : Bool) (k : ℕ) (d d' : Driver) (old on new : Setting) (result : Result (Unit {0}) UpFault)
     → length old.controller.window ≡ 4194304
     → on ≡ setting (running k 0 0 None None 0 (zeroed_all old.controller.window)) old.world old.device
-    → CreatesBoth (LinkStep tells) window_in true (started d) on result d' new → RoundsAre k d old result d' new
+    → CreatesBoth (LinkStep tells) true (started d) on result d' new → RoundsAre k d old result d' new
 unfolding after_queue_change
 both-parts tells k d d' old on new result long o (answer, left, mid, creates, submissions) =
     let w : List ℕ = zeroed_all old.controller.window in
     let e : List ℕ = submission_entry create_completion_queue in
     let z = zeroed-size old.controller.window long in
     let h =
-    subst (λ z. Creates (LinkStep tells) window_in create_completion_queue (started d) z answer left mid) o creates in
+    subst (λ z. Creates (LinkStep tells) create_completion_queue (started d) z answer left mid) o creates in
     let r = round tells 0 k None None None made_completions w old.world old.device create_completion_queue first_change
     (started d) left mid answer (omega arith) z first-size first-cid
     (length-with_bytes w 0 e (omega (arith, z, first-size)) ∙ z)
     (part-there w e 0 64 first-size (omega (arith, z))) refl (completions-made old.world k (put_window 0 w e)) refl h in
     second-part tells k d d' old mid new result left long r.driver r.setting_is
-    (subst (λ z. CreatesSubmissions (LinkStep tells) window_in (fault_of z) left mid result d' new)
+    (subst (λ z. CreatesSubmissions (LinkStep tells) (fault_of z) left mid result d' new)
     r.answered submissions)
 
 rises-are : (tells : Bool) (d d' : Driver) (old new : Setting) (result : Result (Unit {0}) UpFault)
     → IsOff old.controller → length old.controller.window ≡ 4194304
-    → Rises (LinkStep tells) window_in d old result d' new → RoundsAre old.controller.cntlid d old result d' new
+    → Rises (LinkStep tells) d old result d' new → RoundsAre old.controller.cntlid d old result d' new
 unfolding Rises
 rises-are tells d d' old new result o long (value, on, starts, both) =
     let s = started-setting tells value old on o starts in
     both-parts tells old.controller.cntlid d d' old on new result long s.setting_is
-    (subst (λ v. CreatesBoth (LinkStep tells) window_in (is_ready v) (started d) on result d' new) s.ready both)
+    (subst (λ v. CreatesBoth (LinkStep tells) (is_ready v) (started d) on result d' new) s.ready both)
 
 -- The result.
 abbrev RisesSo : Driver → Controller → Type 0

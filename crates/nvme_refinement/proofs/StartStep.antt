@@ -39,6 +39,8 @@ use Rattle.nvme_refinement.proofs.Words.{
   Writes,
   Reads,
   Turns,
+  Sees,
+  Loads,
   Calls,
   submission_queue,
   completion_queue,
@@ -77,6 +79,8 @@ call-is : (tells : Bool) (call : Call) (old new : Setting) → IsPlain (call ∷
     → new ≡ with_controller old (after_call call old.controller)
 call-is tells (Reads offset v) old new p h = h.1
 call-is tells Turns old new p h = absurd p
+call-is tells (Sees lane head expected seen) old new p h = h.1
+call-is tells (Loads at part) old new p h = h.1
 call-is tells call old new p h = h
 
 pub calls-are : (tells : Bool) (calls : List Call) (old new : Setting)

@@ -65,8 +65,9 @@ use Rattle.nvme_refinement.proofs.Words.{
   sent,
   send_calls,
   heard_calls,
-  own_answer,
   own_of,
+  look,
+  new_in,
   answers_own,
   Creates,
   Hears,
@@ -92,7 +93,6 @@ use Rattle.nvme_refinement.proofs.Words.{
   after_calls,
   LinkStep,
   with_controller,
-  window_in,
 }
 use Rattle.nvme_wire.specs.Completion.{cid}
 use Rattle.nvme_spec.specs.Statuses as done
@@ -189,7 +189,8 @@ abbrev pub ends_put : ℕ → Ends
 ends_put n = put_ends (ends_at n)
 
 found-is : (n : ℕ) (w e : List ℕ) → n < 32 → length w ≡ 4194304 → command_cid e ≡ 24
-    → own_answer (ends_put n) (with_bytes w (0x1000 + 16 * (n % 32)) (completion_entry (own_completion n e)))
+    → own_of (ends_put n)
+    (new_in Admin (ends_put n) (with_bytes w (0x1000 + 16 * (n % 32)) (completion_entry (own_completion n e))))
     ≡ Some (completion_entry (own_completion n e))
 found-is n w e h size i =
     let b : List ℕ = completion_entry (own_completion n e) in
@@ -203,15 +204,16 @@ found-is n w e h size i =
     ∙ ap (λ t. if t then Some b else None) own
 
 -- one turn is enough
-one-turn : {S A : Type 0} (step : S → Call → S → Type 0) (look : S → Option A) (old new : S) (answer : Option A)
-    (found : A) (P : S → Type 0)
-    → Awaits step look 4 old answer new → ((mid : S) → step old Turns mid → (look mid ≡ Some found) × P mid)
+one-turn : {S : Type 0} (step : S → Call → S → Type 0) (e : Ends) (old new : S) (answer : Option (List ℕ))
+    (found : List ℕ) (P : S → Type 0) → Awaits step e 4 old answer new
+    → ((turned mid : S) (seen : Option (List ℕ)) → step old Turns turned → step turned (look Admin e seen) mid
+    → (own_of e seen ≡ Some found) × P mid)
     → (answer ≡ Some found) × P new
 unfolding Awaits
-one-turn step look old new answer found P (mid, turn, m) f =
-    let x = f mid turn in
+one-turn step e old new answer found P (mid, seen, (turned, turn, (last, looks, same)), m) f =
+    let x = f turned mid seen turn (subst (step turned (look Admin e seen)) (sym same) looks) in
     let r = subst
-    (λ o. MatchOption o (Awaits step look 3 mid answer new) (λ found. (answer ≡ Some found) × (new ≡ mid))) x.0 m in
+    (λ o. MatchOption o (Awaits step e 3 mid answer new) (λ found. (answer ≡ Some found) × (new ≡ mid))) x.0 m in
     (r.0, subst P (sym r.1) x.1)
 
 -- It is consumed.
@@ -257,7 +259,7 @@ pub round : (tells : Bool) (n k : ℕ) (s s' : Option SubmissionQueue) (x x' : O
     ≡ only_change change world (put_window n w (submission_entry f))
     → after_queue_change change (answered_by k n s x (put_window n w (submission_entry f)) (submission_entry f))
     ≡ answered_by k n s' x' (put_window n w (submission_entry f)) (submission_entry f)
-    → Creates (LinkStep tells) window_in f (with_admin (ends_at n) d)
+    → Creates (LinkStep tells) f (with_admin (ends_at n) d)
     (setting (running k n 0 s x 0 w) world device) result d' new
     → Round n k s' x' (put_window n w (submission_entry f)) (submission_entry f) d
     (setting (running k n 0 s x 0 w) world device) result d' new
@@ -273,11 +275,11 @@ round tells n k s s' x x' w world device f change d d' new result small long siz
     (stored-at (command_place Admin n) e (running k n 0 s x 0 w) (omega (arith, small, size)))
     ∙ tail-written Admin (running k n 0 s x 0 v) (tail_of (ends_put n)) refl refl (omega arith) ∙ ready) in
     let awaited =
-    subst (λ p. Awaits (LinkStep tells) (λ p. own_answer (ends_put n) (window_in p)) 4 p answer seen) a awaits in
-    let turned = one-turn (LinkStep tells) (λ p. own_answer (ends_put n) (window_in p)) _ seen answer b
+    subst (λ p. Awaits (LinkStep tells) (ends_put n) 4 p answer seen) a awaits in
+    let turned = one-turn (LinkStep tells) (ends_put n) _ seen answer b
     (λ m. m ≡ setting (answered_by k n s' x' (put_window n w (submission_entry f)) (submission_entry f)) world device)
     awaited
-    (λ mid turn.
+    (λ mid after saw turn looks.
     let m : mid
     ≡ setting (answered_by k n s' x' (put_window n w (submission_entry f)) (submission_entry f)) world device =
     turn-is tells k n s x v world device change mid turn
@@ -285,8 +287,11 @@ round tells n k s s' x x' w world device f change d d' new result small long siz
     (put_window n w (submission_entry f))) there ∙ works)
     ∙ ap (λ z. setting (after_queue_change change (answered_by k n s x (put_window n w (submission_entry f)) z))
     world device) there
-    ∙ ap (λ c. setting c world device) queues in
-    (ap (λ p. own_answer (ends_put n) (window_in p)) m ∙ found-is n v e (omega (arith, small)) whole named, m)) in
+    ∙ ap (λ c. setting c world device) queues in (
+      ap (own_of (ends_put n)) (looks.0 ∙ ap (λ (p : Setting). new_in Admin (ends_put n) p.controller.window) m)
+          ∙ found-is n v e (omega (arith, small)) whole named,
+      looks.1 ∙ m,
+    )) in
     let r = subst (λ z. Hears (LinkStep tells) (sent (with_admin (ends_at n) d)) z seen result d' new) turned.0 hears in
     let says = says-own n e (omega (arith, small)) named in
     record {

@@ -324,8 +324,7 @@ pub use Rattle.nvme_machine.specs.declared.seen.Executed.TheVariants.{CqFull}
 pub use Rattle.nvme_machine.specs.declared.seen.Seen.TheVariants.{Outside, Stored}
 pub use Rattle.nvme_driver.proofs.Moving.{entries_move_their_data, within}
 pub use Rattle.nvme_driver.proofs.PageLists.{length-stored_list, part-there}
-pub use Rattle.nvme_driver.specs.Calls.{Call, Calls, Reads, Stores, Turns, Writes}
-unfoldable pub use Rattle.nvme_driver.specs.Calls.{Awaits}
+pub use Rattle.nvme_driver.specs.Calls.{Call, Calls, Loads, Reads, Sees, Stores, Turns, Writes}
 pub use Rattle.nvme_driver.specs.Drivers.{
   Driver,
   Ends,
@@ -379,6 +378,8 @@ pub use Rattle.nvme_driver.specs.Polls.{
   found_poll,
   is_new,
   is_success,
+  look,
+  new_in,
   polled,
   waiting_at,
   without_calls,
@@ -403,14 +404,13 @@ pub use Rattle.nvme_driver.specs.Rises.{
   fault_of,
   heard_calls,
   is_ready,
-  own_answer,
   own_of,
   send_calls,
   sent,
   start_calls,
   started,
 }
-unfoldable pub use Rattle.nvme_driver.specs.Rises.{Creates, Rises, zero_page}
+unfoldable pub use Rattle.nvme_driver.specs.Rises.{Awaits, Creates, Rises, zero_page}
 pub use Rattle.nvme_driver.specs.declared.answer.Answer.{Answer}
 pub use Rattle.nvme_driver.specs.declared.faults.PlaceRefusal.TheVariants.{NoSlot, RingFull, TicketsExhausted}
 pub use Rattle.nvme_driver.specs.declared.faults.PollFault.{PollFault}
@@ -441,7 +441,7 @@ pub use Rattle.nvme_refinement.specs.Lanes.{
   whole,
 }
 unfoldable pub use Rattle.nvme_refinement.specs.Lanes.{area, listed, pages_of}
-pub use Rattle.nvme_refinement.specs.Links.{BringUpIsAStep, LinkStep, window_in, with_controller}
+pub use Rattle.nvme_refinement.specs.Links.{BringUpIsAStep, LinkStep, with_controller}
 pub use Rattle.nvme_mailbox.specs.Mailboxes.{empty_box, held, is_io}
 pub use Rattle.nvme_refinement.specs.Sound.{
   DeviceEnds,

@@ -1,11 +1,12 @@
--- Statements of the law on bringing up: each call of the port is an event of the controller, and a turn is a fetch from
--- its admin queue and an execution of its first fetched command.
-use Rattle.std.specs.Prelude.{◌≡◌, ℕ, Bool, List, Result, Ok}
+-- Statements of the law on bringing up: each call of the port is an event of the controller, a turn is a fetch from its
+-- admin queue and an execution of its first fetched command, and looks and loads are no events.
+use Rattle.std.specs.Prelude.{◌≡◌, ◌+◌, Bool, length, slice_range, Result, Ok}
 use Rattle.nvme_spec.specs.Registers.{value_at}
 use Rattle.nvme_driver.specs.declared.state.State.TheVariants.{Down}
 use Rattle.nvme_driver.specs.declared.faults.UpFault.{UpFault}
-use Rattle.nvme_driver.specs.Calls.{Call, Stores, Writes, Reads, Turns}
+use Rattle.nvme_driver.specs.Calls.{Call, Stores, Writes, Reads, Turns, Sees, Loads}
 use Rattle.nvme_driver.specs.Drivers.{Driver}
+use Rattle.nvme_driver.specs.Polls.{seen_in}
 use Rattle.nvme_driver.specs.Rises.{Rises}
 use Rattle.nvme_machine.specs.declared.seen.Executed.{Executed}
 use Rattle.nvme_machine.specs.Controllers.{Controller, after_store, after_write32, after_fetch}
@@ -25,9 +26,10 @@ LinkStep tells old (Reads offset v) new = (v ≡ value_at old.controller.registe
 LinkStep tells old Turns new =
     (executed : Executed)
     × ExecutesNth tells 0 (with_controller old (after_fetch 0 old.controller).controller) executed new
-
-abbrev pub window_in : Setting → List ℕ
-window_in s = s.controller.window
+LinkStep tells old (Sees lane head expected seen) new =
+    (seen ≡ seen_in lane head expected old.controller.window) × (new ≡ old)
+LinkStep tells old (Loads at part) new =
+    (part ≡ slice_range old.controller.window at (at + length part)) × (new ≡ old)
 
 -- It came up: the mailbox is up, it is the same controller, and access state and medium are unchanged.
 pub record HasComeUp (d : Driver) (old : Setting) (result : Result (Unit {0}) UpFault) (d' : Driver)
@@ -43,4 +45,4 @@ pub record HasComeUp (d : Driver) (old : Setting) (result : Result (Unit {0}) Up
 abbrev pub BringUpIsAStep : Type 0
 BringUpIsAStep =
     (tells : Bool) (d d' : Driver) (old new : Setting) (result : Result (Unit {0}) UpFault) → Sound d old.controller
-    → d.state ≡ Down → Rises (LinkStep tells) window_in d old result d' new → HasComeUp d old result d' new
+    → d.state ≡ Down → Rises (LinkStep tells) d old result d' new → HasComeUp d old result d' new

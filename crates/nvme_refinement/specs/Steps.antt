@@ -57,7 +57,7 @@ use Rattle.nvme_refinement.specs.Views.{received_in}
 use Rattle.nvme_driver.specs.declared.request.Request.{Request}
 use Rattle.nvme_driver.specs.declared.faults.PlaceRefusal.{PlaceRefusal}
 use Rattle.nvme_driver.specs.Requests.{asked_of}
-use Rattle.nvme_driver.specs.Calls.{Call, Stores, Writes, Reads, Turns}
+use Rattle.nvme_driver.specs.Calls.{Call, Stores, Writes, Reads, Turns, Sees, Loads}
 use Rattle.nvme_driver.specs.Drivers as driver
 use Rattle.nvme_driver.specs.Polls as poll
 use Rattle.nvme_machine.specs.Controllers.{
@@ -86,13 +86,15 @@ use Rattle.nvme_mailbox.specs.Fleets.{
 }
 use Rattle.nvme_refinement.specs.Sound.{Sound, mailbox}
 
--- A driver's port calls are events of its controller, in the same order. Only bringing up makes `Reads` and `Turns`
--- calls.
+-- A driver's port calls are events of its controller, in the same order, except for looks and loads. Only bringing up
+-- makes `Reads` and `Turns` calls.
 abbrev pub after_call : Call → Controller → Controller
 after_call (Stores address bytes) c = (after_store address bytes c).controller
 after_call (Writes offset v) c = after_write32 offset v c
 after_call (Reads offset v) c = c
 after_call Turns c = c
+after_call (Sees lane head expected seen) c = c
+after_call (Loads at part) c = c
 
 abbrev pub after_calls : List Call → Controller → Controller
 after_calls [] c = c

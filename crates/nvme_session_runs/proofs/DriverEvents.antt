@@ -7,7 +7,7 @@ use Rattle.nvme_spec.specs.World.{World}
 use Rattle.nvme_driver.specs.declared.answer.Answer.TheVariants.{Aborted}
 use Rattle.nvme_driver.specs.declared.request.Request.{Request}
 use Rattle.nvme_driver.specs.declared.state.State.TheVariants.{Up}
-use Rattle.nvme_driver.specs.Calls.{Call, Reads, Stores, Turns, Writes}
+use Rattle.nvme_driver.specs.Calls.{Call, Loads, Reads, Sees, Stores, Turns, Writes}
 use Rattle.nvme_driver.specs.Drivers.{
   Driver,
   after_reset,
@@ -40,7 +40,7 @@ use Rattle.nvme_mailbox.specs.Fleets as fleets
 use Rattle.nvme_mailbox.specs.Fleets.{Fleet, Is, WithDriver, delivered, host_at, raw_fetch, with_host}
 use Rattle.nvme_refinement.specs.Sound.{Sound, mailbox}
 use Rattle.nvme_refinement.specs.Steps.{IsStep, after_calls}
-use Rattle.nvme_fleet.specs.DriverEvents.{CallStep, Ran, events_of_calls, window_at}
+use Rattle.nvme_fleet.specs.DriverEvents.{CallStep, Ran, events_of_calls}
 use Rattle.nvme_fleet.specs.FleetStates.{Layers, fleet_in}
 use Rattle.nvme_fleet.specs.Layers.{Step}
 use Rattle.nvme_fleet.proofs.PowerStep.{are-cycled, are-reset, resets-ran}
@@ -59,6 +59,8 @@ AreWrites (Stores address bytes ∷ calls) = AreWrites calls
 AreWrites (Writes offset v ∷ calls) = AreWrites calls
 AreWrites (Reads offset v ∷ calls) = ⊥
 AreWrites (Turns ∷ calls) = ⊥
+AreWrites (Sees lane head expected seen ∷ calls) = ⊥
+AreWrites (Loads at part ∷ calls) = ⊥
 
 pub ran-calls : (w : World) (v : Device) (x : Controller) (calls : List Call) (c : Controller) → AreWrites calls
     → Ran true (under w v x c) (events_of_calls 1 calls) (under w v x (after_calls calls c))
@@ -74,6 +76,8 @@ ran-calls w v x (Writes offset n ∷ calls) c h =
     (below.Wrote ∷ later.0, (under w v x next, (refl, refl), later.1))
 ran-calls w v x (Reads offset n ∷ calls) c h = absurd h
 ran-calls w v x (Turns ∷ calls) c h = absurd h
+ran-calls w v x (Sees lane head expected seen ∷ calls) c h = absurd h
+ran-calls w v x (Loads at part ∷ calls) c h = absurd h
 
 -- A call of the first driver, in the mailboxes.
 delivers : (w : World) (v : Device) (e : Driver) (x : Controller) (d d' : Driver) (c c' : Controller)
@@ -89,7 +93,7 @@ delivers w v e x d d' c c' r reply same gives = (
 )
 
 pub rises : (w : World) (v : Device) (e : Driver) (x : Controller) (d d' : Driver) (c c' : Controller)
-    → Rises (CallStep true 1) (λ s. window_at s 1) d (under w v x c) (Ok tt) d' (under w v x c')
+    → Rises (CallStep true 1) d (under w v x c) (Ok tt) d' (under w v x c')
     → IsStep (mail.brought_up (mailbox d c)) d' c' (plain (seen.Up (Ok tt)))
     → Step true (two w v e x d c) (BringUp 1) (plain (seen.Up (Ok tt))) (two w v e x d' c')
 unfolding fleet_in host_at

@@ -42,11 +42,12 @@ use Rattle.nvme_spec.specs.Statuses.{successful_completion}
 use Rattle.nvme_spec.specs.World.{World}
 use Rattle.nvme_spec.proofs.Splices.{length-with_bytes}
 use Rattle.nvme_driver.specs.declared.lane.Lane.TheVariants.{Admin}
-use Rattle.nvme_driver.specs.Calls.{Awaits, Call, Calls, Reads, Stores, Turns, Writes}
+use Rattle.nvme_driver.specs.Calls.{Call, Calls, Loads, Reads, Sees, Stores, Turns, Writes}
 use Rattle.nvme_driver.specs.Drivers.{Driver, new_driver, tail_of}
 use Rattle.nvme_driver.specs.Layout.{command_place, tail_doorbell}
-use Rattle.nvme_driver.specs.Polls.{consumed_ends, is_new}
+use Rattle.nvme_driver.specs.Polls.{consumed_ends, is_new, look, new_in}
 use Rattle.nvme_driver.specs.Rises.{
+  Awaits,
   Creates,
   CreatesBoth,
   CreatesSubmissions,
@@ -56,7 +57,6 @@ use Rattle.nvme_driver.specs.Rises.{
   create_submission_queue,
   csts,
   heard_calls,
-  own_answer,
   own_of,
   send_calls,
   start_calls,
@@ -134,7 +134,7 @@ use Rattle.nvme_refinement.proofs.TurnStep.{
   says-own,
   with_admin,
 }
-use Rattle.nvme_fleet.specs.DriverEvents.{CallStep, window_at}
+use Rattle.nvme_fleet.specs.DriverEvents.{CallStep}
 use Rattle.nvme_session_runs.proofs.DriverEvents.{AreWrites, under}
 
 -- Stores and register writes, and then other calls.
@@ -161,6 +161,8 @@ calls-then w v x (Writes offset n ∷ calls) c rest new h later =
     )
 calls-then w v x (Reads offset n ∷ calls) c rest new h later = absurd h
 calls-then w v x (Turns ∷ calls) c rest new h later = absurd h
+calls-then w v x (Sees lane head expected seen ∷ calls) c rest new h later = absurd h
+calls-then w v x (Loads at part ∷ calls) c rest new h later = absurd h
 
 -- The controller is started, and its status is read.
 abbrev page_window : List ℕ
@@ -230,23 +232,29 @@ turns w v x n s s' y y' window e change there works queues =
       answers = tt;
     }
 
--- Its completion is found.
+-- Its completion is seen, and is the answer.
 own-phase : (n : ℕ) → n < 32 → phase_tag 32 n ≡ true
 own-phase n h = let e : n / 32 % 2 ≡ 0 = omega (arith, h) in rw e refl
 
-found-is : (n : ℕ) (w e : List ℕ) → n < 32 → length w ≡ 4194304 → entry.cid e ≡ 24
-    → own_answer (ends_put n) (with_bytes w (0x1000 + 16 * (n % 32)) (completion_entry (own_completion n e)))
+seen-is : (n : ℕ) (w e : List ℕ) → n < 32 → length w ≡ 4194304 → entry.cid e ≡ 24
+    → new_in Admin (ends_put n) (with_bytes w (0x1000 + 16 * (n % 32)) (completion_entry (own_completion n e)))
     ≡ Some (completion_entry (own_completion n e))
-found-is n w e h size i =
+seen-is n w e h size i =
     let b : List ℕ = completion_entry (own_completion n e) in
     let says = says-own n e h i in
     let new : is_new (ends_put n) b ≡ true = rw (says.phase, own-phase n h) refl in
+    ap (λ f. if is_new (ends_put n) f then Some f else None)
+    (part-there w b (0x1000 + 16 * (n % 32)) 16 (length-completion (own_completion n e)) (omega (arith, size)))
+    ∙ ap (λ t. if t then Some b else None) new
+
+own-is : (n : ℕ) (e : List ℕ) → n < 32 → entry.cid e ≡ 24
+    → own_of (ends_put n) (Some (completion_entry (own_completion n e))) ≡ Some (completion_entry (own_completion n e))
+own-is n e h i =
+    let b : List ℕ = completion_entry (own_completion n e) in
+    let says = says-own n e h i in
     let own : answers_own (ends_put n) b ≡ true =
     rw (says.queue, says.command, says.head) (eq-eqb ((n + 1) % 8) (slot_of 8 ((n + 1) % 8)) (omega arith)) in
-    ap (λ f. own_of (ends_put n) (if is_new (ends_put n) f then Some f else None))
-    (part-there w b (0x1000 + 16 * (n % 32)) 16 (length-completion (own_completion n e)) (omega (arith, size)))
-    ∙ ap (λ t. own_of (ends_put n) (if t then Some b else None)) new
-    ∙ ap (λ t. if t then Some b else None) own
+    ap (λ t. if t then Some b else None) own
 
 -- A queue is created by a command of the driver's own, the n-th.
 creates : (w : World) (v : Device) (x : Controller) (n : ℕ) (s s' : Option SubmissionQueue)
@@ -261,7 +269,7 @@ creates : (w : World) (v : Device) (x : Controller) (n : ℕ) (s s' : Option Sub
     ≡ only_change change w (put_window n window (submission_entry f))
     → after_queue_change change (answered_by 1 n s y (put_window n window (submission_entry f)) (submission_entry f))
     ≡ answered_by 1 n s' y' (put_window n window (submission_entry f)) (submission_entry f)
-    → Creates (CallStep true 1) (λ z. window_at z 1) f (with_admin (ends_at n) d) (under w v x (running 1 n 0 s y 0
+    → Creates (CallStep true 1) f (with_admin (ends_at n) d) (under w v x (running 1 n 0 s y 0
     window)) (Some successful_completion) (with_admin (ends_heard n) d)
     (under w v x (heard_by 1 n s' y' (put_window n window (submission_entry f)) (submission_entry f)))
 unfolding Creates Awaits controller_at
@@ -278,9 +286,13 @@ creates w v x n s s' y y' window f change d small long size named whole there ru
     (under w v x (running 1 n 1 s y 0 put)) tt
     (ap (under w v x) (sym (ap (after_write32 (tail_doorbell Admin) (tail_of (ends_put n))) stored ∙ rung))) in
     let turn = turns w v x n s s' y y' put e change there works queues in
-    let found = found-is n put e (omega (arith, small)) whole named in
-    let awaits = subst (λ o. MatchOption o (Awaits (CallStep true 1) (λ z. own_answer (ends_put n) (window_at z 1)) 3
-    mid (Some b) mid) (λ found. (Some b ≡ Some found) × (mid ≡ mid))) (sym found) (refl, refl) in
+    let sees : CallStep true 1 mid (look Admin (ends_put n) (Some b)) mid = record {
+      given = [];
+      run = refl;
+      answers = sym (seen-is n put e (omega (arith, small)) whole named);
+    } in
+    let awaits = subst (λ o. MatchOption o (Awaits (CallStep true 1) (ends_put n) 3 mid (Some b) mid)
+    (λ found. (Some b ≡ Some found) × (mid ≡ mid))) (sym (own-is n e (omega (arith, small)) named)) (refl, refl) in
     let hears = calls-then w v x (heard_calls (ends_put n) b) (answered_by 1 n s' y' put e) []
     (under w v x (heard_by 1 n s' y' put e)) tt
     (ap (under w v x) (sym (head-written Admin (answered_by 1 n s' y' put e) (slot_of 32 ((n + 1) % 64)) refl refl
@@ -289,7 +301,7 @@ creates w v x n s s' y y' window f change d small long size named whole there ru
       Some b,
       mid,
       sends,
-      (mid, turn, awaits),
+      (mid, Some b, (mid, turn, (mid, sees, refl)), awaits),
       (
         sym (ap Some says.status),
         ap (λ h. with_admin (consumed_ends (ends_put n) h) d) (sym says.head),
@@ -336,7 +348,7 @@ rung-second = tail-written Admin (running 1 1 0 None made_completions 0 (put_win
     (tail_of (ends_put 1)) refl refl (omega arith)
 
 creates-first : (w : World) (v : Device) (x : Controller)
-    → Creates (CallStep true 1) (λ z. window_at z 1) create_completion_queue (started (new_driver 1))
+    → Creates (CallStep true 1) create_completion_queue (started (new_driver 1))
     (under w v x idle) (Some successful_completion) (with_admin (ends_at 1) (started (new_driver 1)))
     (under w v x (running 1 1 0 None made_completions 0 first_window))
 unfolding after_queue_change
@@ -346,7 +358,7 @@ creates-first w v x = creates w v x 0 None None None made_completions page_windo
     (completions-made w 1 (put_window 0 page_window first)) refl
 
 creates-second : (w : World) (v : Device) (x : Controller)
-    → Creates (CallStep true 1) (λ z. window_at z 1) create_submission_queue
+    → Creates (CallStep true 1) create_submission_queue
     (with_admin (ends_at 1) (started (new_driver 1))) (under w v x (running 1 1 0 None made_completions 0 first_window))
     (Some successful_completion) (with_admin (ends_at 2) (started (new_driver 1)))
     (under w v x (risen_controller 1 last_window))
@@ -358,12 +370,12 @@ creates-second w v x = creates w v x 1 None made_submissions made_completions ma
     (submissions-made w 1 (put_window 1 first_window second)) refl
 
 pub comes_up : (w : World) (v : Device) (x : Controller)
-    → Rises (CallStep true 1) (λ z. window_at z 1) (new_driver 1) (under w v x (new_controller 1)) (Ok tt)
+    → Rises (CallStep true 1) (new_driver 1) (under w v x (new_controller 1)) (Ok tt)
     (risen_driver (new_driver 1)) (under w v x (risen_controller 1 last_window))
 unfolding Rises
 comes_up w v x =
     let mid : Subsystem = under w v x (running 1 1 0 None made_completions 0 first_window) in
-    let submissions : CreatesSubmissions (CallStep true 1) (λ z. window_at z 1) None
+    let submissions : CreatesSubmissions (CallStep true 1) None
     (with_admin (ends_at 1) (started (new_driver 1))) mid (Ok tt) (risen_driver (new_driver 1))
     (under w v x (risen_controller 1 last_window)) = (
       Some successful_completion,
@@ -371,7 +383,7 @@ comes_up w v x =
       creates-second w v x,
       (refl, refl),
     ) in
-    let both : CreatesBoth (CallStep true 1) (λ z. window_at z 1) true (started (new_driver 1)) (under w v x idle)
+    let both : CreatesBoth (CallStep true 1) true (started (new_driver 1)) (under w v x idle)
     (Ok tt) (risen_driver (new_driver 1)) (under w v x (risen_controller 1 last_window)) = (
       Some successful_completion,
       with_admin (ends_at 1) (started (new_driver 1)),

@@ -4,7 +4,7 @@ ghost use Rattle.std.specs.Prelude.{◌≡◌, ◌<◌, ◌≤◌, ◌+◌, ℕ,
 ghost use Rattle.nvme_spec.specs.Queues.{submission_room};
 ghost use Rattle.nvme_spec.specs.Limits.{memory_page};
 ghost use Rattle.nvme_spec.specs.Memory.{window_size};
-ghost use Rattle.nvme_driver.specs.Calls.{Stores, Calls, Awaits};
+ghost use Rattle.nvme_driver.specs.Calls.{Stores, Calls};
 ghost use Rattle.nvme_driver.specs.Drivers.{is_down as down};
 ghost use Rattle.nvme_driver.specs.Rises.{
   start_calls,
@@ -13,7 +13,8 @@ ghost use Rattle.nvme_driver.specs.Rises.{
   own_fields,
   create_completion_queue,
   create_submission_queue,
-  own_answer as spec_own_answer,
+  Awaits,
+  own_of as spec_own_of,
   sent,
   send_calls,
   heard_own,
@@ -28,13 +29,12 @@ ghost use Rattle.nvme_driver.specs.Rises.{
 use super::Driver;
 use crate::ends::Ends;
 use crate::faults::UpFault;
-use crate::found::{is_success, new_in};
+use crate::found::{is_success, next_if_new};
 use crate::lane::Lane;
 use crate::layout::{PAGE, SLOTS};
 use crate::port::Port;
 use crate::register;
 use crate::state::State;
-use nvme_mem::Window;
 use nvme_spec::AdminCommand;
 use nvme_wire::{Cqe, Sqe, SqeFields, Status};
 
@@ -89,11 +89,11 @@ fn submission_queue() -> SqeFields
     )
 }
 
-/// The answer to the driver's own command, if it is the next completion of the admin lane (queue pair).
-fn own_answer(ends: Ends, window: &Window) -> Option<Cqe>
-    ensures { result ≡ spec_own_answer ends window.now }
+/// The answer to the driver's own command, if a new completion of the admin lane (queue pair) is it.
+fn own_of(ends: Ends, seen: Option<Cqe>) -> Option<Cqe>
+    ensures { result ≡ spec_own_of ends seen }
 {
-    let entry = new_in(Lane::Admin, ends, window)?;
+    let entry = seen?;
     let is_own = entry.sq_id() == Lane::Admin.queue_id()
         && entry.cid() == OWN_CID
         && entry.sq_head() == ends.tail();
@@ -112,12 +112,13 @@ fn zero_page<P: Port>(port: &mut P, address: u64)
 
 /// Waits for the answer to the driver's own command, for at most four turns.
 fn await_answer<P: Port>(port: &mut P, ends: Ends) -> Option<Cqe>
-    ensures awaits { Awaits P.step (λ p. spec_own_answer ends (P.bytes p)) 4 port.old result port.new }
+    ensures awaits { Awaits P.step ends 4 port.old result port.new }
     ensures links { P.links port.new ≡ P.links port.old }
 {
     for _ in 0..TURNS {
         port.turn();
-        if let Some(entry) = own_answer(ends, port.window()) {
+        let seen = next_if_new(port, Lane::Admin, ends);
+        if let Some(entry) = own_of(ends, seen) {
             return Some(entry);
         }
     }
@@ -188,7 +189,7 @@ impl Driver {
         requires { 0 < submission_room self.old.admin.tail }
         ensures room { submission_room self.old.admin.tail ≤ submission_room self.new.admin.tail + 1 }
         ensures keeps { self.new ≡ record self.old { admin = self.new.admin } }
-        ensures creates { Creates P.step P.bytes command self.old port.old result self.new port.new }
+        ensures creates { Creates P.step command self.old port.old result self.new port.new }
         ensures links { P.links port.new ≡ P.links port.old }
     {
         self.send(port, command);
@@ -208,7 +209,7 @@ impl Driver {
     pub fn bring_up<P: Port>(&mut self, port: &mut P) -> Result<(), UpFault>
         ensures already { down self.old.state ≡ false
             → (result ≡ Err UpFault.AlreadyUp) × (self.new ≡ self.old) × (port.new ≡ port.old) }
-        ensures rises { down self.old.state ≡ true → Rises P.step P.bytes self.old port.old result self.new port.new }
+        ensures rises { down self.old.state ≡ true → Rises P.step self.old port.old result self.new port.new }
         ensures state { down self.old.state ≡ true → self.new.state ≡ risen_state result }
         ensures keeps { (self.new.slots ≡ self.old.slots) × (self.new.next ≡ self.old.next) }
         ensures links { P.links port.new ≡ P.links port.old }

@@ -4,38 +4,40 @@ ghost use Rattle.std.specs.Prelude.{
   ◌≡◌,
   ◌<◌,
   ◌≤◌,
-  ◌+◌,
+  ◌++◌,
   IfSome,
   Some,
   None,
   length,
   take,
   drop,
+  true,
   MatchOption,
-  slice_range,
 };
 ghost use Rattle.nvme_wire.specs.Completion.{cid, sq_head};
 ghost use Rattle.nvme_spec.specs.Limits.{most_bytes};
 ghost use Rattle.nvme_driver.specs.Calls.{Calls};
-ghost use Rattle.nvme_driver.specs.Layout.{slot_count, data_area as area};
+ghost use Rattle.nvme_driver.specs.Layout.{slot_count};
 ghost use Rattle.nvme_driver.specs.Drivers.{ends as ends_of};
 ghost use Rattle.nvme_driver.specs.Polls.{
   IsPolled,
   IsOldest,
   aborted_at,
-  found as spec_found,
   answered as spec_answered,
   answer_len as spec_answer_len,
   consumed_ends,
-  entry_poll,
   handed_len,
+  handed_up,
+  is_new,
+  loads,
+  looks,
 };
 
 use super::Driver;
 use crate::answer::Answer;
 use crate::ends::Ends;
 use crate::faults::PollFault;
-use crate::found::{Found, is_success, new_in};
+use crate::found::{Found, is_success, next_if_new};
 use crate::lane::Lane;
 use crate::layout::data_area;
 use crate::length::Length;
@@ -43,8 +45,6 @@ use crate::port::Port;
 use crate::slots::{Waiting, live_in, oldest_aborted};
 use crate::state::State;
 use crate::ticket::Ticket;
-use nvme_mem::Window;
-use nvme_spec::Piece;
 use nvme_wire::{Cqe, Status};
 
 /// The number of bytes of data of an answer.
@@ -57,21 +57,6 @@ fn answer_len(received: Length, status: Status) -> usize
     } else {
         0
     }
-}
-
-/// Copies the first `len` bytes of a slot's data to the front of a buffer, and leaves its other bytes.
-fn copy_data(window: &Window, slot: usize, len: usize, buffer: &mut [u8])
-    requires slot { slot < slot_count }
-    requires most { len ≤ most_bytes }
-    requires room { len ≤ length buffer.old }
-    ensures front { take len buffer.new ≡ slice_range window.now (area slot) (area slot + len) }
-    ensures behind { drop len buffer.new ≡ drop len buffer.old }
-{
-    let piece = Piece {
-        address: data_area(slot),
-        len: len as u64,
-    };
-    buffer[..len].copy_from_slice(window.bytes(piece));
 }
 
 impl Driver {
@@ -92,16 +77,19 @@ impl Driver {
     }
 
     /// The first new completion: of the admin lane (queue pair), then of the I/O lane.
-    fn found(&self, window: &Window) -> Option<Found>
-        ensures { result ≡ spec_found self.now window.now }
+    fn found<P: Port>(&self, port: &mut P) -> Option<Found>
+        ensures calls { Calls P.step port.old (looks self.now result) port.new }
+        ensures new { IfSome result (λ f. is_new (ends_of f.lane self.now) f.entry ≡ true) }
+        ensures size { IfSome result (λ f. length f.entry ≡ 16) }
+        ensures links { P.links port.new ≡ P.links port.old }
     {
-        if let Some(entry) = new_in(Lane::Admin, self.admin, window) {
+        if let Some(entry) = next_if_new(port, Lane::Admin, self.admin) {
             return Some(Found {
                 lane: Lane::Admin,
                 entry,
             });
         }
-        let entry = new_in(Lane::Io, self.io, window)?;
+        let entry = next_if_new(port, Lane::Io, self.io)?;
         Some(Found {
             lane: Lane::Io,
             entry,
@@ -127,38 +115,40 @@ impl Driver {
         Some((waiting, ends))
     }
 
-    /// Delivers the answer in a new completion.
+    /// Delivers the answer in a new completion, with its data at the front of the buffer.
     fn hand_up<P: Port>(
         &mut self,
         port: &mut P,
-        lane: Lane,
-        entry: Cqe,
+        found: Found,
         buffer: &mut [u8],
     ) -> Result<Option<Answer>, PollFault>
         requires { most_bytes ≤ length buffer.old }
-        ensures answer { result ≡ (entry_poll self.old (P.bytes port.old) lane entry).answer }
-        ensures driver { self.new ≡ (entry_poll self.old (P.bytes port.old) lane entry).driver }
-        ensures calls { Calls P.step port.old (entry_poll self.old (P.bytes port.old) lane entry).calls port.new }
-        ensures bytes { take (length (entry_poll self.old (P.bytes port.old) lane entry).bytes) buffer.new
-            ≡ (entry_poll self.old (P.bytes port.old) lane entry).bytes }
+        ensures answer { result ≡ (handed_up self.old found (take (handed_len result) buffer.new)).answer }
+        ensures driver { self.new ≡ (handed_up self.old found (take (handed_len result) buffer.new)).driver }
+        ensures calls { Calls P.step port.old (
+            loads found.entry (take (handed_len result) buffer.new) (spec_answered self.old found.lane found.entry)
+            ++ (handed_up self.old found (take (handed_len result) buffer.new)).calls) port.new }
         ensures behind { drop (handed_len result) buffer.new ≡ drop (handed_len result) buffer.old }
+        ensures whole { length buffer.new ≡ length buffer.old }
+        ensures most { handed_len result ≤ most_bytes }
+        ensures slot { IfSome (spec_answered self.old found.lane found.entry) (λ w. cid found.entry < slot_count) }
         ensures links { P.links port.new ≡ P.links port.old }
     {
-        let Some((waiting, ends)) = self.answered(lane, entry) else {
+        let Some((waiting, ends)) = self.answered(found.lane, found.entry) else {
             self.state = State::Failed;
             return Err(PollFault::UnknownCommand);
         };
-        let slot = usize::from(entry.cid());
-        let status = entry.status();
+        let slot = usize::from(found.entry.cid());
+        let status = found.entry.status();
         let len = answer_len(waiting.received, status);
-        copy_data(port.window(), slot, len, buffer);
+        port.loads(data_area(slot), &mut buffer[..len]);
         self.slots[slot] = None;
-        self.set_ends(lane, ends);
-        port.write32(lane.head_doorbell(), u32::from(ends.head()));
+        self.set_ends(found.lane, ends);
+        port.write32(found.lane.head_doorbell(), u32::from(ends.head()));
         Ok(Some(Answer::Done {
             ticket: waiting.ticket,
             status,
-            dw0: entry.dw0(),
+            dw0: found.entry.dw0(),
             len,
         }))
     }
@@ -178,7 +168,7 @@ impl Driver {
         buffer: &mut [u8],
     ) -> Result<Option<Answer>, PollFault>
         requires { most_bytes ≤ length buffer.old }
-        ensures polls { IsPolled P.step self.old (P.bytes port.old) port.old result self.new port.new buffer.new }
+        ensures polls { IsPolled P.step self.old port.old result self.new port.new buffer.new }
         ensures behind { drop (handed_len result) buffer.new ≡ drop (handed_len result) buffer.old }
         ensures links { P.links port.new ≡ P.links port.old }
     {
@@ -189,9 +179,9 @@ impl Driver {
         if !self.is_up() {
             return Err(PollFault::NotUp);
         }
-        let Some(Found { lane, entry }) = self.found(port.window()) else {
+        let Some(found) = self.found(port) else {
             return Ok(None);
         };
-        self.hand_up(port, lane, entry, buffer)
+        self.hand_up(port, found, buffer)
     }
 }

@@ -5,8 +5,9 @@ ghost use Rattle.nvme_device.specs.declared.capabilities.CapabilityFault.TheVari
 ghost use Rattle.nvme_device.specs.declared.status.Awaited.TheVariants as awaited;
 ghost use Rattle.nvme_device.specs.declared.status.Progress.TheVariants as progress;
 ghost use Rattle.nvme_driver.specs.declared.faults.UpFault.TheVariants.{NoAnswer};
+ghost use Rattle.nvme_driver.specs.declared.lane.Lane.TheVariants.{Admin};
 ghost use Rattle.nvme_driver.specs.declared.request.Request.TheVariants.{Identify};
-ghost use Rattle.nvme_driver.specs.Calls.{Stores, Writes, Reads, Turns};
+ghost use Rattle.nvme_driver.specs.Calls.{Stores, Writes, Reads, Turns, Sees, Loads};
 ghost use Rattle.nvme_driver.specs.Rises.{enabling};
 ghost use Rattle.nvme_host.specs.declared.recording_port.Need.TheVariants.{Nothing, Status, Completion};
 ghost use Rattle.nvme_host.specs.declared.stage.Stage.TheVariants.{
@@ -104,6 +105,8 @@ fn actions_are_told_apart()
     ensures actions { map action_of (Stores 0x1000 (7 ∷ 8 ∷ 9 ∷ []) ∷ Writes 0x14 1 ∷ Reads 0x1c 1 ∷ Turns ∷ [])
         ≡ record { at = 0x1000; len = 3; value = 0; kind = 1 } ∷ action
         ∷ record { at = 0x1c; len = 0; value = 1; kind = 2 } ∷ record { at = 0; len = 0; value = 0; kind = 2 } ∷ [] }
+    ensures no_actions { map action_of (Sees Admin 5 true None ∷ Loads 0x100000 (7 ∷ []) ∷ [])
+        ≡ record { at = 0; len = 0; value = 0; kind = 2 } ∷ record { at = 0; len = 0; value = 0; kind = 2 } ∷ [] }
     ensures moving { moving 5 8 ≡ record { slba = 5; blocks = 8; bytes = 4096 } }
     ensures sending { sending 5 4096 ≡ record { slba = 5; blocks = 8; bytes = 4096 } }
     ensures zeroing { zeroing 5 8 ≡ record { slba = 5; blocks = 8; bytes = 0 } }

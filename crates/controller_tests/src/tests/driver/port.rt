@@ -5,7 +5,7 @@ ghost use Rattle.nvme_driver.specs.Layout.{slot_count};
 ghost use Rattle.nvme_driver.specs.Polls.{is_success};
 ghost use Rattle.nvme_driver.specs.Rises.{is_ready};
 
-use nvme_driver::Port;
+use nvme_driver::{Lane, Port, entry_seen};
 use nvme_mem::Window;
 use nvme_spec::Piece;
 use nvme_wire::{Cqe, NoMemory, Status};
@@ -75,10 +75,6 @@ impl Port for TestPort {
 
     ghost links = { λ p. [] };
 
-    fn window(&self) -> &Window {
-        &self.window
-    }
-
     fn store(&mut self, addr: u64, part: &[u8]) {
         let place = Piece {
             address: addr,
@@ -113,5 +109,17 @@ impl Port for TestPort {
         }
         self.waited = 0;
         self.post();
+    }
+
+    fn sees(&mut self, lane: Lane, head: u16, phase: bool) -> Option<Cqe> {
+        entry_seen(&self.window, lane, head, phase)
+    }
+
+    fn loads(&mut self, addr: u64, part: &mut [u8]) {
+        let place = Piece {
+            address: addr,
+            len: part.len() as u64,
+        };
+        part.copy_from_slice(self.window.bytes(place));
     }
 }

@@ -6,11 +6,8 @@ use Rattle.nvme_driver.specs.declared.lane.Lane.TheVariants.{Admin, Io}
 use Rattle.nvme_driver.specs.declared.slots.Waiting.{Waiting}
 use Rattle.nvme_driver.specs.Layout.{data_area}
 use Rattle.nvme_driver.specs.Drivers.{Driver, ends, is_up}
+use Rattle.nvme_driver.specs.Ports.{Memory}
 use Rattle.nvme_driver.specs.Polls.{next_entry, is_new, answered, answer_len, entry_poll, polled}
-
--- what the device's memory has at each moment
-abbrev pub Memory : Type 0
-Memory = ℕ → List ℕ
 
 -- the next completion of a lane, in some bytes
 abbrev pub next_of : Driver → Lane → List ℕ → List ℕ

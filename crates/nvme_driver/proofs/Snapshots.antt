@@ -38,8 +38,8 @@ use Rattle.nvme_driver.specs.Polls.{
   answered_poll,
   entry_poll,
 }
-use Rattle.nvme_host.specs.Snapshots.{
-  Memory,
+use Rattle.nvme_driver.specs.Ports.{Memory}
+use Rattle.nvme_driver.specs.Snapshots.{
   Settles,
   Snapshot,
   SnapshotsAreOfOneMoment,
@@ -66,18 +66,16 @@ is-whole d lane m window settles shot =
     let two : next_of d lane (m shot.second) ≡ one = settles.entry shot.first shot.second shot.rest_later shot.new in
     shot.entry ∙ (ap (λ (e : List ℕ). take 12 e ++ drop 12 one) two ∙ take-append-drop 12 one)
 
-pub snapshots_are_of_one_moment : SnapshotsAreOfOneMoment
-snapshots_are_of_one_moment d lane m window settles shot =
+-- the poll of that lane is the one of that moment
+pub at-first : (d : Driver) (lane : Lane) (m : Memory) (window : List ℕ) → Settles d lane m
+    → (shot : Snapshot d lane m window)
+    → entry_poll d window lane (next_of d lane window)
+    ≡ entry_poll d (m shot.first) lane (next_of d lane (m shot.first))
+at-first d lane m window settles shot =
     let one : List ℕ = next_of d lane (m shot.first) in
-    let two : next_of d lane (m shot.second) ≡ one = settles.entry shot.first shot.second shot.rest_later shot.new in
-    let whole : next_of d lane window ≡ one =
-    shot.entry ∙ (ap (λ (e : List ℕ). take 12 e ++ drop 12 one) two ∙ take-append-drop 12 one) in
-    record {
-      moment = shot.first;
-      new = shot.new;
-      same = ap (λ (e : List ℕ). entry_poll d window lane e) whole
-          ∙ same-data d lane one (m shot.first) window (answered d lane one) (λ x is. data-stays x is whole);
-    }
+    let whole : next_of d lane window ≡ one = is-whole d lane m window settles shot in
+    ap (λ (e : List ℕ). entry_poll d window lane e) whole
+    ∙ same-data d lane one (m shot.first) window (answered d lane one) (λ x is. data-stays x is whole)
   where
     data-stays : (x : Waiting) → answered d lane (next_of d lane (m shot.first)) ≡ Some x
         → next_of d lane window ≡ next_of d lane (m shot.first)
@@ -86,6 +84,10 @@ snapshots_are_of_one_moment d lane m window settles shot =
         subst (λ (e : List ℕ). data_of e x window ≡ data_of e x (m shot.third)) whole
         (shot.moved x (ap (λ (e : List ℕ). answered d lane e) whole ∙ is))
         ∙ settles.moved shot.first shot.third (omega (arith, shot.rest_later, shot.data_later)) shot.new x is
+
+pub snapshots_are_of_one_moment : SnapshotsAreOfOneMoment
+snapshots_are_of_one_moment d lane m window settles shot =
+    record { moment = shot.first; new = shot.new; same = at-first d lane m window settles shot }
 
 -- the entry in the window is new, as it was when its phase was read
 new-there : (d : Driver) (lane : Lane) (m : Memory) (window : List ℕ) → Settles d lane m → Snapshot d lane m window
