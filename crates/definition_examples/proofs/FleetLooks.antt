@@ -15,11 +15,13 @@ pub fleet_seen : (tells : Bool) → (old new : Setting) → (lane : Lane) → (h
     → (found ≡ seen_in lane head expected old.controller.window) × (new ≡ old)
 fleet_seen tells old new lane head expected found x = x
 
-pub fleet_loaded : (tells : Bool) → (old new : Setting) → (at : ℕ) → (part : List ℕ) → LinkStep tells old (Loads at part) new
+pub fleet_loaded : (tells : Bool) → (old new : Setting) → (at : ℕ) → (part : List ℕ)
+    → LinkStep tells old (Loads at part) new
     → (part ≡ slice_range old.controller.window at (at + length part)) × (new ≡ old)
 fleet_loaded tells old new at part x = x
 
-pub fleet_look_reaches_none : (tells : Bool) → (k head : ℕ) → (lane : Lane) → (before after : Subsystem) → (made : List MediumCall)
+pub fleet_look_reaches_none : (tells : Bool) → (k head : ℕ) → (lane : Lane) → (before after : Subsystem)
+    → (made : List MediumCall)
     → ReachesMedium logs tells k before after (Sees lane head true None) [] made → made ≡ []
 fleet_look_reaches_none tells k head lane before after made x = x
 

@@ -21,7 +21,8 @@ fn fleet_looks_of_a_window()
     ensures seen { (tells : Bool) → (old new : Setting) → (lane : LaneOf) → (head : ℕ) → (expected : Bool)
         → (found : Option (List ℕ)) → LinkStep tells old (Sees lane head expected found) new
         → (found ≡ seen_in lane head expected old.controller.window) × (new ≡ old) }
-    ensures loaded { (tells : Bool) → (old new : Setting) → (at : ℕ) → (part : List ℕ) → LinkStep tells old (Loads at part) new
+    ensures loaded { (tells : Bool) → (old new : Setting) → (at : ℕ) → (part : List ℕ)
+        → LinkStep tells old (Loads at part) new
         → (part ≡ slice_range old.controller.window at (at + length part)) × (new ≡ old) }
     ensures look_leaves { (c : Controller) → after_call (Sees Lane.Io 3 true None) c ≡ c }
     ensures load_leaves { (c : Controller) → after_call (Loads 0 []) c ≡ c }
@@ -33,8 +34,9 @@ fn fleet_looks_are_no_events()
     ensures load { events_of 7 (Loads 0 []) ≡ [] }
     ensures nothing { ReturnsWhatIsSeen (Sees Lane.Admin 0 true None) [] [] }
     ensures bytes { ReturnsWhatIsSeen (Loads 1 (6 ∷ [])) (5 ∷ 6 ∷ []) [] }
-    ensures look_reaches_none { (tells : Bool) → (k head : ℕ) → (lane : LaneOf) → (before after : Subsystem) → (made : List MediumCall)
-        → ReachesMedium logs tells k before after (Sees lane head true None) [] made → made ≡ [] }
+    ensures look_reaches_none { (tells : Bool) → (k head : ℕ) → (lane : LaneOf) → (before after : Subsystem)
+        → (made : List MediumCall) → ReachesMedium logs tells k before after (Sees lane head true None) [] made
+        → made ≡ [] }
     ensures load_reaches_none { (tells : Bool) → (k at : ℕ) → (before after : Subsystem) → (made : List MediumCall)
         → ReachesMedium logs tells k before after (Loads at []) [] made → made ≡ [] }
 {}

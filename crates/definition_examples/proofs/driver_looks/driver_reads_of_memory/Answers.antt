@@ -1,4 +1,10 @@
-use Rattle.definition_examples.proofs.DriverLooks.{loaded_is_sooner, old_is_later, old_is_old, old_is_sooner, seen_is_read}
+use Rattle.definition_examples.proofs.DriverLooks.{
+  loaded_is_sooner,
+  old_is_later,
+  old_is_old,
+  old_is_sooner,
+  seen_is_read,
+}
 use Rattle.definition_examples.proofs.driver_looks.driver_reads_of_memory.Goals as goal
 
 pub returns-clause-old_later : goal.returns-clause-old_later
