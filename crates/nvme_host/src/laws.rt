@@ -4,7 +4,6 @@ ghost use Rattle.nvme_driver.specs.Ports.{IsStill};
 ghost use Rattle.nvme_host.specs.Actions.{PlacingRecordsItsStores};
 ghost use Rattle.nvme_host.specs.Determined.{CallsAreDetermined, RunsHaveDistinctTickets};
 ghost use Rattle.nvme_host.specs.ExportsDetermined.{ExportsAreDetermined};
-ghost use Rattle.nvme_driver.specs.Snapshots.{SnapshotsAreOfOneMoment, PollsAreOfOneMoment};
 ghost use Rattle.nvme_host.specs.Recording.{Records};
 ghost use Rattle.nvme_host.specs.Runs.{
   DeliversGivenTicketsOnce,
@@ -14,14 +13,6 @@ ghost use Rattle.nvme_host.specs.Runs.{
   AnswersNameTheirRequests,
   LooksWhereTheDriverLooks,
 };
-
-/// A device that writes while it is read: a poll over a window into which a completion was copied, phase tag first, is
-/// a poll of the memory of the device at one moment.
-#[tactic(auto, using(nvme_driver::proofs::Snapshots::snapshots_are_of_one_moment, nvme_driver::proofs::Snapshots::polls_are_of_one_moment))]
-pub fn moving()
-    ensures entry { SnapshotsAreOfOneMoment }
-    ensures poll { PollsAreOfOneMoment }
-{}
 
 /// The looks and loads of a driver return what is in the port's window, and leave it.
 #[tactic(auto, using(crate::proofs::Windows::looks_leave_the_window))]

@@ -188,20 +188,31 @@ says-own n e h i =
 abbrev pub ends_put : ℕ → Ends
 ends_put n = put_ends (ends_at n)
 
+pub seen-is : (n : ℕ) (w e : List ℕ) → n < 32 → length w ≡ 4194304 → command_cid e ≡ 24
+    → new_in Admin (ends_put n) (with_bytes w (0x1000 + 16 * (n % 32)) (completion_entry (own_completion n e)))
+    ≡ Some (completion_entry (own_completion n e))
+seen-is n w e h size i =
+    let b : List ℕ = completion_entry (own_completion n e) in
+    let says = says-own n e h i in
+    let new : is_new (ends_put n) b ≡ true = rw (says.phase, own-phase n h) refl in
+    ap (λ f. if is_new (ends_put n) f then Some f else None)
+    (part-there w b (0x1000 + 16 * (n % 32)) 16 (length-completion (own_completion n e)) (omega (arith, size)))
+    ∙ ap (λ t. if t then Some b else None) new
+
+pub own-is : (n : ℕ) (e : List ℕ) → n < 32 → command_cid e ≡ 24
+    → own_of (ends_put n) (Some (completion_entry (own_completion n e))) ≡ Some (completion_entry (own_completion n e))
+own-is n e h i =
+    let b : List ℕ = completion_entry (own_completion n e) in
+    let says = says-own n e h i in
+    let own : answers_own (ends_put n) b ≡ true =
+    rw (says.queue, says.command, says.head) (eq-eqb ((n + 1) % 8) (slot_of 8 ((n + 1) % 8)) (omega arith)) in
+    ap (λ t. if t then Some b else None) own
+
 found-is : (n : ℕ) (w e : List ℕ) → n < 32 → length w ≡ 4194304 → command_cid e ≡ 24
     → own_of (ends_put n)
     (new_in Admin (ends_put n) (with_bytes w (0x1000 + 16 * (n % 32)) (completion_entry (own_completion n e))))
     ≡ Some (completion_entry (own_completion n e))
-found-is n w e h size i =
-    let b : List ℕ = completion_entry (own_completion n e) in
-    let says = says-own n e h i in
-    let new : is_new (ends_put n) b ≡ true = rw (says.phase, own-phase n h) refl in
-    let own : answers_own (ends_put n) b ≡ true =
-    rw (says.queue, says.command, says.head) (eq-eqb ((n + 1) % 8) (slot_of 8 ((n + 1) % 8)) (omega arith)) in
-    ap (λ f. own_of (ends_put n) (if is_new (ends_put n) f then Some f else None))
-    (part-there w b (0x1000 + 16 * (n % 32)) 16 (length-completion (own_completion n e)) (omega (arith, size)))
-    ∙ ap (λ t. own_of (ends_put n) (if t then Some b else None)) new
-    ∙ ap (λ t. if t then Some b else None) own
+found-is n w e h size i = ap (own_of (ends_put n)) (seen-is n w e h size i) ∙ own-is n e h i
 
 -- one turn is enough
 one-turn : {S : Type 0} (step : S → Call → S → Type 0) (e : Ends) (old new : S) (answer : Option (List ℕ))

@@ -5,7 +5,6 @@ use Rattle.std.proofs.Common.{
   ◌+◌,
   ◌*◌,
   ◌%◌,
-  ◌/◌,
   ◌++◌,
   ◌∙◌,
   ℕ,
@@ -25,8 +24,7 @@ use Rattle.std.proofs.Common.{
   subst,
   arith,
 }
-use Rattle.std.specs.Prelude.{if◌then◌else◌, MatchOption}
-use Rattle.std.proofs.lemmas.Bool.{eq-eqb}
+use Rattle.std.specs.Prelude.{MatchOption}
 use Rattle.nvme_wire.specs.Completion.{completion_entry}
 use Rattle.nvme_wire.specs.Submission.{submission_entry}
 use Rattle.nvme_wire.specs.Submission as entry
@@ -37,7 +35,7 @@ use Rattle.nvme_spec.specs.Blocks.{Device}
 use Rattle.nvme_spec.specs.Bytes.{with_bytes}
 use Rattle.nvme_spec.specs.Execution.{Scene}
 use Rattle.nvme_spec.specs.Memory as memory
-use Rattle.nvme_spec.specs.Queues.{phase_tag, slot_of}
+use Rattle.nvme_spec.specs.Queues.{slot_of}
 use Rattle.nvme_spec.specs.Statuses.{successful_completion}
 use Rattle.nvme_spec.specs.World.{World}
 use Rattle.nvme_spec.proofs.Splices.{length-with_bytes}
@@ -45,19 +43,17 @@ use Rattle.nvme_driver.specs.declared.lane.Lane.TheVariants.{Admin}
 use Rattle.nvme_driver.specs.Calls.{Call, Calls, Loads, Reads, Sees, Stores, Turns, Writes}
 use Rattle.nvme_driver.specs.Drivers.{Driver, new_driver, tail_of}
 use Rattle.nvme_driver.specs.Layout.{command_place, tail_doorbell}
-use Rattle.nvme_driver.specs.Polls.{consumed_ends, is_new, look, new_in}
+use Rattle.nvme_driver.specs.Polls.{consumed_ends, look}
 use Rattle.nvme_driver.specs.Rises.{
   Awaits,
   Creates,
   CreatesBoth,
   CreatesSubmissions,
   Rises,
-  answers_own,
   create_completion_queue,
   create_submission_queue,
   csts,
   heard_calls,
-  own_of,
   send_calls,
   start_calls,
   started,
@@ -129,9 +125,11 @@ use Rattle.nvme_refinement.proofs.TurnStep.{
   ends_heard,
   ends_put,
   heard_by,
+  own-is,
   own_completion,
   put_window,
   says-own,
+  seen-is,
   with_admin,
 }
 use Rattle.nvme_fleet.specs.DriverEvents.{CallStep}
@@ -231,30 +229,6 @@ turns w v x n s s' y y' window e change there works queues =
       );
       answers = tt;
     }
-
--- Its completion is seen, and is the answer.
-own-phase : (n : ℕ) → n < 32 → phase_tag 32 n ≡ true
-own-phase n h = let e : n / 32 % 2 ≡ 0 = omega (arith, h) in rw e refl
-
-seen-is : (n : ℕ) (w e : List ℕ) → n < 32 → length w ≡ 4194304 → entry.cid e ≡ 24
-    → new_in Admin (ends_put n) (with_bytes w (0x1000 + 16 * (n % 32)) (completion_entry (own_completion n e)))
-    ≡ Some (completion_entry (own_completion n e))
-seen-is n w e h size i =
-    let b : List ℕ = completion_entry (own_completion n e) in
-    let says = says-own n e h i in
-    let new : is_new (ends_put n) b ≡ true = rw (says.phase, own-phase n h) refl in
-    ap (λ f. if is_new (ends_put n) f then Some f else None)
-    (part-there w b (0x1000 + 16 * (n % 32)) 16 (length-completion (own_completion n e)) (omega (arith, size)))
-    ∙ ap (λ t. if t then Some b else None) new
-
-own-is : (n : ℕ) (e : List ℕ) → n < 32 → entry.cid e ≡ 24
-    → own_of (ends_put n) (Some (completion_entry (own_completion n e))) ≡ Some (completion_entry (own_completion n e))
-own-is n e h i =
-    let b : List ℕ = completion_entry (own_completion n e) in
-    let says = says-own n e h i in
-    let own : answers_own (ends_put n) b ≡ true =
-    rw (says.queue, says.command, says.head) (eq-eqb ((n + 1) % 8) (slot_of 8 ((n + 1) % 8)) (omega arith)) in
-    ap (λ t. if t then Some b else None) own
 
 -- A queue is created by a command of the driver's own, the n-th.
 creates : (w : World) (v : Device) (x : Controller) (n : ℕ) (s s' : Option SubmissionQueue)
