@@ -8,6 +8,7 @@ mod CoreRegisters
 mod CoreReservations
 mod CoreTargets
 mod DriverLooks
+mod DriverMoments
 mod DriverPlacings
 mod DriverPolls
 mod FleetCalls

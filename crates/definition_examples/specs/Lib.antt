@@ -1,5 +1,6 @@
 pub mod CoreRegisters
 pub mod DriverExamples
+pub mod DriverMoments
 pub mod MachineQueues
 pub mod MailboxBoxes
 pub mod SessionStreams

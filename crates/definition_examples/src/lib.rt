@@ -14,6 +14,7 @@ mod core_reservations;
 mod core_targets;
 mod driver_devices;
 mod driver_looks;
+mod driver_moments;
 mod driver_placings;
 mod driver_polls;
 mod driver_requests;
