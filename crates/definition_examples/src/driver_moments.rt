@@ -18,7 +18,7 @@ ghost use Rattle.definition_examples.specs.DriverMoments.{
 
 use nvme_driver::Lane;
 
-/// Over a device that answers while it is looked at, a poll delivers the answer as it is at one moment.
+/// Over a device that answers while a driver polls, the poll delivers the answer as it is at one moment.
 fn driver_polls_of_a_device()
     ensures port { IsOverMemory (Watches settling) settling (λ moment. moment) }
     ensures settles { (lane : LaneOf) → Settles flushing_driver lane settling }
