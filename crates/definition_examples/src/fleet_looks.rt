@@ -29,6 +29,7 @@ fn fleet_looks_of_a_window()
 {}
 
 /// They are no events, and reach no medium.
+#[tactic(auto, unfolding(nvme_wire::specs::Completion::phase))]
 fn fleet_looks_are_no_events()
     ensures look { events_of 7 (Sees Lane.Admin 0 true None) ≡ [] }
     ensures load { events_of 7 (Loads 0 []) ≡ [] }
