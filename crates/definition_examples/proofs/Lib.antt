@@ -16,7 +16,9 @@ mod FleetDriverCalls
 mod FleetDriverEvents
 mod FleetLooks
 mod FleetRuns
+mod MachineCallRuns
 mod MachineCalls
+mod MachineFlushRuns
 mod MachineStates
 mod MailboxFleets
 mod MailboxTicketLaws

@@ -1,6 +1,7 @@
 pub mod CoreRegisters
 pub mod DriverExamples
 pub mod DriverMoments
+pub mod MachineCallRuns
 pub mod MachineQueues
 pub mod MailboxBoxes
 pub mod SessionStreams

@@ -25,6 +25,7 @@ mod fleet_driver_calls;
 mod fleet_driver_events;
 mod fleet_looks;
 mod fleet_runs;
+mod machine_call_runs;
 mod machine_calls;
 mod machine_results;
 mod machine_states;
