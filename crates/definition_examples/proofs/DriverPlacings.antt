@@ -19,7 +19,6 @@ use Rattle.std.proofs.Common.{
   ◌∙◌,
 }
 use Rattle.nvme_driver.specs.declared.lane.Lane.{Lane}
-use Rattle.nvme_driver.specs.declared.request.Request.{Request}
 use Rattle.nvme_driver.specs.Calls.{Calls, Turns}
 use Rattle.nvme_driver.specs.Drivers.{
   Driver,

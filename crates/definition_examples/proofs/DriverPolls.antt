@@ -7,7 +7,6 @@ use Rattle.std.proofs.Common.{
   suc,
   List,
   [],
-  ◌∷◌,
   Option,
   None,
   Some,

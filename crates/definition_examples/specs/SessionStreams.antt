@@ -1,5 +1,5 @@
 -- Streams, media and systems that record all their calls, for worked examples: the state of each is the list of them.
-use Rattle.std.specs.Prelude.{◌≡◌, Bool, List, [], ◌∷◌, ◌++◌, Option, None, true}
+use Rattle.std.specs.Prelude.{◌≡◌, List, [], ◌∷◌, ◌++◌, None, true}
 use Rattle.nvme_medium.specs.Examples.{logs}
 use Rattle.nvme_medium.specs.declared.cached.Cached.{Cached}
 use Rattle.nvme_medium.specs.declared.medium.Medium as medium
