@@ -43,7 +43,6 @@ use Rattle.nvme_driver.specs.declared.answer.Answer.TheVariants as answer
 use Rattle.nvme_driver.specs.declared.faults.PollFault.{PollFault}
 use Rattle.nvme_driver.specs.declared.slots.Waiting.{Waiting}
 use Rattle.nvme_driver.specs.Calls.{Call, Calls, Stores, Writes, Reads, Turns, Sees, Loads}
-use Rattle.nvme_driver.specs.Examples.{io_completion}
 use Rattle.nvme_driver.specs.Moments.{FindsNothing, IsOfOneLane, lane_poll}
 use Rattle.nvme_driver.specs.Drivers.{ends}
 use Rattle.nvme_driver.specs.Layout.{data_area, head_doorbell}
@@ -73,6 +72,7 @@ use Rattle.definition_examples.specs.DriverMoments.{
   changed_completion,
   changing,
   flush,
+  flush_completion,
   flush_poll,
   flushed,
   flushing_driver,
@@ -241,7 +241,7 @@ polls m entry result end size new answers good says quiet read =
     }
 
 -- The first device is read at one moment.
-reads-once : IsRead settling 0 1 Io 0 true (io_completion 1 0)
+reads-once : IsRead settling 0 1 Io 0 true flush_completion
 unfolding phase
 reads-once = record {
   first = 1;
@@ -249,27 +249,27 @@ reads-once = record {
   after = omega arith;
   rest_later = omega arith;
   before = omega arith;
-  new = ap (has_phase true) (io-entry (io_completion 1 0) refl);
-  bytes = sym (ap (λ e. take 12 e ++ drop 12 e) (io-entry (io_completion 1 0) refl));
+  new = ap (has_phase true) (io-entry flush_completion refl);
+  bytes = sym (ap (λ e. take 12 e ++ drop 12 e) (io-entry flush_completion refl));
 }
 
 pub polled : IsPolled (Watches settling) flushing_driver 0 (flushed 0)
-    (consumed flushing_driver Io (io_completion 1 0)) 1 []
+    (consumed flushing_driver Io flush_completion) 1 []
 unfolding phase cid sq_id sq_head status dw0
-polled = polls settling (io_completion 1 0) 0 1 refl refl refl refl refl refl reads-once
+polled = polls settling flush_completion 0 1 refl refl refl refl refl refl reads-once
 
 pub of_one_moment : IsOfOneLane flushing_driver settling 0 1 (flushed 0)
-    (consumed flushing_driver Io (io_completion 1 0)) []
+    (consumed flushing_driver Io flush_completion) []
 unfolding phase cid sq_id sq_head status dw0
 of_one_moment =
-    let is = ap (entry_poll flushing_driver (settling 1) Io) (io-entry (io_completion 1 0) refl)
-    ∙ delivered-is (io_completion 1 0) 0 refl refl refl in
+    let is = ap (entry_poll flushing_driver (settling 1) Io) (io-entry flush_completion refl)
+    ∙ delivered-is flush_completion 0 refl refl refl in
     record {
       lane = Io;
       moment = 1;
       after = omega arith;
       before = omega arith;
-      new = ap (has_phase true) (io-entry (io_completion 1 0) refl);
+      new = ap (has_phase true) (io-entry flush_completion refl);
       gives = sym (ap (λ (p : Poll). p.answer) is);
       driver = sym (ap (λ (p : Poll). p.driver) is);
       front = subst (λ (p : Poll). take (length p.bytes) [] ≡ p.bytes) (sym is) refl;
@@ -284,9 +284,9 @@ reads-twice = record {
   after = omega arith;
   rest_later = omega arith;
   before = omega arith;
-  new = ap (has_phase true) (io-entry (io_completion 1 0) refl);
+  new = ap (has_phase true) (io-entry flush_completion refl);
   bytes = sym (ap (λ e. take 12 e ++ drop 12 (entry_at Io 0 (changing 1))) (io-entry changed_completion refl)
-      ∙ ap (λ e. take 12 changed_completion ++ drop 12 e) (io-entry (io_completion 1 0) refl));
+      ∙ ap (λ e. take 12 changed_completion ++ drop 12 e) (io-entry flush_completion refl));
 }
 
 pub polled_while_it_changes : IsPolled (Watches changing) flushing_driver 0 (flushed 9) torn_driver 2 []
@@ -300,10 +300,10 @@ first-byte (byte ∷ rest) = byte
 pub changes : Settles flushing_driver Io changing → ⊥
 unfolding phase
 changes settled =
-    let same : changed_completion ≡ io_completion 1 0 =
+    let same : changed_completion ≡ flush_completion =
     sym (io-entry changed_completion refl)
-    ∙ settled.entry 1 2 (omega arith) (ap (has_phase true) (io-entry (io_completion 1 0) refl))
-    ∙ io-entry (io_completion 1 0) refl in
+    ∙ settled.entry 1 2 (omega arith) (ap (has_phase true) (io-entry flush_completion refl))
+    ∙ io-entry flush_completion refl in
     let bytes : 9 ≡ 0 = ap first-byte same in
     omega (arith, bytes)
 
@@ -327,7 +327,7 @@ unfolding phase cid sq_id sq_head status dw0
 no-moment Admin t new gives = false≢true (sym (no-admin (answered_twice t) (twice-size t)) ∙ new)
 no-moment Io zero new gives = false≢true (sym no-answer ∙ new)
 no-moment Io (suc zero) new gives =
-    let result : 9 ≡ 0 = ap result-of (gives ∙ polled-at (io_completion 1 0) refl) in omega (arith, result)
+    let result : 9 ≡ 0 = ap result-of (gives ∙ polled-at flush_completion refl) in omega (arith, result)
 no-moment Io (suc (suc t)) new gives =
     let code : 0 ≡ 2 = ap code-of (gives ∙ polled-at changed_completion refl) in omega (arith, code)
 

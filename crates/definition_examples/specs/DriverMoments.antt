@@ -28,9 +28,9 @@ use Rattle.nvme_driver.specs.declared.answer.Answer.TheVariants.{Done}
 use Rattle.nvme_driver.specs.declared.faults.PollFault.{PollFault}
 use Rattle.nvme_driver.specs.Calls.{Call, Stores, Writes, Reads, Turns, Sees, Loads}
 use Rattle.nvme_driver.specs.Layout.{head_doorbell}
-use Rattle.nvme_driver.specs.Drivers.{Driver, empty_ends, ends}
+use Rattle.nvme_driver.specs.Drivers.{Driver, ends}
 use Rattle.nvme_driver.specs.Polls.{Poll, consumed, consumed_ends, head_of}
-use Rattle.nvme_driver.specs.Examples.{io_completion, up_driver}
+use Rattle.nvme_driver.specs.Examples.{io_completion, reading_driver, up_driver}
 use Rattle.nvme_driver.specs.Ports.{IsLoaded, IsSeen, Memory}
 use Rattle.definition_examples.specs.DriverExamples.{one_request}
 
@@ -39,7 +39,7 @@ flush = one_request 1 true
 
 abbrev pub flushing_driver : Driver
 flushing_driver = record up_driver {
-  io = record empty_ends { tail = record { size = 8; put = 1; unheard = 1 } };
+  io = reading_driver.io;
   slots = Some flush ∷ [];
 }
 
@@ -67,21 +67,25 @@ zeros = replicate 0x4000 0
 abbrev pub with_answer : List ℕ → List ℕ
 with_answer entry = with_bytes zeros 0x3000 entry
 
+-- the answer of the Flush
+abbrev pub flush_completion : List ℕ
+flush_completion = io_completion 1 0
+
 -- The first device answers after moment 0.
 abbrev pub answered_once : ℕ → List ℕ
 answered_once zero = replicate 16 0
-answered_once (suc t) = io_completion 1 0
+answered_once (suc t) = flush_completion
 
 abbrev pub settling : Memory
 settling t = with_answer (answered_once t)
 
 -- The second one changes its answer after moment 1: result 9, status Invalid Field in Command.
 abbrev pub changed_completion : List ℕ
-changed_completion = 9 ∷ 0 ∷ 0 ∷ 0 ∷ 0 ∷ 0 ∷ 0 ∷ 0 ∷ 1 ∷ 0 ∷ 1 ∷ 0 ∷ 0 ∷ 0 ∷ 5 ∷ 0 ∷ []
+changed_completion = (9 ∷ replicate 7 0) ++ 1 ∷ 0 ∷ 1 ∷ 0 ∷ 0 ∷ 0 ∷ 5 ∷ 0 ∷ []
 
 abbrev pub answered_twice : ℕ → List ℕ
 answered_twice zero = replicate 16 0
-answered_twice (suc zero) = io_completion 1 0
+answered_twice (suc zero) = flush_completion
 answered_twice (suc (suc t)) = changed_completion
 
 abbrev pub changing : Memory
@@ -89,7 +93,7 @@ changing t = with_answer (answered_twice t)
 
 -- what a look reads while the answer changes
 abbrev pub torn_completion : List ℕ
-torn_completion = take 12 changed_completion ++ drop 12 (io_completion 1 0)
+torn_completion = take 12 changed_completion ++ drop 12 flush_completion
 
 abbrev pub torn_driver : Driver
 torn_driver = consumed flushing_driver Io torn_completion
